@@ -1,4 +1,4 @@
--- To whom an index was granted it is held for him by what the pass made.
+-- What a pass has made holds an index for the owner to whom it was granted.
 use Rattle.std.proofs.Common.{◌≡◌, ℕ, ◌==◌, true, Ok, List, [], ◌∷◌, ◌++◌, refl, ap, ◌∙◌, arith}
 use Rattle.std.proofs.lemmas.Bool.Decides.{nat_tests}
 use Rattle.std.proofs.lemmas.List.Sums.{fold-append}
@@ -32,5 +32,6 @@ module _ (owner index : ℕ) (v w : View ℕ) (h : HasTaken owner (Ok index) v w
       let tests_same : (index == index) ≡ true = grind (arith, nat_tests) in
       ap (holder_of index) made ∙ (fold-append (holder_after index) _ v.made more ∙ rw tests_same refl)
 
+  -- An index that the call filled and was granted is one that it acquired.
   pub acquired : WasFilled index owner v w → WasGranted index owner v w → HasAcquired owner index v w
   acquired filled granted = record { taken = h; filled = filled; granted = granted; holds = granted_holds }

@@ -1,3 +1,4 @@
+-- The proofs about guards, splits, acquires that try again, and the recovery of one owner.
 pub mod Grants
 pub mod Cuts
 pub mod Trying

@@ -1,4 +1,4 @@
--- What a recovery of one owner's indices leaves to him.
+-- What a recovery of one owner's indices leaves to him: none of those that he had through the call.
 use Rattle.std.proofs.Common.{◌≡◌, ◌≢◌, ◌⊎◌, inl, inr, ⊎_elim, ℕ, ◌==◌, true, Some, List, [], ◌∷◌, ◌++◌, fold}
 use Rattle.std.proofs.Common.{refl, sym, ap, ap₂, subst, ◌∙◌, arith, append-nil, append_assoc, true≢false}
 use Rattle.std.specs.List.{All}
@@ -30,10 +30,12 @@ use Rattle.lock_free_guards.specs.Recovered.{IsToldFor, HasRecoveredOwner, Leave
 -- ---- one of a list
 
 module _ {A : Type 0} (x : A) where
+  -- The empty list has no element.
   none_here : (before after : List A) → ◌≡◌ {A = List A} [] (before ++ x ∷ after) → ⊥
   none_here [] after is = absurd (cc)
   none_here (y ∷ before) after is = absurd (cc)
 
+  -- The empty list has no element.
   not_there : IsOneOf x [] → ⊥
   not_there h = none_here h.before h.after h.is
 
@@ -50,21 +52,25 @@ module _ {A : Type 0} (x : A) where
       (λ (h : IsOneOf x ys). inr h)
       (either_at xs ys before after rest)
 
+  -- What stands in two lists, one behind the other, stands in one of them.
   either : (xs ys : List A) → IsOneOf x (xs ++ ys) → IsOneOf x xs ⊎ IsOneOf x ys
   either xs ys h = either_at xs ys h.before h.after h.is
 
+  -- What stands in the first of two lists stands in both together.
   in_front : (xs ys : List A) → IsOneOf x xs → IsOneOf x (xs ++ ys)
   in_front xs ys h =
       record { before = h.before; after = h.after ++ ys; is = ap (λ (zs : List A). zs ++ ys) h.is ∙ append_assoc h.before (x ∷ h.after) ys }
 
+  -- What stands in the second of two lists stands in both together.
   behind : (xs ys : List A) → IsOneOf x ys → IsOneOf x (xs ++ ys)
   behind xs ys h =
       record { before = xs ++ h.before; after = h.after; is = ap (λ (zs : List A). xs ++ zs) h.is ∙ sym (append_assoc xs h.before (x ∷ h.after)) }
 
-  -- it is the first one, or one of the others
+  -- what is one of a list is its first item, or one of the rest
   first_or : (y : A) (xs : List A) → IsOneOf x (y ∷ xs) → (y ≡ x) ⊎ IsOneOf x xs
   first_or y xs h = go h.before h.is
     where
+      -- the cases are whether something stands before the item in the list
       go : (before : List A) → y ∷ xs ≡ before ++ x ∷ h.after → (y ≡ x) ⊎ IsOneOf x xs
       go [] is = (let same : y ≡ x = cc in inl same)
       go (z ∷ before) is = (let rest : xs ≡ before ++ x ∷ h.after = cc in inr (record { before = before; after = h.after; is = rest }))
@@ -72,14 +78,16 @@ module _ {A : Type 0} (x : A) where
 -- ---- it said yes about each index of the owner that it asked about
 
 module _ (p index owner : ℕ) where
+  -- among these acts of the recovery is a question about the index of the owner; `Answer` says the same of a
+  -- yes about it
   abbrev Question : List SetAct → Type 0
   Question acts = IsOneOf (Asks index owner) acts
 
   abbrev Answer : List SetAct → Type 0
   Answer acts = IsOneOf (Yes index owner) acts
 
-  -- where the rest asks nothing about the index of the owner: if the question before the rest, to
-  -- which the answer was yes, is about it, so is the yes
+  -- If a question and its yes stand before acts that ask nothing about the index of the owner, and one
+  -- of all is about it, then the yes is.
   yes_next : (i o : ℕ) (rest : List SetAct) → (Question rest → ⊥) → Question (Asks i o ∷ Yes i o ∷ rest) → Answer (Asks i o ∷ Yes i o ∷ rest)
   yes_next i o rest no_more question =
       ⊎_elim
@@ -94,6 +102,7 @@ module _ (p index owner : ℕ) where
       differ : (k n : ℕ) → Yes k n ≡ Asks index owner → ⊥
       differ k n e = absurd (cc)
 
+  -- Where the further acts ask nothing about the index of the owner, a free before them does not either.
   frees_none : (i o : ℕ) (rest : List SetAct) → (Question rest → ⊥) → Question (Frees i o ∷ rest) → ⊥
   frees_none i o rest no_more question =
       ⊎_elim (λ (e : Frees i o ≡ Asks index owner). differ e) no_more (first_or (Asks index owner) (Frees i o) rest question)
@@ -101,6 +110,7 @@ module _ (p index owner : ℕ) where
       differ : Frees i o ≡ Asks index owner → ⊥
       differ e = absurd (cc)
 
+  -- A lock asks about no index.
   locks_none : Question (Locks ∷ []) → ⊥
   locks_none question = ⊎_elim (λ (e : Locks ≡ Asks index owner). differ e) (not_there (Asks index owner)) (first_or (Asks index owner) Locks [] question)
     where
@@ -123,9 +133,11 @@ module _ (p index owner : ℕ) where
   yes_one i o HasFreed told question = yes_next i o (Frees i o ∷ []) (frees_none i o [] (not_there (Asks index owner))) question
   yes_one i o HasLocked told question = yes_next i o (Frees i o ∷ Locks ∷ []) (frees_none i o (Locks ∷ []) locks_none) question
 
+  -- What the recovery did at these visits.
   abbrev acts : List Visit → List SetAct
   acts visits = set_acts (wrote_by {T = ℕ} p visits)
 
+  -- The acts at one visit come before those at the further visits.
   acts_more : (v : Visit) (visits : List Visit) → acts (v ∷ visits) ≡ set_acts (wrote_of {T = ℕ} p v) ++ acts visits
   acts_more v visits = flat_map-append set_act (wrote_of {T = ℕ} p v) (wrote_by {T = ℕ} p visits)
 
@@ -143,7 +155,7 @@ module _ (p index owner : ℕ) where
 
 -- ---- what stands before its end
 
--- a list with up to four elements behind, added one at a time or all at once
+-- Two, three or four elements added one at a time make the same list as all of them at once.
 module _ {A : Type 0} (xs : List A) (a b c d : A) where
   two_more : (xs ++ a ∷ []) ++ b ∷ [] ≡ xs ++ a ∷ b ∷ []
   two_more = append_assoc xs (a ∷ []) (b ∷ [])
@@ -179,32 +191,42 @@ module _ (owner : ℕ) (mode : ReleaseMode) (state : ReleaseState) (v w : View �
   abbrev start : Start ℕ
   start = Robust (Recover mode)
 
+  -- What the pass has seen ends with the recovery's own end, so `before` is what it had seen, others'
+  -- events, and its own from its begin on.
   ends : (before ≡ (v.seen ++ h.called.others) ++ Begun h.by start ∷ h.called.during) × (Finished q start (State state) ≡ Finished h.by start (State state))
   ends =
       same_from_push before ((v.seen ++ h.called.others) ++ Begun h.by start ∷ h.called.during) _ _
       (sym is
       ∙ (h.called.is ∙ sym (append_assoc (v.seen ++ h.called.others) (Begun h.by start ∷ h.called.during) (Finished h.by start (State state) ∷ []))))
 
+  -- The party that ended a recovery last is the one of this recovery.
   by_it : q ≡ h.by
   by_it = (let same : Finished q start (State state) ≡ Finished h.by start (State state) = ends.1 in cc)
 
+  -- The recovery's span in the events before its end has just what its visits wrote.
   spans : span_of h.by before ≡ Open start (wrote_by h.by h.visits)
   spans =
       ap (span_of h.by) ends.0
       ∙ (span_since h.by start (v.seen ++ h.called.others) h.called.during
       ∙ (ap (fold own_after (Open start [])) h.called.during_own ∙ grows h.by start [] h.visits))
 
+  -- What the recovery did in the history is what its visits wrote.
   has_done : set_acts_of q before ≡ set_acts (wrote_by {T = ℕ} h.by h.visits)
   has_done = ap (λ (n : ℕ). set_acts_of n before) by_it ∙ ap (λ (s : Span ℕ). set_acts (wrote_in s)) spans
 
+  -- A recovery that was told of this owner alone, and that is right in the history, leaves
+  -- this owner no index.
   pub leaves_none : HasRecoveredBy Word q before → LeavesNone owner q before
   leaves_none right = record { told = told; freed = λ honest index his. freed_or_his index his (gone_too honest index his); gone = gone_too }
     where
+      -- The closure said yes about each index that was the owner's through the call, or
+      -- until the call freed it.
       told : (index : ℕ) → HeldThroughout q (StillToFree q owner index) before → IsOneOf (Yes index owner) (set_acts_of q before)
       told index his =
           subst (IsOneOf (Yes index owner)) (sym has_done)
           (says_yes h.by index owner h.visits h.told (subst (IsOneOf (Asks index owner)) has_done (right.asked index owner his)))
 
+      -- If nobody acts for an owner who is gone, none of these indices is his by the end.
       gone_too : IsHonest before → (index : ℕ) → HeldThroughout q (StillToFree q owner index) before → filled_of index before ≢ Some owner
       gone_too honest index his = right.gone honest index owner (told index his)
 

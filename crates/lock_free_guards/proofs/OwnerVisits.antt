@@ -25,6 +25,7 @@ use Rattle.lock_free_guards.specs.Recovered.{IsToldFor, HasRecoveredOwner}
 -- just if it has the index
 module _ {F : Type 0} (step : F → ℕ → ℕ → Bool → F → Type 0) (named : F → ℕ) (owner : ℕ)
     (says : (p : F) (o i : ℕ) (b : Bool) (q : F) → step p o i b q → (named q ≡ named p) × (b ≡ (o == named p))) where
+  -- At each visit the first closure said yes just if the index had this owner.
   told_for : (f last : F) (visits : List Visit) → named f ≡ owner → FoldsTo (asks step) f (questions_of visits) last → All (IsToldFor owner) visits
   told_for f last [] is h = All-nil (IsToldFor owner)
   told_for f last (v ∷ visits) is h =
@@ -77,9 +78,11 @@ module _ (owner p : ℕ) where
       )
 
   module _ (other : ℕ) (apart : other ≢ owner) where
+    -- An index that is this owner's is not the other's.
     is_another : (o : ℕ) → true ≡ (o == owner) → (o == other) ≡ false
     is_another o told = grind (arith, nat_tests)
 
+    -- A visit that was told of this owner alone freed no index of another owner.
     none_of_other : (index o : ℕ) (came : Came) → was_told came ≡ (o == owner) → sum_by (frees_of other) (wrote_to p index o came) ≡ 0
     none_of_other index o HasAsked told = refl
     none_of_other index o WasTold told = refl

@@ -1,4 +1,5 @@
--- Tries of a robust unique index set for an owner.
+-- Acquires of a robust unique index set for an owner that are tried again: what each try adds, and how
+-- the last one ends them.
 use Rattle.std.proofs.Common.{◌≡◌, ℕ, ◌+◌, ◌-◌, ◌≤◌, false, Result, Ok, Err, IfOk, IfErr, subst, arith}
 use Rattle.steps.specs.declared.indices.enums.UniqueIndexSetAcquireFailure.{UniqueIndexSetAcquireFailure}
 use Rattle.steps.specs.declared.indices.enums.UniqueIndexSetAcquireFailure.TheVariants.{OutOfIndices}
@@ -19,6 +20,7 @@ use Rattle.lock_free_guards.specs.Guards.{index_pass, index_view, value_of}
 use Rattle.lock_free_guards.specs.Tries.{HasTried, EndsTries, EndsWithin}
 use Rattle.lock_free_guards.proofs.Trying.{one_more, last_try, unlocked_before}
 
+-- The begin of an acquire for this owner.
 abbrev start : ℕ → Start ℕ
 start owner = Robust (Acquire owner)
 
@@ -28,22 +30,24 @@ as_many = omega arith
 module _ (owner : ℕ) where
   -- from u to v the pass has tried n times; it goes on from v to w
   module _ (n : ℕ) (u v w : View ℕ) (tried : HasTried n (start owner) u v) (goes : Goes v w) where
+    -- A last try that took an index ends the tries.
     pub acquired : (i : ℕ) → HasAcquired owner i v w → EndsTries n (start owner) (HasAcquired owner i) u w
     acquired i has_acquired = last_try (start owner) n u v w tried goes (HasAcquired owner i) has_acquired
 
+    -- A last try that took none ends the tries.
     pub failed : (failure : UniqueIndexSetAcquireFailure) → HasFailed owner failure v w → EndsTries n (start owner) (HasFailed owner failure) u w
     failed failure has_failed = last_try (start owner) n u v w tried goes (HasFailed owner failure) has_failed
 
-    -- one more that took none
+    -- One more try to which no index was left makes n + 1 tries.
     pub one_next : HasTaken owner (Err OutOfIndices) v w → HasTried (n + 1) (start owner) u w
     one_next taken =
         one_more (start owner) n u v w tried goes taken.by
         (subst (λ es. Called taken.by (start owner) (NoIndex OutOfIndices) es v w) taken.tells taken.called)
 
-  -- ---- the last of so many, by its answer
+  -- ---- ---- the last one of several tries, by its answer
 
   module _ (tries : ℕ) (first v : Pass) (tried : HasTried (tries - 1) (start owner) (view first) (view v)) where
-    -- an index that the last of so many tries took ends them within their limit
+    -- an index that the last of at most `tries` tries took ends them within their limit
     pub within : {R : Type 0} (r : Result (RobustIndex R) (UniqueIndexSetAcquireFailure × Pass)) → IfOk r (λ i. SamePass v (index_pass i))
         → IfOk r (λ i. HasAcquired owner (value_of i) (view v) (index_view i))
         → IfOk r (λ i. EndsWithin (start owner) (HasAcquired owner (value_of i)) tries (view first) (index_view i))
@@ -51,10 +55,12 @@ module _ (owner : ℕ) where
     within (Ok i) same h =
         (tries - 1, as_many (tries - 1), acquired (tries - 1) (view first) (view v) (index_view i) tried same.goes (value_of i) h)
 
+    -- If the last try found no index left, no lock had been seen before the tries.
     unlocked_so : (e : UniqueIndexSetAcquireFailure × Pass) → HasFailed owner e.0 (view v) (view e.1) → e.0 ≡ OutOfIndices
         → is_locked (history first) ≡ false
     unlocked_so e has_failed is = unlocked_before (start owner) (tries - 1) (view first) (view v) tried (has_failed.refused.unlocked is)
 
+    -- Of a result: if the last try found no index left, no lock had been seen before the tries.
     pub unlocked : {R : Type 0} (r : Result (RobustIndex R) (UniqueIndexSetAcquireFailure × Pass))
         → IfErr r (λ e. HasFailed owner e.0 (view v) (view e.1)) → IfErr r (λ e. e.0 ≡ OutOfIndices → is_locked (history first) ≡ false)
     unlocked (Ok i) h = tt

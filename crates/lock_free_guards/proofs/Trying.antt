@@ -18,7 +18,7 @@ use Rattle.history.proofs.OneRun.{first_all, first_further}
 use Rattle.lock_free_guards.specs.Tries.{refused_by, HasTried, EndsTries}
 
 module _ (start : Start ℕ) where
-  -- no try yet
+  -- Before the first try nothing has changed.
   pub none_tried : (v : View ℕ) → HasTried 0 start v v
   none_tried v =
       record {
@@ -32,7 +32,7 @@ module _ (start : Start ℕ) where
 
   -- from u to v the pass has tried n times; it goes on from v to w
   module _ (n : ℕ) (u v w : View ℕ) (h : HasTried n start u v) (goes : Goes v w) where
-    -- one more that took none
+    -- One more try to which no index was left makes n + 1 tries.
     pub one_more : (p : ℕ) → Called p start (NoIndex OutOfIndices) [] v w → HasTried (n + 1) start u w
     one_more p called =
         record {
@@ -48,12 +48,13 @@ module _ (start : Start ℕ) where
               ∙ ap (λ (es : List (Event ℕ)). u.made ++ es) (sym longer)));
         }
       where
+        -- The events of one more try come behind those of the tries before.
         longer : flat_map (refused_by start) (h.parties ++ p ∷ []) ≡ flat_map (refused_by start) h.parties ++ refused_by start p
         longer =
             flat_map-append (refused_by start) h.parties (p ∷ [])
             ∙ ap (λ (es : List (Event ℕ)). flat_map (refused_by start) h.parties ++ es) (append-nil (refused_by start p))
 
-    -- the last one
+    -- The last try, whatever its answer, ends them: n tries found no index before it.
     pub last_try : (Last : View ℕ → View ℕ → Type 0) → Last v w → EndsTries n start Last u w
     last_try Last last =
         record {
@@ -69,7 +70,7 @@ module _ (start : Start ℕ) where
               };
         }
 
-  -- a sum over what was made stays, where nothing of such a try counts
+  -- a sum over what the pass made stays over tries that took none, where no event of such a try counts
   module _ (f : Event ℕ → ℕ) (begins : (p : ℕ) → f (Begun p start) ≡ 0) (ends : (p : ℕ) → f (Finished p start (NoIndex OutOfIndices)) ≡ 0) where
     -- the tries that took none count nothing, however many
     sum_refused : (ps : List ℕ) → sum_by f (flat_map (refused_by start) ps) ≡ 0
@@ -87,6 +88,6 @@ module _ (start : Start ℕ) where
     sum_stays n u v tried =
         omega (arith, ap (sum_by f) tried.made, sum_by-append f u.made (flat_map (refused_by start) tried.parties), sum_refused tried.parties)
 
-  -- what the last one had not seen none had
+  -- If no lock was seen after the tries, none was seen before them.
   pub unlocked_before : (n : ℕ) (u v : View ℕ) → HasTried n start u v → is_locked v.seen ≡ false → is_locked u.seen ≡ false
   unlocked_before n u v tried free = not_locked tried.since free

@@ -1,4 +1,4 @@
--- Worked rows of the definitions that the contracts cite.
+-- Examples of the definitions that the contracts cite, each computed.
 use Rattle.std.proofs.Common.{◌≡◌, ℕ, true, false, Option, None, Some, List, [], ◌∷◌, refl}
 use Rattle.steps.specs.declared.indices.enums.UniqueIndexSetAcquireFailure.TheVariants.{OutOfIndices}
 use Rattle.model.specs.declared.event.Answer.TheVariants.{NoIndex}

@@ -1,4 +1,5 @@
--- What a wrong body of a call would leave or answer, and the clause that refuses it. A name says what the body does.
+-- What a wrong body of a call of this crate would leave or answer, and the clause that refuses it. A
+-- name says what the body does.
 use Rattle.std.proofs.Common.{◌≡◌, ◌≢◌, ℕ, ◌+◌, ◌-◌, ◌*◌, ◌<◌, ◌==◌, true, false, Ok, Err, Option, Some, List, [], ◌∷◌, ◌++◌, length, flat_map}
 use Rattle.std.proofs.Common.{refl, sym, ap, ◌∙◌, arith, length-append, true≢false}
 use Rattle.std.proofs.lemmas.Bool.Decides.{nat_tests}
@@ -39,7 +40,7 @@ use Rattle.lock_free_guards.proofs.Trying.{unlocked_before}
 
 -- the call c of party p leads from v to w
 module _ (p : ℕ) (start : Start ℕ) (one : Answer ℕ) (wrote : List (Event ℕ)) (v w : View ℕ) (c : Called p start one wrote v w) where
-  -- what a call makes
+  -- a call adds its begin, its end and what it wrote to what the pass made
   makes : length w.made ≡ length v.made + (2 + length wrote)
   makes =
       omega (
@@ -49,10 +50,11 @@ module _ (p : ℕ) (start : Start ℕ) (one : Answer ℕ) (wrote : List (Event �
         ap length c.made,
       )
 
+  -- a pass that made nothing made no call
   no_call : w.made ≡ v.made → ⊥
   no_call none = (absurd (omega (arith, makes, ap length none)))
 
-  -- it gives one answer
+  -- two calls that lead from v to w have one party, one start and one answer
   one_answer : (q : ℕ) (other : Answer ℕ) (written : List (Event ℕ)) → Called q start other written v w → Finished p start one ≡ Finished q start other
   one_answer q other written d =
       let same_end = append_cancel_left v.made _ _ (sym c.made ∙ d.made) in
@@ -62,40 +64,41 @@ module _ (p : ℕ) (start : Start ℕ) (one : Answer ℕ) (wrote : List (Event �
 -- ---- `acquire` for an owner
 
 module _ (owner : ℕ) (v w : View ℕ) where
-  -- its guard is of another index than that which it was granted
+  -- the guard is of another index than the one that was granted, which clause `acquired` refuses
   pub acquire_guards_another_index : (index other : ℕ) → other ≢ index → HasAcquired owner index v w → HasAcquired owner other v w → ⊥
   acquire_guards_another_index index other apart right wrong =
       let e = one_answer _ _ _ _ v w right.taken.called _ _ _ wrong.taken.called in
       let same : other ≡ index = cc in
       apart same
 
-  -- its guard is for another owner
+  -- the guard is for another owner than the one for whom the index was granted, which
+  -- clause `acquired` refuses
   pub acquire_guards_for_another : (index other : ℕ) → other ≢ owner → HasAcquired owner index v w → HoldsFor other index w.made → ⊥
   acquire_guards_for_another index other apart right wrong =
       let e : ◌≡◌ {A = Option ℕ} (Some other) (Some owner) = sym wrong ∙ right.holds in
       let same : other ≡ owner = cc in
       apart same
 
-  -- it makes a guard, and calls nothing
+  -- the body makes a guard without a call, which clause `acquired` refuses
   pub acquire_calls_nothing : (index : ℕ) → w.made ≡ v.made → HasAcquired owner index v w → ⊥
   acquire_calls_nothing index none wrong = no_call _ _ _ _ v w wrong.taken.called none
 
-  -- it answers that a locked set is full
+  -- the body answers `OutOfIndices` where the lock was seen, which clause `failed` refuses
   pub acquire_says_full_of_a_locked_set : is_locked v.seen ≡ true → HasFailed owner OutOfIndices v w → ⊥
   acquire_says_full_of_a_locked_set shut wrong = true≢false (sym shut ∙ wrong.refused.unlocked refl)
 
-  -- it answers that a full set is locked
+  -- the body answers `IsLocked` of a set that is not locked, which clause `failed` refuses
   pub acquire_says_locked_of_an_open_set : is_locked w.seen ≡ false → HasFailed owner IsLocked v w → ⊥
   acquire_says_locked_of_an_open_set free wrong = true≢false (sym (wrong.refused.locked refl) ∙ free)
 
 -- ---- `release`
 
 module _ (given : GiveBack) (v w : View ℕ) where
-  -- it does nothing
+  -- the body makes no call, which clauses `released` and `refused` refuse
   pub release_does_nothing : (answer : Released) → w.made ≡ v.made → HasGiven given answer v w → ⊥
   release_does_nothing answer none wrong = no_call _ _ _ _ v w wrong.called none
 
-  -- it gives the index back, and answers that it is another's
+  -- the body gives the index back, and answers that it is another owner's, which clause `refused` refuses
   pub release_denies_what_it_did : (state : ReleaseState) (failure : RobustUniqueIndexSetReleaseError) → HasGiven given (Ok state) v w
       → HasGiven given (Err failure) v w → ⊥
   release_denies_what_it_did state failure right wrong =
@@ -105,63 +108,66 @@ module _ (given : GiveBack) (v w : View ℕ) where
 -- ---- `recover_owner`
 
 module _ (owner : ℕ) (v w : View ℕ) where
-  -- it frees some of another owner
+  -- the body frees an index of another owner, which clause `others` refuses
   pub recover_owner_frees_anothers : (other number : ℕ) → 0 < number → number_freed other w.made ≡ number_freed other v.made + number
       → number_freed other w.made ≡ number_freed other v.made → ⊥
   recover_owner_frees_anothers other number some right wrong = absurd (omega arith)
 
-  -- it counts all that it came to, those of others too
+  -- the body counts each index that it came to, also those of other owners, which clause `counted` refuses
   pub recover_owner_counts_all : (his others : ℕ) → 0 < others → number_freed owner w.made ≡ number_freed owner v.made + his
       → number_freed owner w.made ≡ number_freed owner v.made + (his + others) → ⊥
   recover_owner_counts_all his others some right wrong = absurd (omega arith)
 
-  -- it counts none
+  -- the body counts no index, which clause `counted` refuses if it has freed one
   pub recover_owner_counts_none : (his : ℕ) → 0 < his → number_freed owner w.made ≡ number_freed owner v.made + his
       → number_freed owner w.made ≡ number_freed owner v.made + 0 → ⊥
   recover_owner_counts_none his some right wrong = absurd (omega arith)
 
--- it says yes about whatever it comes to
+-- the body says yes about each index that it comes to, which clause `recovered` refuses if one is
+-- another owner's
 pub recover_owner_says_yes_of_all : (owner index other : ℕ) → other ≢ owner → IsToldFor owner (visit index other HasFreed) → ⊥
 recover_owner_says_yes_of_all owner index other apart told =
     let tests_apart : (other == owner) ≡ false = grind (arith, nat_tests) in
     true≢false (told ∙ tests_apart)
 
 module _ (owner : ℕ) (mode : ReleaseMode) (state : ReleaseState) (v w : View ℕ) (wrong : HasRecoveredOwner owner mode state v w) where
-  -- it does nothing
+  -- the body makes no call, which clause `recovered` refuses
   pub recover_owner_does_nothing : w.made ≡ v.made → ⊥
   recover_owner_does_nothing none = no_call _ _ _ _ v w wrong.called none
 
-  -- it comes to an index of a set that was seen locked
+  -- the body comes to an index of a set that was seen locked, which clause `recovered` refuses
   pub recover_owner_goes_on_at_a_lock : is_locked v.seen ≡ true → wrong.visits ≢ [] → ⊥
   recover_owner_goes_on_at_a_lock shut some = some (wrong.nothing shut)
 
 module _ (owner : ℕ) (mode : ReleaseMode) (v w : View ℕ) where
-  -- it leaves the owner an index that was his through the call
+  -- the body leaves the owner an index that was his through the call, which clause `answered` refuses
   pub recover_owner_leaves_one : (index : ℕ) (wrong : IsRightOwnerRecovery owner mode states.Unlocked v w) → IsHonest wrong.before
       → HeldThroughout wrong.by (StillToFree wrong.by owner index) wrong.before → filled_of index wrong.before ≡ Some owner → ⊥
   recover_owner_leaves_one index wrong honest his still = wrong.right.1.gone honest index his still
 
-  -- it says no about such an index
+  -- the body says no about an index that was the owner's through the call, which clause `answered` refuses
   pub recover_owner_says_no : (index : ℕ) (wrong : IsRightOwnerRecovery owner mode states.Unlocked v w)
       → HeldThroughout wrong.by (StillToFree wrong.by owner index) wrong.before
       → (IsOneOf (Yes index owner) (set_acts_of wrong.by wrong.before) → ⊥) → ⊥
   recover_owner_says_no index wrong his none = none (wrong.right.1.told index his)
 
-  -- it answers that a locked set is not locked
+  -- the body answers `Unlocked` of a locked set, which clause `answered` refuses
   pub recover_owner_says_unlocked : (wrong : IsRightOwnerRecovery owner mode states.Unlocked v w) → is_locked wrong.before ≡ true → ⊥
   recover_owner_says_unlocked wrong shut = true≢false (sym shut ∙ wrong.right.0)
 
-  -- it answers that an open set is locked
+  -- the body answers `Locked` of a set that is not locked, which clause `answered` refuses
   pub recover_owner_says_locked : (wrong : IsRightOwnerRecovery owner mode states.Locked v w) → is_locked wrong.before ≡ false → ⊥
   recover_owner_says_locked wrong free = true≢false (sym wrong.right ∙ free)
 
 -- ---- acquires that wait
 
+-- a try that found no index left is two events, its begin and its end
 two_each : (start : Start ℕ) (ps : List ℕ) → length (flat_map (refused_by start) ps) ≡ 2 * length ps
 two_each start [] = refl
 two_each start (p ∷ ps) = omega (arith, two_each start ps)
 
--- how much so many tries make, of which the last finds none left
+-- how many events n tries that found none left, and a last one that finds none either, add
+-- to what the pass made
 ends_long : (n : ℕ) (u w : View ℕ) → EndsTries n (Indices Acquire) (unique.WasRefused OutOfIndices) u w → length w.made ≡ length u.made + 2 * (n + 1)
 ends_long n u w ends_tries =
     let last = makes _ _ _ _ ends_tries.begun w ends_tries.last.taken.called in
@@ -174,18 +180,18 @@ ends_long n u w ends_tries =
     )
 
 module _ (u w : View ℕ) where
-  -- it gives up before the limit
+  -- the body gives up before the limit, which clause `limit` refuses
   pub acquire_gives_up_early : (tries number : ℕ) → number < tries - 1 → EndsTries number (Indices Acquire) (unique.WasRefused OutOfIndices) u w
       → EndsAtLimit (Indices Acquire) (unique.WasRefused OutOfIndices) tries u w → ⊥
   acquire_gives_up_early tries number early right wrong =
       absurd (omega (arith, ends_long number u w right, ends_long (tries - 1) u w wrong))
 
-  -- it answers that a locked set is full
+  -- the body finds no index left in a set that was seen locked, which no tries can
   pub acquire_waits_at_a_lock : (n : ℕ) → is_locked u.seen ≡ true → EndsTries n (Indices Acquire) (unique.WasRefused OutOfIndices) u w → ⊥
   acquire_waits_at_a_lock n shut wrong =
       true≢false (sym shut ∙ unlocked_before (Indices Acquire) n u wrong.begun wrong.tried (wrong.last.unlocked refl))
 
--- how much so many tries make, of which the last gets an index
+-- how many events n tries that found none left, and a last one that gets an index, add to what the pass made
 acquires_long : (owner index n : ℕ) (u w : View ℕ) → EndsTries n (Robust (robust.Acquire owner)) (HasAcquired owner index) u w
     → length w.made ≡ length u.made + 2 * (n + 2)
 acquires_long owner index n u w ends_tries =
@@ -200,18 +206,18 @@ acquires_long owner index n u w ends_tries =
     )
 
 module _ (owner index : ℕ) (u w : View ℕ) where
-  -- it waits, and calls nothing
+  -- the body waits and makes no call, which clause `acquired` refuses
   pub acquire_waits_without_a_call : w.made ≡ u.made → EndsSometime (Robust (robust.Acquire owner)) (HasAcquired owner index) u w → ⊥
   acquire_waits_without_a_call none wrong = absurd (omega (arith, acquires_long owner index wrong.0 u w wrong.1, ap length none))
 
-  -- it goes on past the limit
+  -- the body goes on past the limit, which clause `acquired` refuses
   pub acquire_tries_too_often : (tries number : ℕ) → tries - 1 < number
       → EndsTries number (Robust (robust.Acquire owner)) (HasAcquired owner index) u w
       → EndsWithin (Robust (robust.Acquire owner)) (HasAcquired owner index) tries u w → ⊥
   acquire_tries_too_often tries number late right wrong =
       absurd (omega (arith, acquires_long owner index number u w right, acquires_long owner index wrong.0 u w wrong.2, wrong.1))
 
--- what it takes it does not hold
+-- the pass does not hold the index that the body took, which clause `held` refuses
 pub acquire_holds_no_more : (index : ℕ) (is : List ℕ) (made : List (Event ℕ)) → HeldBy is made → HoldsMore index made made → ⊥
 acquire_holds_no_more index is made held wrong =
     let was = held index in
@@ -222,7 +228,7 @@ acquire_holds_no_more index is made held wrong =
     let counted : one_if index index ≡ 1 = rw tests_same refl in
     absurd (omega arith)
 
--- an acquire that finds no index does not hold one more
+-- the pass holds an index more though the body found none, which clause `kept` refuses
 pub acquire_holds_one_it_was_refused : (index : ℕ) (is : List ℕ) (old new : List (Event ℕ)) → HeldBy is old → HeldBy (is ++ index ∷ []) new
     → HoldsTheSame old new → ⊥
 acquire_holds_one_it_was_refused index is old new held more wrong =
@@ -236,16 +242,16 @@ acquire_holds_one_it_was_refused index is old new held more wrong =
 
 -- ---- `split_many`
 
--- it makes one more without a split
+-- the body makes a further pass without a split, which the clause refuses
 pub split_many_splits_none : (v w : View ℕ) → AreCut HasSplit (w ∷ []) v v → ⊥
 split_many_splits_none v w cut = absurd (omega (arith, cut.1.asked, ap (λ (u : View ℕ). u.asked) cut.2))
 
--- each that it gives costs one split
+-- each pass that is split off costs one operation
 splits_many : (halves : List (View ℕ)) (v w : View ℕ) → AreCut HasSplit halves v w → w.asked ≡ v.asked + length halves
 splits_many [] v w cut = omega (arith, ap (λ (u : View ℕ). u.asked) cut)
 splits_many (half ∷ halves) v w cut = omega (arith, cut.1.asked, splits_many halves cut.0 w cut.2)
 
--- it gives more than it splits off
+-- the body gives more passes than it splits off, which the clause refuses
 pub split_many_gives_more_than_it_splits : (halves : List (View ℕ)) (v w : View ℕ) → w.asked < v.asked + length halves
     → AreCut HasSplit halves v w → ⊥
 split_many_gives_more_than_it_splits halves v w few cut = (absurd (omega (arith, splits_many halves v w cut)))

@@ -5,7 +5,8 @@ use Rattle.history.specs.declared.view.View.{View}
 use Rattle.lock_free_owners.specs.Robust.Contracts.{HasTaken, WasFilled, WasGranted, WasRefused}
 use Rattle.lock_free_guards.specs.Held.{HoldsFor}
 
--- the acquire took this index, which had no owner and was granted to this one, who holds it since by what the pass made
+-- An acquire took this index for the owner: it had no owner, it was granted to this one, and by what
+-- the pass made he holds it.
 pub record HasAcquired (owner index : ℕ) (old new : View ℕ) : Type 0 where
   pub taken : HasTaken owner (Ok index) old new
   -- the index had no owner before

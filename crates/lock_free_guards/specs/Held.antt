@@ -1,4 +1,4 @@
--- Whom an index is held for by what a pass made, and how many indices of an owner it freed.
+-- Whom an index is held for, by the events that a pass made, and how many indices of an owner it freed.
 use Rattle.std.specs.Prelude.{◌≡◌, ℕ, ◌==◌, Some, List, sum_by, if◌then◌else◌}
 use Rattle.model.specs.declared.event.Event.{Event}
 use Rattle.model.specs.declared.event.Event.TheVariants.{FreedOf}

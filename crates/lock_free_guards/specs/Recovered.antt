@@ -17,26 +17,27 @@ use Rattle.history.specs.Robust.{Visit, AreVisits, wrote_by}
 use Rattle.lock_free_owners.specs.Robust.Callable.{was_told}
 use Rattle.lock_free_owners.specs.Robust.Contracts.{Answered}
 
--- the closure said yes about the index just if this owner had it
+-- at this visit the first closure said yes just if this owner had the index
 abbrev pub IsToldFor : ℕ → Visit → Type 0
 IsToldFor owner v = was_told v.came ≡ (v.owner == owner)
 
--- The recovery is one call of the history. It came to each of these visits in turn, and was told to free those of this
--- owner alone. Where the lock had been seen before there is no such call.
+-- The recovery of one owner is one call of the history. At each of its visits it was told to free the
+-- index just if this owner had it.
 pub record HasRecoveredOwner (owner : ℕ) (mode : ReleaseMode) (state : ReleaseState) (old new : View ℕ) : Type 0 where
+  -- the party that makes the call, and the indices that it came to
   pub by : ℕ
   pub mine : new.party ≡ Some by
   pub visits : List Visit
   -- the visits are of ascending indices
   pub ascend : AreVisits mode old.capacity visits
-  -- it was told to free those of this owner alone
+  -- it was told to free those that this owner had, and no others
   pub told : All (IsToldFor owner) visits
   pub called : Called by (Robust (Recover mode)) (State state) (wrote_by by visits) old new
-  -- after the lock it came to none
+  -- a recovery that begins where the lock was seen comes to no index
   pub nothing : is_locked old.seen ≡ true → visits ≡ []
 
--- Of the indices that were this owner's through the whole call, until the call freed them, the recovery was told to
--- free each. Where nobody acts for an owner who is gone, it has freed each, and none is his by now.
+-- The recovery was told to free each index that was this owner's through the whole call, or until the call
+-- freed it. If nobody acts for an owner who is gone, it has freed each of these, and none is his by now.
 pub record LeavesNone (owner p : ℕ) (events : List (Event ℕ)) : Type 0 where
   pub told : (index : ℕ) → HeldThroughout p (StillToFree p owner index) events → IsOneOf (Yes index owner) (set_acts_of p events)
   pub freed : IsHonest events → (index : ℕ) → HeldThroughout p (StillToFree p owner index) events
@@ -44,7 +45,8 @@ pub record LeavesNone (owner p : ℕ) (events : List (Event ℕ)) : Type 0 where
   pub gone : IsHonest events → (index : ℕ) → HeldThroughout p (StillToFree p owner index) events
       → filled_of index events ≢ Some owner
 
--- the set was locked; or it was not, and nothing is left of the owner
+-- What the answer says. `Locked`: the set was locked. `Unlocked`: it was not, and none of the indices
+-- that were the owner's through the call is left to him.
 abbrev pub RecoversOwner : ℕ → ReleaseState → ℕ → List (Event ℕ) → Type 0
 RecoversOwner owner Locked p before = is_locked before ≡ true
 RecoversOwner owner Unlocked p before = IsUnlocked before × LeavesNone owner p before

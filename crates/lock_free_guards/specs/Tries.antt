@@ -1,4 +1,5 @@
--- Acquires that a pass makes in turn, until one of them ends the tries.
+-- What acquires of one pass that are made in turn, until one of them ends the tries, add
+-- to what the pass made.
 use Rattle.std.specs.Prelude.{◌≡◌, ◌≤◌, ◌-◌, ℕ, List, [], ◌∷◌, ◌++◌, length, flat_map}
 use Rattle.steps.specs.declared.indices.enums.UniqueIndexSetAcquireFailure.TheVariants.{OutOfIndices}
 use Rattle.model.specs.declared.event.Answer.TheVariants.{NoIndex}

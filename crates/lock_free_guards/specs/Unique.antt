@@ -1,4 +1,5 @@
--- What a pass of a unique index set holds beside what it held.
+-- How what a pass of a unique index set holds changes, by the events that it made before
+-- (`old`) and now (`new`).
 use Rattle.std.specs.Prelude.{ℕ, List, [], ◌∷◌, ◌++◌}
 use Rattle.model.specs.declared.event.Event.{Event}
 use Rattle.lock_free_sets.specs.Unique.Held.{HeldBy}

@@ -13,7 +13,7 @@ use steps::indices::enums::{ReleaseMode, ReleaseState};
 /// What the recovery of one owner has done.
 #[derive(Debug, Clone, Copy, PartialEq, Eq)]
 pub struct OwnerRecovery {
-    /// How many of his indices it freed.
+    /// How many indices of the owner the recovery freed.
     pub freed: usize,
     /// `Locked` if the set is locked.
     pub state: ReleaseState,

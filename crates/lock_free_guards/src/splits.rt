@@ -1,4 +1,4 @@
-//! Many splits in one call.
+//! How one call splits a handle or a pass many times (`split_many`).
 ghost use Rattle.std.specs.Prelude.{IfSome};
 ghost use Rattle.lock_free_guards.specs.Cuts.{AreCut};
 
@@ -10,17 +10,18 @@ use steps::words::Words;
 
 /// A handle or a pass, of which a further one is split off.
 pub trait Splits: Sized + Drop {
-    /// What a split of the first leaves of it, the second, and makes, the third.
+    /// What a split of the first leaves of it (the second), and what it makes (the third).
     ghost cut: { Self → Self → Self → Type 0 };
 
-    /// Makes a further one of the same structure. None where no further pass can be counted.
+    /// Makes a further handle or pass of the same structure. None where no further pass can be counted.
     fn split_one(&mut self) -> Option<Self>
         ensures { IfSome result (λ half. Self.cut self.old self.new half) };
 }
 
-/// Makes N further handles or passes of the same structure. Each is a split of this one, so it halves the share that is left. None
-/// where no further pass can be counted, or where there is no memory (no clause says when). What was split off by then is dropped with
-/// its share, and no clause says what this one has left. The atomic steps of N splits. This project's own.
+/// Makes N further handles or passes of the same structure. Each split halves the share that the given one
+/// has left. None where no further pass can be counted, or where there is no memory (no clause says when).
+/// Then what was split off is dropped with its share, and no clause says what share the given one has left.
+/// It takes the atomic steps of N splits. This project's own.
 pub fn split_many<const N: usize, H: Splits>(alloc: Global, handle: &mut H) -> Option<[H; N]>
     ensures { IfSome result (λ halves. AreCut H.cut halves handle.old handle.new) }
 {

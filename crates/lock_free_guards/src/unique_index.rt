@@ -48,9 +48,9 @@ pub fn acquire_waiting<'a>(
     unreachable!()
 }
 
-/// Takes an index by at most so many tries, of which it makes one in any case. The answer owns the pass. Else the pass
-/// comes back with what the last try found: `OutOfIndices` where so many tries found none left, or `IsLocked` where
-/// that one saw the set locked.
+/// Takes an index by at most `tries` tries, and by one if `tries` is 0. The answer owns the pass. Else the
+/// pass comes back with what the last try found: `OutOfIndices` where each try found none left, or `IsLocked`
+/// where the last one saw the set locked.
 ///
 /// For each try, the atomic steps of the set's `acquire` (by no clause).
 pub fn acquire_within<'a>(
@@ -73,7 +73,7 @@ pub fn acquire_within<'a>(
     ensures unlocked { IfErr result (λ r. r.0 ≡ Out → is_locked (history pass) ≡ false) }
     ensures kept { IfErr result (λ r. r.0 ≡ Out → HoldsTheSame (made pass) (made r.1)) }
 {
-    // The last try is made behind the loop.
+    // The last try is made behind the loop, so that there is one try even if `tries` is 0.
     for _ in 0..tries.saturating_sub(1) {
         match set.acquire(rt, pass) {
             Ok(index) => return Ok(index),

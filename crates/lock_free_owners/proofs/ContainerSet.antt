@@ -1,3 +1,5 @@
+-- What is known of calls, passes and states of a container: of whole calls, and of finds, recoveries
+-- and looks between two turns.
 pub mod Idle
 pub mod Begins
 pub mod Settling

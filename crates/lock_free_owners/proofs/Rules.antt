@@ -1,3 +1,3 @@
--- What steps leave of a find or a recovery, and of its closures.
+-- What a step does to a find or a recovery, and what their closures were called with.
 pub mod Robust
 pub mod Container

@@ -1,4 +1,5 @@
--- That the counter of an owners' structure is at its end only after so many changes.
+-- That the generation counter of a robust set or a container is at its end only after at least a third
+-- of 2^64 - 2 changes.
 pub mod Parts
 pub mod RobustPays
 pub mod RobustCalls

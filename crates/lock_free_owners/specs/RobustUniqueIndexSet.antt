@@ -21,6 +21,7 @@ use Rattle.lock_free_owners.specs.declared.mpmc.robust_unique_index_set.Pass.{Pa
 abbrev pub set_id : RobustUniqueIndexSet → SetId
 set_id s = record { table = home_id s.home; capacity = s.capacity }
 
+-- the capacity of a set
 abbrev pub capacity_of : RobustUniqueIndexSet → ℕ
 capacity_of s = s.capacity
 
@@ -28,6 +29,7 @@ capacity_of s = s.capacity
 abbrev pub set_of : Pass → SetId
 set_of p = record { table = p.seated.seat.table_id; capacity = p.capacity }
 
+-- the pass is for this set
 abbrev pub IsPassOf : RobustUniqueIndexSet → Pass → Type 0
 IsPassOf s p = set_of p ≡ set_id s
 
@@ -55,13 +57,15 @@ HasHistory p = IsHistory one_word kinds.Robust (set_of p).capacity (history p)
 abbrev pub MissesNothing : Pass → Type 0
 MissesNothing p = passes.MissesNothing (view p)
 
--- what a call leaves of a pass, and what the pass knows from then on; at most so many operations were no steps of a call
+-- What a call leaves of a pass: the same set, and a view that goes on from the old one. At most `most`
+-- operations of the call were no steps of a call of the history.
 pub record LeavesPass (most : ℕ) (old new : Pass) : Type 0 where
   pub set : set_of new ≡ set_of old
   pub goes : passes.Goes (view old) (view new)
   pub aside : (view new).aside ≤ (view old).aside + most
 
--- the same of each call but a find, which looks once a cell, beside one call
+-- What each call but a find leaves of a pass: at most one operation was no step of a call. A find looks
+-- once at each cell, beside the one call with which it begins.
 abbrev pub SamePass : (old new : Pass) → Type 0
 SamePass old new = LeavesPass 1 old new
 
@@ -75,14 +79,15 @@ pub record PassJoins (old other new : Pass) : Type 0 where
 abbrev pub set_refusal : ℕ → Option UniqueIndexCreationError
 set_refusal capacity = capacity_refusal 1 (2 ^ 32 - 1) capacity
 
--- of one whose greatest capacity is part of its type
+-- what a set whose type names its greatest capacity refuses, by that capacity and the one that it is given
 abbrev pub reduced_refusal : (greatest capacity : ℕ) → Option UniqueIndexCreationError
 reduced_refusal greatest capacity =
     if nat_lt (2 ^ 32 - 1) greatest || nat_lt greatest capacity
     then Some ProvidedCapacityGreaterThanMaxCapacity
     else set_refusal capacity
 
--- the set of one whose greatest capacity is part of its type
+-- a set whose type names its greatest capacity is a set, which it holds as a field
 module _ {CAPACITY : ℕ} where
+  -- the set of one whose capacity is part of its type
   abbrev pub set_in : StaticRobustUniqueIndexSet CAPACITY → RobustUniqueIndexSet
   set_in s = s.set

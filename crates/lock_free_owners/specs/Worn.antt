@@ -1,4 +1,5 @@
--- How often the counter of a robust index set, or of a container, can have gone up, by its history.
+-- How often the generation counter of a robust set or a container can have gone up, by the changes that
+-- its history shows.
 use Rattle.std.specs.Prelude.{◌≡◌, ◌-◌, ◌*◌, ◌^◌, ◌≤◌, ℕ, Bool, true, false, List, sum_by, if◌then◌else◌}
 use Rattle.steps.specs.declared.indices.enums.ReleaseMode.TheVariants.{LockIfLastIndex}
 use Rattle.model.specs.declared.event.Event.{Event}
@@ -21,6 +22,7 @@ module _ {T : Type 0} where
   change (Begun p (Container containers.IsEmpty)) = 1
   change e = 0
 
+  -- how many changes these events have
   abbrev pub changes : List (Event T) → ℕ
   changes events = sum_by change events
 
@@ -34,12 +36,12 @@ module _ {T : Type 0} where
   may_lock (Container (containers.Recover owner LockIfLastIndex)) = true
   may_lock start = false
 
-  -- such a call is under way
+  -- a call of this span may lock and is under way
   abbrev pub is_locking : Span T → Bool
   is_locking (Open start wrote) = may_lock start
   is_locking span = false
 
-  -- it begins where no other is under way
+  -- a call that may lock begins only where no other such call is under way
   abbrev pub BeginsAlone : List (Event T) → Event T → Type 0
   BeginsAlone before (Begun p start) = may_lock start ≡ true → (q : ℕ) → is_locking (span_of q before) ≡ false
   BeginsAlone before e = Unit {0}
@@ -53,11 +55,13 @@ module _ {T : Type 0} where
   lock_call (Begun p start) = if may_lock start then 1 else 0
   lock_call e = 0
 
+  -- how many calls that may lock were begun in these events
   abbrev pub lock_calls : List (Event T) → ℕ
   lock_calls events = sum_by lock_call events
 
   -- ---- the end of the counter
 
-  -- it may be there: only after a third of 2^64 - 2 changes, where no two calls that may lock overlap
+  -- The counter may be at its end. If no two calls that may lock overlap, this takes at least a third
+  -- of 2^64 - 2 changes.
   abbrev pub MayBeWorn : List (Event T) → Type 0
   MayBeWorn events = LocksApart events → 2 ^ 64 - 2 ≤ 3 * changes events

@@ -17,8 +17,9 @@ ghost use Rattle.lock_free_owners.specs.Robust.Contracts.{IsSound};
 ghost use Rattle.lock_free_owners.specs.Container.Contracts as containers;
 ghost use Rattle.lock_free_owners.specs.Container.Ends.{RanTo};
 
-/// Each event does to the set what it may, and each answer is right. A recovery asks about what has the owner named.
-/// Where nobody acts for an owner who is gone nor gives back what is not his, no index is granted that somebody holds.
+/// Each event of a robust set does to the set what it may, and each answer is right. A recovery asks about an
+/// index only with the owner that it has then. Where nobody acts for an owner who is gone nor gives back what
+/// is not his, no index is granted that somebody holds.
 pub fn histories_are_sound()
     ensures { (capacity : ℕ) (events : List (Event ℕ)) → IsHistory one_word kinds.Robust capacity events
         → IsSound capacity events }
@@ -32,7 +33,8 @@ pub fn container_histories_are_sound<T>()
         → IsHistory code kinds.Container capacity events → containers.IsSound code capacity events }
 {}
 
-/// Each add and replace that succeeded has placed its value, and what is copied stands there, whole. It is so where
+/// Each add and replace that succeeded has placed its value, and each copy is of a value that stood there.
+/// The copies are whole. This holds of a run where
 ///
 /// - a remove that frees, and a replace, is begun as it may be,
 /// - nobody takes a step for an owner who is gone, and

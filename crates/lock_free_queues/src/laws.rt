@@ -1,6 +1,7 @@
-//! What one history of a queue says: laws of every history that a pass has seen. Those that name a kind are of a queue
-//! of any kind, and with `IsBounded` of those that refuse a push where they are full. These functions do nothing: the
-//! contract of each is a law, whose proof is a lemma that a client's proof can cite.
+//! What one history of a queue says: laws of every history that a pass has seen. Laws that name a kind
+//! hold of a queue of any kind; with `IsBounded` they hold of queues that refuse a push when they are
+//! full. These functions do nothing: the contract of each is a law, whose proof is a lemma that a
+//! client's proof can cite.
 ghost use Rattle.std.specs.Prelude.{◌≡◌, ◌⊎◌, ◌<◌, ◌≤◌, ◌+◌, ◌-◌, ◌^◌, ◌++◌, ◌∷◌, [], ℕ, Bool, true, false};
 ghost use Rattle.std.specs.Prelude.{Option, Some, None, IfSome, IfNone, List, length, map, take, sum_by, is_some};
 ghost use Rattle.steps.specs.declared.queues.roles.Role.{Role};
@@ -44,26 +45,27 @@ pub fn histories_are_linearizable<T>()
         → IsLinearizable (as_list kind capacity) v.seen }
 {}
 
-/// Pops take out what was published, in order, and no more waits than the capacity. A push answers false only where the
-/// capacity waits, a pop None only where nothing does, a peek the oldest that waits. Lengths are those of a moment of the
-/// call. Roles are granted to one at a time, who alone publishes, or takes out. A look tells whether a role is held. The
-/// lemma is `sound` there.
+/// Pops take out what was published, in order, and no more waits than the capacity. A push answers false only
+/// where the capacity waits, a pop None only where nothing does, a peek the oldest that waits. A length is
+/// that of a moment of the call. A role is granted to one party at a time, which alone publishes, or takes
+/// out. A look tells whether a role is held. The lemma is `sound` of `proofs/Queues/Promised.antt`.
 pub fn histories_are_sound<T>()
     ensures { (code : Coding T) (kind : QueueKind) (capacity : ℕ) (v : View T) → IsBounded kind
         → IsHistory code (machine_kind kind) capacity v.seen → IsSound capacity v.seen }
 {}
 
-/// Each value that leaves an overflowing queue, by a push or by a pop, is the oldest that waits. At most one more than
-/// the capacity waits, while a push is under way. All else is as in `histories_are_sound`. The lemma is `over_sound`
-/// there.
+/// Each value that leaves an overflowing queue, by a push or by a pop, is the oldest that waits. At most one
+/// more than the capacity waits, while a push is under way. All else is as in `histories_are_sound`. The
+/// lemma is `over_sound` of `proofs/Queues/Promised.antt`.
 pub fn overflowing_histories_are_sound<T>()
     ensures { (code : Coding T) (capacity : ℕ) (v : View T) → IsHistory code kinds.Overflow capacity v.seen
         → IsOverSound capacity v.seen }
 {}
 
-/// Each call is wait-free, or obstruction-free, as docs/FIELD.md says. In the machine that has the history no call has
-/// taken more steps than that, whatever the number of turns. How many a thread's call takes is what its clause `steps`
-/// says, with the same numbers. The lemma is `guarantees` there.
+/// Each call is wait-free, or obstruction-free, as docs/FIELD.md says. In the machine that has the
+/// history no call has taken more steps than that, whatever the number of turns. How many a
+/// thread's call takes is what its clause `steps` says, with the same numbers. The lemma is
+/// `guarantees` of `proofs/Queues/Promised.antt`.
 pub fn calls_keep_guarantees<T>()
     ensures { (code : Coding T) (kind : QueueKind) (capacity : ℕ) (v : View T)
         → (h : IsHistory code (machine_kind kind) capacity v.seen) → KeepsGuarantees h.trace }
@@ -78,14 +80,15 @@ pub fn positions_are_once<T>()
         → IsTaken q i y events → (p ≡ q) × (x ≡ y) }
 {}
 
-/// Equal positions have equal values. The lemma is `agree` of `proofs/Queues/Promised.antt`.
+/// What is published and what is taken at equal positions are equal values. The lemma is
+/// `agree` of `proofs/Queues/Promised.antt`.
 pub fn values_agree<T>()
     ensures { (code : Coding T) (kind : QueueKind) (capacity p q i : ℕ) (x y : Item T) (v : View T)
         → IsHistory code (machine_kind kind) capacity v.seen → IsPublished p i x v.seen → IsTaken q i y v.seen → x ≡ y }
 {}
 
-/// What was published or taken stays so. The lemmas are `still_published` and `still_taken` of
-/// `proofs/Queues/Positions.antt`.
+/// What was published or taken at a position stays published or taken there as the history goes on. The
+/// lemmas are `still_published` and `still_taken` of `proofs/Queues/Positions.antt`.
 pub fn positions_stay<T>()
     ensures published { (p i : ℕ) (x : Item T) (old new : List (Event T)) → IsBeginning old new
         → IsPublished p i x old → IsPublished p i x new }
@@ -93,9 +96,9 @@ pub fn positions_stay<T>()
         → IsTaken p i x new }
 {}
 
-/// A push publishes right after all that its guard had seen published. A pop takes from right after all that its guard
-/// had seen taken. The lemmas are `published_low` and `taken_low` there, `published_next` and `taken_next` of
-/// `proofs/Queues/Promised.antt`.
+/// A push publishes right after all that its guard had seen published. A pop takes from right after all that
+/// its guard had seen taken. The lemmas are `published_low` and `taken_low` of
+/// `proofs/Queues/Positions.antt`, and `published_next` and `taken_next` of `proofs/Queues/Promised.antt`.
 pub fn positions_rise<T>()
     ensures published { (item : Item T) (old new : View T) → HasPublished item old new
         → (p : ℕ) × IsPublished p (length (published old.seen)) item new.seen }
@@ -106,9 +109,9 @@ pub fn positions_rise<T>()
     ensures below { (old : View T) (q j : ℕ) (y : Item T) → IsTaken q j y old.seen → j < length (handed_out old.seen) }
 {}
 
-/// What leaves an overflowing queue stood at a position above all that its guard had seen taken. Where a pop found
-/// nothing, each position that its guard had seen published had been taken. The lemmas are `taken_first` and
-/// `none_waited` there.
+/// What leaves an overflowing queue stood at a position above all that its guard had seen taken. Where a pop
+/// found nothing, each position that its guard had seen published had been taken. The lemmas are
+/// `taken_first` and `none_waited` of `proofs/Queues/Promised.antt`.
 pub fn overflowing_takes_in_order<T>()
     ensures taken { (item : Item T) (old new : View T) → HasTakenFirst item old new
         → (p i : ℕ) × IsTaken p i item new.seen × (length (handed_out old.seen) ≤ i) }
@@ -116,9 +119,9 @@ pub fn overflowing_takes_in_order<T>()
         → (i : ℕ) × (j < i) × (i ≤ length (handed_out new.seen)) }
 {}
 
-/// Where a pop found nothing, each position that its guard had seen published had been taken. Where a push found the
-/// queue full, each that its guard had seen taken lies more than the capacity below the next to be published. The
-/// lemmas are `none_later_than` and `full_above` there.
+/// Where a pop found nothing, each position that its guard had seen published had been taken. Where a push
+/// found the queue full, each that its guard had seen taken lies more than the capacity below the next to be
+/// published. The lemmas are `none_later_than` and `full_above` of `proofs/Queues/Promised.antt`.
 pub fn refusals_are_right<T>()
     ensures empty { (old new : View T) → WasEmpty old new → (q j : ℕ) (y : Item T) → IsPublished q j y old.seen
         → j < length (handed_out old.seen) }
@@ -128,9 +131,9 @@ pub fn refusals_are_right<T>()
         → (q j : ℕ) (y : Item T) → IsTaken q j y old.seen → j + capacity < length (published old.seen) }
 {}
 
-/// Who has the whole share and finds nothing has all that was published taken out: the two lists are equal. The lemma
-/// is `all_taken` of `proofs/Queues/Whole.antt`, beside `nothing_more` there: nobody else has published or taken out
-/// anything.
+/// Where a pop with the whole share finds nothing, all that was published has been taken out. The two lists
+/// are equal. The lemma is `all_taken` of `proofs/Queues/Whole.antt`, beside `nothing_more`, by which nobody
+/// else has published or taken out anything.
 pub fn emptied_is_all<T>()
     ensures { (code : Coding T) (kind : QueueKind) (capacity : ℕ) (old new : View T) → IsAll old.share
         → MissesNothing old
@@ -139,8 +142,8 @@ pub fn emptied_is_all<T>()
         × (handed_out new.seen ≡ published new.seen) }
 {}
 
-/// The answer of a call says how much it adds to what its pass has published and taken out itself. The lemmas are
-/// `done_pushed` and those beside it in `proofs/Queues/Sums.antt`.
+/// The answer of a call says how much it adds to what its pass has published and taken out itself. The lemmas
+/// are `done_pushed` and the further `done_..` of `proofs/Queues/Sums.antt`.
 pub fn calls_are_counted<T>()
     ensures pushed { (item : Item T) (old new : View T) → HasPushed item true old new → HasDone 1 0 old new }
     ensures refused { (item : Item T) (capacity : ℕ) (old new : View T) → PushRefused capacity item old new
@@ -160,15 +163,17 @@ pub fn calls_are_counted<T>()
         → HasMeasured which capacity answer old new → HasDone 0 0 old new }
 {}
 
-/// Who has the whole share knows how much was published and taken out. It is what its own calls, and those of the
-/// passes that it took in, have. The lemma is `whole_counted` there.
+/// Who has the whole share knows how much was published and taken out. It is what its own calls,
+/// and those of the passes that it took in, have published and taken out. The lemma is
+/// `whole_counted` of `proofs/Queues/Sums.antt`.
 pub fn whole_is_counted<T>()
     ensures { (v : View T) → IsAll v.share → MissesNothing v
         → (length (published v.seen) ≡ sum_by puts v.made) × (length (handed_out v.seen) ≡ sum_by gets v.made) }
 {}
 
-/// A push that succeeds appends its value to those that its pass has sent. Nothing is appended as the role is taken or
-/// given back, or where a push is refused. The lemmas are `sent_none` and those beside it in `proofs/Queues/Sent.antt`.
+/// A push that succeeds appends its value to those that its pass has sent. Nothing is appended as the role
+/// is taken or given back, or where a push is refused. The lemmas are `sent_none` and the further
+/// `sent_..` of `proofs/Queues/Sent.antt`.
 pub fn pushes_are_sent<T, V>()
     ensures acquired { (named : V
         → Item T) (role : Role) (old new : View T)
@@ -187,8 +192,9 @@ pub fn pushes_are_sent<T, V>()
         → published new.seen ≡ published was.seen → HasSent named values old new }
 {}
 
-/// A pop that finds a value appends it to those that its pass has received. Nothing is appended as the role is taken or
-/// given back, where a pop finds none, or by a peek. The lemmas are `received_none` and those beside it there.
+/// A pop that finds a value appends it to those that its pass has received. Nothing is appended as the role
+/// is taken or given back, where a pop finds none, or by a peek. The lemmas are `received_none` and the
+/// further `received_..` of `proofs/Queues/Sent.antt`.
 pub fn pops_are_received<T, V>()
     ensures acquired { (named : V
         → Item T) (role : Role) (old new : View T)
@@ -221,8 +227,9 @@ pub fn halves_pass_all<T, V>()
         → HasJoined mine theirs new → MissesNothing new → HasPassed named sent received new }
 {}
 
-/// What was received is a beginning of what was sent, in order. A bounded queue has at most its capacity left, and the
-/// list that `close` returns is what is left. The lemmas are `in_order`, `few_left` and `rest_waits` there.
+/// What was received is a beginning of what was sent, in order. A bounded queue has at most its capacity
+/// left, and the list that `close` returns is what is left. The lemmas are `in_order`, `few_left` and
+/// `rest_waits` of `proofs/Queues/Passed.antt`.
 pub fn passed_in_order<T, V>()
     ensures order { (named : V
         → Item T) (code : Coding T) (kind : QueueKind) (capacity : ℕ) (sent received : List V) (v : View T)
@@ -237,9 +244,9 @@ pub fn passed_in_order<T, V>()
         → HasPassed named sent received v → Closes named capacity v q → sent ≡ received ++ q.values }
 {}
 
-/// A `close` loses nothing. As the pass stood at the moment of which it tells, it had seen a history (`each` of `history` of
-/// a pass). In that, what was published is what was taken out, then of an overflowing queue what the list leaves out, and
-/// then the list. The lemmas are `closed_book` of
+/// A `close` loses nothing. What the pass has seen at the moment of which `close` tells is a history (clause
+/// `each` of `history` of a pass). What that history has published is what it has taken out, then the numbers
+/// that the list of an overflowing queue leaves out, and then the list. The lemmas are `closed_book` of
 /// `proofs/Queues/Closes.antt` and `over_closed_book` of `proofs/Queues/OverCloses.antt`.
 pub fn closes_lose_nothing<T, V>()
     ensures bounded { (named : V
@@ -270,9 +277,10 @@ pub fn passed_goes_on<T, V>()
         → IsHistory code (machine_kind kind) capacity new.seen → HasPopped None old new → received ≡ sent }
 {}
 
-/// A push succeeds where its pass had seen fewer values wait than the capacity. With the whole share it succeeds where
-/// its pass has pushed less than it has popped and the capacity together. In both cases the last position, 2^64 - 1,
-/// was not reached before. The lemmas are `push_succeeds` and `counted_push_succeeds` there.
+/// A push succeeds where its pass had seen fewer values wait than the capacity. With the whole share it
+/// succeeds where its pass has pushed less than it has popped and the capacity together. In both cases the
+/// last position, 2^64 - 1, was not reached before. The lemmas are `push_succeeds` and
+/// `counted_push_succeeds` of `proofs/Queues/Passed.antt`.
 pub fn pushes_succeed<T>()
     ensures seen { (capacity : ℕ) (item : Item T) (taken : Bool) (old new : View T)
         → length (waiting old.seen) < capacity
@@ -285,7 +293,8 @@ pub fn pushes_succeed<T>()
         → (taken ≡ false → PushRefused capacity item old new) → taken ≡ true }
 {}
 
-/// A pop succeeds where its pass had seen a value wait. The lemma is `pop_succeeds` there too.
+/// A pop succeeds where its pass had seen a value wait. The lemma is
+/// `pop_succeeds` of `proofs/Queues/Passed.antt`.
 pub fn pops_succeed<T, V>()
     ensures { (answer : Option V) (old new : View T) → 0 < length (waiting old.seen) → IfNone answer (PopEmpty old new)
         → is_some answer ≡ true }

@@ -1,12 +1,12 @@
--- For clients: what a closure makes of the calls that a call has lent it to. `name` is to be what stays the same in each of
--- them, as the ghost name of what it has borrowed.
+-- For clients: what becomes of a closure after the calls that a call made of it. `name` is what stays
+-- the same in each of its calls, and `number` what each call adds to.
 use Rattle.lock_free_sets.proofs.Names.{◌≡◌, ℕ, zero, suc, ◌+◌, ◌-◌, ◌<◌, ◌≤◌, ⊎_elim, List, [], ◌∷◌, length, sym, ap, ◌∙◌, arith}
 use Rattle.lock_free_sets.proofs.Names.{All, FoldsTo, cases_lt, sum_by-cons}
 use Rattle.std.proofs.Common.{get_or}
 use Rattle.std.specs.List.{AllPairs, sum_by}
 
 module _ {F X A : Type 0} (step : F → X → F → Type 0) (name : F → A) (number : F → ℕ) where
-  -- each call adds so much
+  -- If each call adds an amount to the closure's number, the calls together add the sum of the amounts.
   pub added : (amount : X → ℕ)
       → ((p : F) (x : X) (q : F) → step p x q → (name q ≡ name p) × (number q ≡ number p + amount x))
       → (first : F) (xs : List X) (last : F) → FoldsTo step first xs last
@@ -20,7 +20,8 @@ module _ {F X A : Type 0} (step : F → X → F → Type 0) (name : F → A) (nu
       let all = sum_by-cons amount x xs in
       (rest.0 ∙ here.0, omega arith)
 
-  -- each call adds one
+  -- If each call of the closure adds one to its number, the last number is the first and
+  -- the count of the calls.
   pub counted : ((p : F) (x : X) (q : F) → step p x q → (name q ≡ name p) × (number q ≡ number p + 1))
       → (first : F) (xs : List X) (last : F) → FoldsTo step first xs last
       → (name last ≡ name first) × (number last ≡ number first + length xs)
@@ -34,6 +35,7 @@ module _ {F X A : Type 0} (step : F → X → F → Type 0) (name : F → A) (nu
 
 -- what ascends below a number is no more than that
 module _ {X : Type 0} (place : X → ℕ) (default : X) where
+  -- the places of these items ascend
   abbrev Up : List X → Type 0
   Up xs = AllPairs (λ x y. place x < place y) xs
 
@@ -45,6 +47,7 @@ module _ {X : Type 0} (place : X → ℕ) (default : X) where
       let low = from_first xs up k (omega arith) in
       omega arith
 
+  -- Items whose places ascend below a number are at most as many as this number.
   pub few_below : (xs : List X) (end : ℕ) → Up xs → All (λ x. place x < end) xs → length xs ≤ end
   few_below xs end up below = ⊎_elim some (λ none. omega arith) (cases_lt 0 (length xs))
     where

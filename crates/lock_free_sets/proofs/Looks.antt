@@ -1,4 +1,4 @@
--- What a look at the whole history owes.
+-- What a look at the whole history of a set owes the rule of its table.
 use Rattle.lock_free_sets.proofs.Names.{◌≡◌, ◌<◌, ℕ, Option, None, List, [], sym, subst, Me, Event, Start, Kind, one_word, View}
 use Rattle.lock_free_sets.proofs.Names.{IsMachine, LooksOnce, OwesAsk}
 use Rattle.steps.specs.declared.ask.Op.TheVariants.{Load}
@@ -13,12 +13,14 @@ calm kinds.Overflow o idle late is_late = subst (λ z. IsLate kinds.Overflow z l
 calm kind o idle late is_late = is_late
 
 module _ (kind : Kind) (words slots id word : ℕ) where
+  -- what a seat owes the rule of its table for a load that looks at the whole history
   abbrev Owed : ℕ → Me (Unit {0}) (View ℕ) → Type 0
   Owed key me =
       OwesAsk (λ (z : View ℕ). z.asked) (IsMachine one_word kind key) words slots id
       (λ u n w. LooksOnce one_word kind u.capacity u w) word Load me
 
-  -- where the seat knows this
+  -- A seat that holds nothing but what it knows, with a part of the share and no call under way, owes
+  -- this for the load of a word of the table.
   pub look_owed : (key : ℕ) (v u : View ℕ) (xs : List (ℕ × Unit {0})) → word < words → u ≡ v → xs ≡ [] → v.capacity ≡ key
       → v.going ≡ None → 0 < v.share.part → Owed key (u, xs)
   look_owed key v u xs below is bare size idle some =

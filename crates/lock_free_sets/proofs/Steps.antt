@@ -27,14 +27,17 @@ module _ {C M E : Type 0} (call : Calling ℕ C M E) (base w : View ℕ) (e : E)
       → TakesBy one_word kind n (guarantee_of kind n one_word.size call.start) base w) size
       (λ some. takes one_word kind call base w e m idle (pays base.capacity) some ends) least
 
+  -- A call on a bit set takes what the model guarantees of it.
   pub bits_take : AllowsOne (guarantee_of kinds.Bits capacity one_word.size call.start) → Ends one_word kinds.Bits call base e m w
       → TakesBy one_word kinds.Bits capacity (guarantee_of kinds.Bits capacity one_word.size call.start) base w
   bits_take = take kinds.Bits (bits_pays one_word)
 
+  -- A call on a counting bit set takes what the model guarantees of it.
   pub counts_take : AllowsOne (guarantee_of kinds.Counts capacity one_word.size call.start) → Ends one_word kinds.Counts call base e m w
       → TakesBy one_word kinds.Counts capacity (guarantee_of kinds.Counts capacity one_word.size call.start) base w
   counts_take = take kinds.Counts (counts_pays one_word)
 
+  -- A call on a unique index set takes what the model guarantees of it.
   pub indices_take : AllowsOne (guarantee_of kinds.Indices capacity one_word.size call.start) → Ends one_word kinds.Indices call base e m w
       → TakesBy one_word kinds.Indices capacity (guarantee_of kinds.Indices capacity one_word.size call.start) base w
   indices_take = take kinds.Indices (index_pays one_word)
@@ -45,9 +48,11 @@ module _ {C M E : Type 0} (call : Calling ℕ C M E) (base w : View ℕ) (e : E)
 module _ (kind : Kind) {C M E : Type 0} (call : Calling ℕ C M E) (base w : View ℕ) (e : E) (m : M) (idle : base.going ≡ None)
     (pays : Pays {T = ℕ} one_word kind base.capacity) (none : guarantee_of kind base.capacity one_word.size call.start ≡ WaitFree 0)
     (ends : Ends one_word kind call base e m w) where
+  -- The trace of the run that the pass knows.
   abbrev known : Trace ℕ
   known = run_of one_word kind base.capacity w.turns
 
+  -- The call has taken no step of the machine.
   no_step : w.taken ≤ 0
   no_step = go (party_of ends.party known.world.latest) refl
     where
@@ -64,9 +69,11 @@ module _ (kind : Kind) {C M E : Type 0} (call : Calling ℕ C M E) (base w : Vie
           (pays known (known_run ends.ran.knows) ends.party x is) in
           omega arith
 
+  -- The call has asked for one operation at most.
   one_look : TakesAtMost 1 base w
   one_look = ⊎_elim only (λ once. once) ends.took
     where
+      -- If all that was asked for are steps of the call, nothing was asked for.
       only : StepsOnly base w → w.asked ≤ base.asked + 1
       only is =
           let all : w.asked + taken_by base.going base.taken ≤ base.asked + w.taken = is in

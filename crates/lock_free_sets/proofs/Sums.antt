@@ -16,6 +16,7 @@ some_of : (f : Event ℕ → ℕ) (e : Event ℕ) (own all : List (Event ℕ)) (
     → sum_by f (cond t (e ∷ []) [] ++ own) ≤ sum_by f (e ∷ all)
 some_of f e own all t sum_by_up_to = grind (arith, sum_by-cons)
 
+-- A sum over the events of one party is at most that over all events.
 sum_of_party : (f : Event ℕ → ℕ) (p : ℕ) (es : List (Event ℕ)) → sum_by f (events_by p es) ≤ sum_by f es
 sum_of_party f p [] = omega arith
 sum_of_party f p (e ∷ es) = some_of f e (events_by p es) es (is_party p (whose e)) (sum_of_party f p es)
@@ -29,6 +30,7 @@ sum_seen f p start answer wrote old new called = grind (arith, sum_by, sum_of_pa
 pub sum_grows : (f : Event ℕ → ℕ) (seen events : List (Event ℕ)) → IsBeginning seen events → sum_by f seen ≤ sum_by f events
 sum_grows f seen events beginning = let e = ap (sum_by f) beginning.is ∙ sum_by-append f seen beginning.rest in omega arith
 
+-- What is seen behind a call begins with what was seen before it.
 pub seen_begins : (p : ℕ) (start : Start ℕ) (answer : Answer ℕ) (wrote : List (Event ℕ)) (old new : View ℕ)
     → Called p start answer wrote old new → IsBeginning old.seen new.seen
 seen_begins p start answer wrote old new called = grind (arith, append_assoc)

@@ -23,6 +23,7 @@ use Rattle.lock_free_sets.specs.declared.mpmc.unique_index_set.UniqueIndex.{Uniq
 abbrev pub set_id : UniqueIndexSet → SetId
 set_id s = record { table = home_id s.home; capacity = s.capacity }
 
+-- the capacity of a set
 abbrev pub capacity_of : UniqueIndexSet → ℕ
 capacity_of s = s.capacity
 
@@ -30,6 +31,7 @@ capacity_of s = s.capacity
 abbrev pub set_of : Pass → SetId
 set_of p = record { table = p.seated.seat.table_id; capacity = p.capacity }
 
+-- the pass is for this set
 abbrev pub IsPassOf : UniqueIndexSet → Pass → Type 0
 IsPassOf s p = set_of p ≡ set_id s
 
@@ -57,7 +59,8 @@ HasHistory p = IsHistory one_word kinds.Indices (set_of p).capacity (history p)
 abbrev pub MissesNothing : Pass → Type 0
 MissesNothing p = passes.MissesNothing (view p)
 
--- what each call leaves of a pass, and what the pass knows from then on
+-- What each call leaves of a pass: its set and share, that what it holds is sound, and a run that goes
+-- on. With the whole share it misses nothing.
 pub record SamePass (old new : Pass) : Type 0 where
   pub set : set_of new ≡ set_of old
   pub share : share new ≡ share old
@@ -67,7 +70,7 @@ pub record SamePass (old new : Pass) : Type 0 where
   pub aside : (view new).aside ≤ (view old).aside + 1
   pub all : MissesNothing new
 
--- what a join leaves of a pass, which has what both had
+-- what a join leaves of a pass: its set, a view that has what both views had, and that what it holds is sound
 pub record PassJoins (old other new : Pass) : Type 0 where
   pub set : set_of new ≡ set_of old
   pub joined : passes.HasJoined (view old) (view other) (view new)
@@ -78,12 +81,15 @@ pub record PassJoins (old other new : Pass) : Type 0 where
 abbrev pub value_of : UniqueIndex → ℕ
 value_of i = i.index
 
+-- the pass that an index owns
 abbrev pub index_pass : UniqueIndex → Pass
 index_pass i = i.pass
 
+-- all that the pass of an index knows
 abbrev pub index_view : UniqueIndex → View ℕ
 index_view i = view i.pass
 
+-- which set an index is of
 abbrev pub index_set : UniqueIndex → SetId
 index_set i = set_of i.pass
 
@@ -91,14 +97,15 @@ index_set i = set_of i.pass
 abbrev pub set_refusal : ℕ → Option UniqueIndexCreationError
 set_refusal capacity = capacity_refusal 1 (2 ^ 24 - 2) capacity
 
--- of one whose greatest capacity is part of its type
+-- what a set whose type names its greatest capacity refuses, by that capacity and the one that it is given
 abbrev pub reduced_refusal : (greatest capacity : ℕ) → Option UniqueIndexCreationError
 reduced_refusal greatest capacity =
     if nat_lt (2 ^ 24 - 2) greatest || nat_lt greatest capacity
     then Some ProvidedCapacityGreaterThanMaxCapacity
     else set_refusal capacity
 
--- the set of one whose greatest capacity is part of its type
+-- a set whose type names its greatest capacity is a set, which it holds as a field
 module _ {CAPACITY : ℕ} where
+  -- the set of one whose greatest capacity is part of its type
   abbrev pub set_in : FixedSizeUniqueIndexSet CAPACITY → UniqueIndexSet
   set_in s = s.set

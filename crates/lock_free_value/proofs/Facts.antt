@@ -1,4 +1,4 @@
--- What is known of whole calls on a value.
+-- What contracts say of whole calls on a value, from what their driver knows once they have ended.
 use Rattle.std.proofs.Common.{◌≡◌, ◌≤◌, inl, inr, ℕ, ◌+◌, ◌-◌, ◌^◌, ◌<◌, Bool, true, false, Some, None, List, [], ◌∷◌}
 use Rattle.std.proofs.Common.{◌++◌, length, replicate, slice_index, sum_by, refl, sym, ap, subst, ◌∙◌, append_assoc}
 use Rattle.std.proofs.Common.{append-nil, length-append, arith, not, is_none}
@@ -42,6 +42,7 @@ use Rattle.lock_free_value.specs.ValueContracts.{HasAcquired, HasReleased, HasSt
 module _ {T : Type 0} where
   -- ---- what the role came to, by what was made
 
+  -- From old to new the role was taken and given back as often as the further events say.
   moved : (taken given : ℕ) (old new more : List (Event T)) → new ≡ old ++ more → sum_by takes_producer more ≡ taken
       → sum_by gives_producer more ≡ given → Moved taken given old new
   moved taken given old new more new_is takes_producer_is gives_producer_is = grind (arith, sum_by-append, takes_producer, gives_producer, sum_by)
@@ -68,10 +69,12 @@ module _ {T : Type 0} (code : Coding T) (base w : View T) (idle : base.going ≡
     pub alone : w.other ≡ []
     pub begun : 0 < length (stored base.seen) → 0 < length (stored w.seen)
 
+  -- What was stored once stays stored, so something is stored still.
   begun_still : IsBeginning base.seen w.seen → 0 < length (stored base.seen) → 0 < length (stored w.seen)
   begun_still beginning length_positive = grind (arith, length, stored, flat_map-append, stores, length-append)
 
   module _ {C M E : Type 0} (call : Calling T C M E) where
+    -- A call that has ended leaves of its pass what every call leaves.
     ends_leaves : (e : E) (m : M) → Ends code kinds.Atomic call base e m w → Leaves
     ends_leaves e m ends = grind (arith, opened, append_assoc, begun_still)
 
@@ -100,11 +103,13 @@ module _ {T : Type 0} (code : Coding T) (base w : View T) (idle : base.going ≡
   grants : IsHistory code kinds.Atomic base.capacity w.seen → Each GrantsRight w.seen
   grants history = subst (Each GrantsRight) (sym history.is) (value_goes_on code base.capacity history.trace history.run).roles
 
+  -- In a history only the holder of the role stores.
   producers : IsHistory code kinds.Atomic base.capacity w.seen → Each ByProducer w.seen
   producers history = history_by_producers code base.capacity w.seen history
 
   -- ---- the role
 
+  -- An acquire of the role is a call of the history with its answer.
   pub acquired : (b : Bool) (m : Unit {0}) → Ends code kinds.Atomic acquires_producer base b m w → HasAcquired b base w
   acquired b m ends = grind (arith, called, acquires_producer)
 
@@ -141,6 +146,7 @@ module _ {T : Type 0} (code : Coding T) (base w : View T) (idle : base.going ≡
       let events_then : List (Event T) = (base.seen ++ its_call.others) ++ Begun party_now start ∷ its_call.during in
       let seen_is : w.seen ≡ events_then ++ last ∷ [] =
       its_call.is ∙ sym (append_assoc (base.seen ++ its_call.others) (Begun party_now start ∷ its_call.during) (last ∷ [])) in
+      -- Only the holder stores, and the party held the role until its release ended.
       let each : Each ByProducer events_then = Each-less ByProducer events_then (last ∷ []) (subst (Each ByProducer) seen_is (producers ends.history)) in
       let held : holder_of events_then ≡ Some party_now = (grants ends.history events_then [] last seen_is).1 in
       record {
@@ -175,6 +181,7 @@ module _ {T : Type 0} (code : Coding T) (base w : View T) (idle : base.going ≡
   abbrev before_end : {p : ℕ} {start : Start T} {answer : Answer T} → Called p start answer [] base w → List (Event T)
   before_end {p} {start} {answer} c = (base.seen ++ c.others) ++ Begun p start ∷ c.during
 
+  -- What is seen behind a call ends with the end of the call.
   to_end : {p : ℕ} {start : Start T} {answer : Answer T} (c : Called p start answer [] base w) → w.seen ≡ before_end c ++ Finished p start answer ∷ []
   to_end {p} {start} {answer} c = c.is ∙ sym (append_assoc (base.seen ++ c.others) (Begun p start ∷ c.during) (Finished p start answer ∷ []))
 
@@ -226,12 +233,15 @@ module _ {T : Type 0} (code : Coding T) (base w : View T) (idle : base.going ≡
   -- ---- stores
 
   module _ (x : T) where
+    -- The act of a store of x.
     abbrev act : ℕ → Event T
     act p = Acted p (Atomic (Store x)) (Truth true)
 
+    -- The end of a store of x that answers true.
     abbrev end : ℕ → Event T
     end p = Finished p (Atomic (Store x)) (Truth true)
 
+    -- A store that answers true is a call of the history that acted once.
     stored_so : (m : Unit {0}) → (ends : Ends code kinds.Atomic (stores_value code x) base true m w)
         → Called ends.party (Atomic (Store x)) (Truth true) (act ends.party ∷ []) base w
     stored_so m ends = grind (arith, called, stores_value)
@@ -257,10 +267,12 @@ module _ {T : Type 0} (code : Coding T) (base w : View T) (idle : base.going ≡
           list = listed value_role one_holder wrote_first all holds right refl ((refl, refl), tt);
         }
 
+    -- A store that answers true has stored its value.
     pub stored_if : (e : Bool) (m : Unit {0}) → Over code kinds.Atomic (stores_value code x) base e m w → e ≡ true → HasStored x base w
     stored_if e m (inl ends) is = has_stored m (subst (λ b. Ends code kinds.Atomic (stores_value code x) base b m w) is ends)
     stored_if e m (inr left) is = (let no : false ≡ true = sym left.left ∙ is in absurd (cc))
 
+    -- A store that answers false was left out, as the last version was reached.
     pub at_end_if : base.other ≡ [] → 0 < base.share.part → HasProducer base.made → (e : Bool) (m : Unit {0})
         → Over code kinds.Atomic (stores_value code x) base e m w → e ≡ false → WasAtEnd base w
     at_end_if other_is_empty part_positive producer e m over not_ended = grind (arith, ends_at, slice_index, length, stored, version_is_count, looked_alone)
@@ -284,6 +296,7 @@ module _ {T : Type 0} (code : Coding T) (base w : View T) (idle : base.going ≡
       → TakesBy code kinds.Atomic n (guarantee_of kinds.Atomic n code.size call.start) base w) one
       (λ some. takes code kinds.Atomic call base w e m idle (value_pays code base.capacity) some ends) least
 
+  -- A store takes at most two operations and one for each word of the value.
   pub store_takes : (x : T) (e : Bool) (m : Unit {0}) → Over code kinds.Atomic (stores_value code x) base e m w → TakesAtMost (2 + code.size) base w
   store_takes x e m (inl ends) = takes_here (stores_value code x) e m (omega arith) ends
   store_takes x e m (inr left) = left_takes code kinds.Atomic (stores_value code x) base w e m (2 + code.size) (omega arith) left
@@ -291,9 +304,11 @@ module _ {T : Type 0} (code : Coding T) (base w : View T) (idle : base.going ≡
   -- ---- loads
 
   module _ {R : Type 0} (words_in : R → List ℕ) (some : 0 < length (stored base.seen)) where
+    -- The value whose words are in the room.
     abbrev value_there : R → T
     value_there m = value_of_room code words_in m
 
+    -- A load that has ended is a call of the history that acted once, with the value in its room.
     loaded_so : (e : Unit {0}) (m : R) → (ends : Ends code kinds.Atomic (loads_value code words_in) base e m w)
         → Called ends.party (Atomic Load) (Loaded (value_there m)) (Acted ends.party (Atomic Load) (Loaded (value_there m)) ∷ []) base w
     loaded_so e m ends = grind (arith, called, loads_value)
@@ -306,8 +321,10 @@ module _ {T : Type 0} (code : Coding T) (base w : View T) (idle : base.going ≡
         let c = loaded_so e m ends in
         let wrote_first = first_wrote party_now (Atomic Load) (Loaded x) (Acted party_now (Atomic Load) (Loaded x)) [] base w c in
         let first : T = code.value_of (replicate code.size 0) in
+        -- By the laws the answer is the last value that had been stored when the load acted.
         let is : x ≡ last_or first (stored wrote_first.before) =
         load_tells code base.capacity w.seen ends.history party_now x wrote_first.before wrote_first.after wrote_first.is in
+        -- A value had been stored then, since one had been when the load began.
         let whole : length (stored wrote_first.before) ≡ length (stored base.seen ++ stored wrote_first.since.rest) =
         ap (λ es. length (stored es)) wrote_first.since.is ∙ ap length (flat_map-append stores base.seen wrote_first.since.rest) in
         let long = length-append (stored base.seen) (stored wrote_first.since.rest) in

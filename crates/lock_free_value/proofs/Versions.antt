@@ -1,4 +1,5 @@
--- The laws of versions.
+-- The laws of versions: no version is stored twice, equal versions have equal values, and
+-- each history is sound.
 use Rattle.std.proofs.Common.{◌≡◌, ℕ, ◌+◌, ◌<◌, ◌≤◌, List, [], ◌∷◌, ◌++◌, length, replicate, true, refl, sym, ap}
 use Rattle.std.proofs.Common.{subst, ◌∙◌, append-nil, append_assoc, length-append, sum_by, arith}
 use Rattle.lock_free_value.proofs.Names.{flat_map-append, sum_by-append, Truth, Loaded, Event, Acted, Atomic, Coding}
@@ -16,7 +17,7 @@ use Rattle.history.proofs.Values.{value_goes_on}
 use Rattle.lock_free_value.specs.ValueContracts.{HasStored, HasLoaded, HasSeenVersion}
 use Rattle.lock_free_value.specs.Versions.{IsStored, IsLoaded, IsSound}
 
--- lists that begin with as many of the same are the same so far
+-- two beginnings of one list that are equally long are equal
 same_part : {A : Type 0} (xs ys cs ds : List A) → xs ++ cs ≡ ys ++ ds → length xs ≡ length ys → xs ≡ ys
 same_part [] [] cs ds e long = refl
 same_part [] (y ∷ ys) cs ds e long = absurd (omega arith)
@@ -26,10 +27,12 @@ same_part (x ∷ xs) (y ∷ ys) cs ds e long =
     let rest : xs ++ cs ≡ ys ++ ds = cc in
     ap (λ z. z ∷ xs) first ∙ ap (λ zs. y ∷ zs) (same_part xs ys cs ds rest (omega arith))
 
+-- The last element of a list with x at its end is x.
 last_one : {A : Type 0} (first x : A) (xs : List A) → last_or first (xs ++ x ∷ []) ≡ x
 last_one first x [] = refl
 last_one first x (y ∷ ys) = last_one y x ys
 
+-- A list of length 0 is empty.
 none_left : {A : Type 0} (xs : List A) → length xs ≡ 0 → xs ≡ []
 none_left [] length_is_zero = refl
 none_left (x ∷ xs) length_is_zero = absurd (omega arith)
@@ -47,6 +50,7 @@ module _ {T : Type 0} where
 
   -- p and q are parties, v is a version, x and y are values
   module _ (code : Coding T) (p q v : ℕ) (x y : T) (events : List (Event T)) (h : IsHistory code kinds.Atomic 1 events) where
+    -- The value whose words are zeros.
     abbrev zeros : T
     zeros = code.value_of (replicate code.size 0)
 
@@ -78,7 +82,7 @@ module _ {T : Type 0} where
         load_tells code 1 events h p x first_loaded.before first_loaded.after first_loaded.is
         ∙ (ap (last_or zeros) same ∙ sym (load_tells code 1 events h q y second_loaded.before second_loaded.after second_loaded.is))
 
-  -- a history of a value says of itself what every one does
+  -- each history of a value is sound: its answers are right, and only the role's holder stores
   pub sound_history : (code : Coding T) (events : List (Event T)) → IsHistory code kinds.Atomic 1 events → IsSound code events
   sound_history code events history =
       record {
@@ -89,18 +93,22 @@ module _ {T : Type 0} where
 
   -- ---- what stands in a beginning stands in the whole
 
+  -- What was stored at a version in a beginning of a history was stored there in the whole history.
   pub still_stored : (p v : ℕ) (x : T) (old new : List (Event T)) → IsBeginning old new → IsStored p v x old → IsStored p v x new
   still_stored p v x old new beginning is_stored = grind (arith, append_assoc)
 
+  -- What was loaded at a version in a beginning of a history was loaded there in the whole history.
   pub still_loaded : (p v : ℕ) (x : T) (old new : List (Event T)) → IsBeginning old new → IsLoaded p v x old → IsLoaded p v x new
   still_loaded p v x old new beginning loaded = grind (arith, append_assoc)
 
   -- ---- versions that were known
 
+  -- The version of a store is at most one more than the number of stores.
   known_stored : (q v : ℕ) (y : T) (old : List (Event T)) → IsStored q v y old → v ≤ length (stored old) + 1
   known_stored q v y old is_stored =
       omega (arith, before_low stores old is_stored.before is_stored.after (Acted q (Atomic (Store y)) (Truth true)) is_stored.is, is_stored.rank)
 
+  -- The version of a load is at most one more than the number of stores.
   known_loaded : (q v : ℕ) (y : T) (old : List (Event T)) → IsLoaded q v y old → v ≤ length (stored old) + 1
   known_loaded q v y old loaded =
       omega (arith, before_low stores old loaded.before loaded.after (Acted q (Atomic Load) (Loaded y)) loaded.is, loaded.rank)

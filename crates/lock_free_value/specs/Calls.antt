@@ -24,18 +24,18 @@ value_id a = home_id a.home
 abbrev pub HasHistory : {T : Type 0} → Coding T → View T → Type 0
 HasHistory code v = IsHistory code kinds.Atomic 1 v.seen
 
--- a store that was refused: the version is the last. It is no call of the history.
+-- A store was refused, since the version is the last one. It is no call of the history.
 pub record WasAtEnd {T : Type 0} (old new : View T) : Type 0 where
   pub made : new.made ≡ old.made
   pub end : length (stored new.seen) + 1 ≡ 2 ^ 64 - 1
   pub list : stored new.seen ≡ stored old.seen  -- nothing was stored since
 
 module _ {T : Type 0} {words : Ghosts T} where
-  -- what a seat knows, and which value it is for
+  -- what a seat knows of the value
   abbrev pub seen : Held T (ValueRule T) words → View T
   seen t = t.seated.seat.me.0
 
-  -- the value of a pass or a role
+  -- which value a seat is for
   abbrev pub table_of : Held T (ValueRule T) words → TableId
   table_of t = t.seated.seat.table_id
 
@@ -63,7 +63,7 @@ module _ {T : Type 0} {words : Ghosts T} where
   abbrev pub code_of : Held T (ValueRule T) words → Coding T
   code_of t = coding_by words
 
-  -- what each call leaves of a seat: it is of the same value, and its view goes on
+  -- what each call leaves of a seat: the same value, and a view that goes on
   pub record IsSame (old new : Held T (ValueRule T) words) : Type 0 where
     pub table : table_of new ≡ table_of old
     pub goes : Goes (seen old) (seen new)
@@ -86,7 +86,7 @@ module _ {T : Type 0} {words : Ghosts T} where
   abbrev pub FromProducer : Producer T words → Pass T words → Type 0
   FromProducer end pass = IsSame end.token pass.token
 
-  -- what a join leaves of a seat: it is of the same value, and has what both had
+  -- what a join leaves of a seat: the same value, and a view that has what both views had
   pub record Joins (old other new : Held T (ValueRule T) words) : Type 0 where
     pub table : table_of new ≡ table_of old
     pub joined : HasJoined (seen old) (seen other) (seen new)

@@ -20,7 +20,7 @@ module _ {T : Type 0} {words : Ghosts T} where
   abbrev pub knows : Handle T words → View T
   knows h = view h.pass
 
-  -- what each call leaves: it is of the same value, and so is its pass, whose view goes on
+  -- what each call by a handle leaves of it: the same value, and a pass of this value whose view goes on
   pub record SameHandle (old new : Handle T words) : Type 0 where
     pub value : value_in new ≡ value_in old
     pub pass : SamePass (pass_in old) (pass_in new)

@@ -1,4 +1,4 @@
--- What a seat knows while it loads a value by way of a room.
+-- What a seat knows while it loads a value into a room, a buffer of the call whose words are `words_in`.
 use Rattle.std.specs.Prelude.{◌≡◌, ℕ, ◌+◌, ◌*◌, List}
 use Rattle.steps.specs.declared.ask.After.{After}
 use Rattle.steps.specs.declared.atomic.Load.{Load}
@@ -11,7 +11,7 @@ use Rattle.history.specs.declared.view.View.{View}
 use Rattle.history.specs.Stages.{At, Ends}
 use Rattle.history.specs.Value.{loads_value}
 
--- the seat is at the table of a value with so many words
+-- the seat is at the table of a value with `size` words: version, role, two cells, and one word more
 abbrev pub IsBoard : {T K Q : Type 0} → ℕ → Seated (View T) K Q → Type 0
 IsBoard size s = ((table_of s).words ≡ 2 + size * 2 + 1) × ((seen s).capacity ≡ 1)
 

@@ -8,7 +8,8 @@ module _ {T : Type 0} where
   abbrev pub LacksProducer : List (Event T) → Type 0
   LacksProducer made = sum_by takes_producer made ≡ sum_by gives_producer made
 
-  -- what was made since added so many acquires of the producer's role, and so many releases
+  -- from `old` to `new` the producer's role was acquired `taken` times more, and given
+  -- back `given` times more
   pub record Moved (taken given : ℕ) (old new : List (Event T)) : Type 0 where
     pub takes : sum_by takes_producer new ≡ sum_by takes_producer old + taken
     pub gives : sum_by gives_producer new ≡ sum_by gives_producer old + given

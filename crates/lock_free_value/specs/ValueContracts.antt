@@ -15,20 +15,22 @@ pub use Rattle.history.specs.Passes.{HasSplit, HasJoined}
 use Rattle.history.specs.Value.{IsLast}
 
 module _ {T : Type 0} where
-  -- the acquire of the producer's role has answered whether it took the role, and written nothing beside
+  -- A call of the history that tried to acquire the producer's role: it answered whether it took the
+  -- role, and wrote nothing else.
   pub record HasAcquired (taken : Bool) (old new : View T) : Type 0 where
     pub by : ℕ
     pub mine : new.party ≡ Some by
     pub called : Called by (Atomic AcquireProducer) (Truth taken) [] old new
 
-  -- the release of the producer's role has ended, and nothing was stored since the view before
+  -- a call of the history that gave the producer's role back; since `old` nothing was stored
   pub record HasReleased (old new : View T) : Type 0 where
     pub by : ℕ
     pub mine : new.party ≡ Some by
     pub called : Called by (Atomic ReleaseProducer) Done [] old new
     pub list : stored new.seen ≡ stored old.seen  -- nothing was stored since
 
-  -- the value was stored after all that had been seen
+  -- A store of the value is a call of the history, after all that the pass had seen. It is the only
+  -- store since `old`.
   pub record HasStored (x : T) (old new : View T) : Type 0 where
     pub by : ℕ
     pub mine : new.party ≡ Some by
@@ -41,7 +43,8 @@ module _ {T : Type 0} where
     pub next : stored before ≡ stored old.seen  -- none came between
     pub list : stored new.seen ≡ stored old.seen ++ x ∷ []  -- nor after
 
-  -- at a moment after all that had been seen, this was the last value that was stored
+  -- A load is a call of the history. At a moment of it, after all that the pass had seen, this was the
+  -- last value that was stored.
   pub record HasLoaded (x : T) (old new : View T) : Type 0 where
     pub by : ℕ
     pub mine : new.party ≡ Some by
@@ -54,7 +57,8 @@ module _ {T : Type 0} where
     -- it was the last value stored by then
     pub last : IsLast x (stored before)
 
-  -- the call changed nothing, and answered whether a party had the role as it ended
+  -- a call `has_producer` of the history: it wrote nothing, and answered whether some party has the
+  -- role as it ends
   pub record HasSeenProducer (taken : Bool) (old new : View T) : Type 0 where
     pub by : ℕ
     pub mine : new.party ≡ Some by
@@ -62,7 +66,8 @@ module _ {T : Type 0} where
     -- whether somebody holds the role as the call ends
     pub holder : taken ≡ not (is_none (holder_of new.seen))
 
-  -- the call changed nothing, and answered 1 more than the number of the values that were stored as it ended
+  -- a call `version` of the history: it wrote nothing, and answered 1 more than the number of the
+  -- stores until it ends
   pub record HasSeenVersion (version : ℕ) (old new : View T) : Type 0 where
     pub by : ℕ
     pub mine : new.party ≡ Some by

@@ -29,8 +29,8 @@ module _ {T : Type 0} where
     -- its version is one more than the stores before
     pub rank : version ≡ length (stored before) + 1
 
-  -- what every history of a value says of itself: a load answers the value that stands, an acquire whether nobody holds
-  -- the role, a look whether somebody holds it, or the version, and who stores holds the role
+  -- A history of a value is sound. A load answers the value that stands, an acquire whether nobody held
+  -- the role, a look whether somebody holds it, or the version; and only the role's holder stores.
   pub record IsSound (code : Coding T) (events : List (Event T)) : Type 0 where
     pub answers : Each (AnswersRight code) events
     pub roles : Each GrantsRight events

@@ -22,7 +22,7 @@ pub fn histories_are_linearizable<T>()
         → IsLinearizable (as_value code) events }
 {}
 
-/// Each answer in it is right, and who stores holds the role.
+/// Each answer in a history of a value is right, and who stores holds the role.
 pub fn histories_are_sound<T>()
     ensures { (code : Coding T) (events : List (Event T)) → IsHistory code kinds.Atomic 1 events
         → IsSound code events }
@@ -36,13 +36,13 @@ pub fn calls_keep_guarantees<T>()
         → (h : IsHistory code kinds.Atomic 1 events) → KeepsGuarantees h.trace }
 {}
 
-/// No version is stored twice.
+/// No version is stored twice: two stores at one version are the same store.
 pub fn versions_are_once<T>()
     ensures { (p q v : ℕ) (x y : T) (events : List (Event T))
         → IsStored p v x events → IsStored q v y events → (p ≡ q) × (x ≡ y) }
 {}
 
-/// Equal versions have equal values.
+/// Two calls at equal versions, a store and a load or two loads, have equal values.
 pub fn values_agree<T>()
     ensures stored { (code : Coding T) (p q v : ℕ) (x y : T) (events : List (Event T))
         → IsHistory code kinds.Atomic 1 events
@@ -52,7 +52,7 @@ pub fn values_agree<T>()
         → IsLoaded p v x events → IsLoaded q v y events → x ≡ y }
 {}
 
-/// What was stored or loaded stays so.
+/// What was stored or loaded at a version stays stored or loaded at it as the history goes on.
 pub fn versions_stay<T>()
     ensures stored { (p v : ℕ) (x : T) (old new : List (Event T)) → IsBeginning old new
         → IsStored p v x old → IsStored p v x new }
@@ -72,7 +72,7 @@ pub fn versions_rise<T>()
         × ((q v : ℕ) (y : T) → IsLoaded q v y old.seen → v ≤ length (stored h.before) + 1) }
 {}
 
-/// Where two looks at the version answer the same, nothing was stored between their ends.
+/// Where two calls of `version` answer the same, nothing was stored between their ends.
 pub fn equal_versions_tell<T>()
     ensures { (v : ℕ) (a b c d : View T) → HasSeenVersion v a b → HasSeenVersion v c d → IsBeginning b.seen d.seen
         → stored d.seen ≡ stored b.seen }

@@ -1,4 +1,5 @@
--- What is proved of every run, one line a kind.
+-- That machines of each kind keep the promises of that kind in every run (one line a kind), and
+-- what allowed turns reach.
 use Rattle.std.proofs.Common.{◌≡◌, ℕ, ◌+◌, None, List, [], ◌∷◌, ◌++◌, replicate, sym, ap, ◌∙◌, subst}
 use Rattle.std.proofs.lemmas.Grind.{replicate_next}
 use Rattle.model.specs.declared.turn.Kind.{Kind}
@@ -37,7 +38,7 @@ pub reached_all : {T : Type 0} (t : Trace T) (turns : List (Turn T)) → AreAllo
 reached_all t [] all reached = reached
 reached_all t (turn ∷ turns) all reached = reached_all (after_turn t turn) turns all.1 (reached_more t turn all.0 reached)
 
--- the same turn once more
+-- after n turns that were all this turn and were not refused, the same turn, not refused, makes n + 1 of them
 pub once_more : {T : Type 0} (t now new : Trace T) (n : ℕ) (turn : Turn T) → AreAllowed t (replicate n turn) → now ≡ after_turns t (replicate n turn)
     → refusal_of now.world turn ≡ None → new ≡ after_turn now turn
     → AreAllowed t (replicate (n + 1) turn) × (new ≡ after_turns t (replicate (n + 1) turn))

@@ -1,4 +1,5 @@
--- Which kinds are lock-free, one line a kind.
+-- Which kinds are lock-free, and that their calls go on ending: one line a kind, from the
+-- proof of its family.
 use Rattle.std.proofs.Common.{Option, Some, None, refl}
 use Rattle.std.specs.Prelude.{IfSome}
 use Rattle.model.specs.declared.turn.Kind.{Kind}
@@ -29,14 +30,16 @@ keep_ending T Robust = tt
 keep_ending T Container = tt
 keep_ending T Loan = tt
 
+-- where each x with P has Q, an option whose value has P has a value with Q
 pub if_some : {A : Type 0} (P Q : A → Type 0) (o : Option A) → ((x : A) → P x → Q x) → IfSome o P → IfSome o Q
 if_some P Q None more h = tt
 if_some P Q (Some x) more h = more x h
 
+-- each kind with a bound is lock-free: in more steps than that bound a call ends
 pub one_ends : (T : Type 0) (kind : Kind) → IfSome (lock_free_bound kind) (IsLockFree T kind)
 one_ends T kind = if_some (KeepsEnding T kind) (IsLockFree T kind) (lock_free_bound kind) (one_call_ends kind) (keep_ending T kind)
 
--- the machines as they run
+-- each kind with a bound is lock-free as its machines run, with all their parties
 pub as_run : (T : Type 0) (kind : Kind) → IfSome (lock_free_bound kind) (HasLockFreeRuns T kind)
 as_run T IndexQueue = machines IndexQueue refl _ (one_ends T IndexQueue)
 as_run T Overflow = machines Overflow refl _ (one_ends T Overflow)
@@ -49,23 +52,26 @@ as_run T Robust = tt
 as_run T Container = tt
 as_run T Loan = tt
 
--- robust index sets in which no call may lock
+-- robust index sets, in runs in which no call may lock: calls go on ending as `default_bound` says
 pub robust_keeps_ending : (T : Type 0) → KeepsEndingOf T Robust IsDefault default_bound
 robust_keeps_ending T = default_keeps_ending
 
+-- robust index sets, in runs in which no call may lock: in more steps than `default_bound` a call ends
 pub robust_one_ends : (T : Type 0) → IsLockFreeOf T Robust IsDefault default_bound
 robust_one_ends T = one_call_ends_of Robust IsDefault default_bound default_keeps_ending
 
--- containers in which none may
+-- containers, in runs in which no call may lock: calls go on ending as `default_container_bound` says
 pub container_keeps_ending : (T : Type 0) → KeepsEndingOf T Container IsDefault default_container_bound
 container_keeps_ending T = container.container_keeps_ending
 
+-- containers, in runs in which no call may lock: in more steps than `default_container_bound` a call ends
 pub container_one_ends : (T : Type 0) → IsLockFreeOf T Container IsDefault default_container_bound
 container_one_ends T = one_call_ends_of Container IsDefault default_container_bound container.container_keeps_ending
 
--- loan channels, as they run
+-- loan channels, as their machines run: calls go on ending as `channel_bound` says
 pub channel_keeps_ending : (T : Type 0) → KeepsEndingRuns T Loan channel_bound
 channel_keeps_ending T = loan.channel_keeps_ending
 
+-- loan channels, as their machines run: in more steps than `channel_bound` a call ends
 pub channel_one_ends : (T : Type 0) → HasLockFreeRuns T Loan channel_bound
 channel_one_ends T = loan.channel_one_ends

@@ -30,20 +30,25 @@ use Rattle.model.proofs.WorkedProgress.{both_count, round}
 
 -- ---- turns in which no call ends
 
+-- a turn that is not refused, is one step of a call, and leads from the trace `old` to the trace `new`
 pub record Goes (turn : Turn ℕ) (old new : Trace ℕ) : Type 0 where
   pub allowed : call_refusal old.world turn ≡ None
   pub one : steps_of old.world turn ≡ 1
   pub is : after_turn old turn ≡ new
 
+-- turns none of which is refused, which are `count` steps in all, and in which no event is written: so no
+-- call ends in them
 pub record Went (turns : List (Turn ℕ)) (old : Trace ℕ) (count : ℕ) : Type 0 where
   pub allowed : AreAllowedOn old turns
   pub steps : steps_in old turns ≡ count
+  -- the turns write no event
   pub same : (after_turns old turns).events ≡ old.events
 
+-- one step and k steps are k + 1 steps
 one_more_step : (a b k : ℕ) → a ≡ 1 → b ≡ k → a + b ≡ suc k
 one_more_step a b k e f = omega arith
 
--- a turn that ends no call comes before turns of which none does
+-- a turn that writes no event, before turns that write none: together they are one step more, and write none
 first : (turn : Turn ℕ) (turns : List (Turn ℕ)) (old new : Trace ℕ) (k : ℕ) → Goes turn old new → new.events ≡ old.events
     → Went turns new k → Went (turn ∷ turns) old (suc k)
 first turn turns old new k goes quiet went =
@@ -72,10 +77,12 @@ pub record Tally : Type 0 where
   pub backs : ℕ
   pub since : ℕ
 
+-- the tally after one step more, which is this many turns back and makes this many changes of words
 abbrev stepped : Tally → ℕ → ℕ → Tally
 stepped n back change = record { steps = n.steps + 1; backs = n.backs + back; since = n.since + change }
 
--- the party of a release that has counted and is about to lock the set
+-- the party of a release in `LockIfLastIndex` that has counted no owner and is about to lock the set, at this
+-- stage of it
 abbrev locking : Who → Lock → Tally → Party ℕ
 locking who lock n =
     record {
@@ -93,11 +100,13 @@ locking who lock n =
           n.since;
     }
 
+-- the latest calls of the two parties, in their order, where `who` says which of them the first one given is
 abbrev both : Who → Party ℕ → Party ℕ → List (ℕ × Party ℕ)
 both First mine other = (0, mine) ∷ (1, other) ∷ []
 both Second mine other = (0, other) ∷ (1, mine) ∷ []
 
--- a release stands so, beside the other one, once these events were written
+-- the trace with these events, of a robust index set of two empty cells and this counter, in which the
+-- release `who` is at the stage `lock` and the other party is `other`
 abbrev at : List (Event ℕ) → Who → ℕ → Lock → Tally → Party ℕ → ℕ → ℕ → Trace ℕ
 at events who counter lock n other changes turns =
     record {
@@ -120,39 +129,48 @@ at events who counter lock n other changes turns =
 
 -- the counter is above what the release has seen, and far enough from its end
 pub record IsHigh (c x : ℕ) : Type 0 where
+  -- the counter is not the one that the release has seen, not the one that locks, and not the last one
   pub same : (c == c) ≡ true
   pub moved : (c == x) ≡ false
   pub unlocked : (c == locked) ≡ false
   pub not_last : (c == greatest) ≡ false
+  -- its next number does not wrap, is not the last one, and is another one
   pub next : (c + 1) % 2 ^ 64 ≡ c + 1
   pub next_open : (c + 1 == greatest) ≡ false
   pub next_new : (c + 1 == c) ≡ false
 
 module _ (es : List (Event ℕ)) (c x : ℕ) (h : IsHigh c x) (n : Tally) (other : Party ℕ) (changes turns : ℕ) where
+  -- the exchange of the counter fails, since the counter is above what the release has seen: the release
+  -- turns back to its count
   fails : (who : Who)
       → Goes (Next (number who)) (at es who c (ExchangesCounter x) n other changes turns)
       (at (es ++ []) who c (Counts counts.LoadsCounter) (stepped n 1 0) other (changes + 0) (turns + 1))
   fails First = record { allowed = refl; one = refl; is = rw (h.moved, h.same) refl }
   fails Second = record { allowed = refl; one = refl; is = rw (h.moved, h.same) refl }
 
+  -- the release reads the counter, which does not say that the set is locked, and goes on to the first cell
   loads : (who : Who)
       → Goes (Next (number who)) (at es who c (Counts counts.LoadsCounter) n other changes turns)
       (at (es ++ []) who c (Counts (counts.LoadsCell c 0 0)) (stepped n 0 0) other (changes + 0) (turns + 1))
   loads First = record { allowed = refl; one = refl; is = rw (h.unlocked, h.same) refl }
   loads Second = record { allowed = refl; one = refl; is = rw (h.unlocked, h.same) refl }
 
+  -- the release reads the first cell, which has no owner, and goes on to the second one
   cell : (who : Who)
       → Goes (Next (number who)) (at es who c (Counts (counts.LoadsCell c 0 0)) n other changes turns)
       (at (es ++ []) who c (Counts (counts.LoadsCell c 1 0)) (stepped n 0 0) other (changes + 0) (turns + 1))
   cell First = record { allowed = refl; one = refl; is = refl }
   cell Second = record { allowed = refl; one = refl; is = refl }
 
+  -- the release reads the second cell, which has no owner, and goes on to the exchange that ends its count
   last_cell : (who : Who)
       → Goes (Next (number who)) (at es who c (Counts (counts.LoadsCell c 1 0)) n other changes turns)
       (at (es ++ []) who c (Counts (counts.ExchangesCounter c 0)) (stepped n 0 0) other (changes + 0) (turns + 1))
   last_cell First = record { allowed = refl; one = refl; is = rw (h.not_last) refl }
   last_cell Second = record { allowed = refl; one = refl; is = rw (h.not_last) refl }
 
+  -- the exchange succeeds: the counter is one more, and the release, which has counted no owner, is about to
+  -- lock the set
   counts_on : (who : Who)
       → Goes (Next (number who)) (at es who c (Counts (counts.ExchangesCounter c 0)) n other changes turns)
       (at (es ++ []) who (c + 1) (ExchangesCounter (c + 1)) (stepped n 0 1) other (changes + 1) (turns + 1))
@@ -164,9 +182,11 @@ module _ (es : List (Event ℕ)) (c x : ℕ) (h : IsHigh c x) (n : Tally) (other
 same : (c : ℕ) → (c == c) ≡ true
 same c = grind (arith, nat_tests)
 
+-- a number below another is not equal to it
 apart : (a b : ℕ) → a < b → (a == b) ≡ false
 apart a b less = grind (arith, nat_tests)
 
+-- a number above another is not equal to it
 apart_back : (a b : ℕ) → b < a → (a == b) ≡ false
 apart_back a b less = grind (arith, nat_tests)
 
@@ -183,10 +203,12 @@ is_high c x more room =
       next_new = apart_back (c + 1) c (omega arith);
     }
 
+-- five turns in which the release `who` goes on, before these turns
 abbrev five : Who → List (Turn ℕ) → List (Turn ℕ)
 five who turns = Next (number who) ∷ Next (number who) ∷ Next (number who) ∷ Next (number who) ∷ Next (number who) ∷ turns
 
--- the release finds the counter changed, and counts again
+-- a release finds the counter changed and counts again, in five steps that end no call: so turns that end
+-- none may follow from there
 counts_again : (es : List (Event ℕ)) (who : Who) (c x : ℕ) → IsHigh c x → (n : Tally) (other : Party ℕ) (changes ran k : ℕ) (turns : List (Turn ℕ))
     → ((es : List (Event ℕ)) (n : Tally) (changes ran : ℕ) → Went turns (at es who (c + 1) (ExchangesCounter (c + 1)) n other changes ran) k)
     → Went (five who turns) (at es who c (ExchangesCounter x) n other changes ran) (suc (suc (suc (suc (suc k)))))
@@ -197,19 +219,23 @@ counts_again es who c x high n other changes ran k turns later =
     (first _ _ _ _ _ (last_cell _ c x high _ other _ _ who) (append-nil _)
     (first _ _ _ _ _ (counts_on _ c x high _ other _ _ who) (append-nil _) (later _ _ _ _)))))
 
+-- n rounds, in each of which both releases find the counter changed and count again
 abbrev rounds : ℕ → List (Turn ℕ)
 rounds zero = []
 rounds (suc k) = round ++ rounds k
 
+-- the steps of n rounds, ten for each
 abbrev steps_of_rounds : ℕ → ℕ
 steps_of_rounds zero = 0
 steps_of_rounds (suc k) = suc (suc (suc (suc (suc (suc (suc (suc (suc (suc (steps_of_rounds k))))))))))
 
+-- n rounds have ten times n steps
 ten_each : (k : ℕ) → steps_of_rounds k ≡ 10 * k
 ten_each zero = refl
 ten_each (suc k) = omega (arith, ten_each k)
 
--- so many rounds take their steps, and no call ends in them
+-- k rounds take their ten steps each and no call ends in them, where the counter has room for
+-- two counts more in each
 endless : (es : List (Event ℕ)) (k c x : ℕ) → x < c → c + (k + k) < greatest → (m n : Tally) (changes ran : ℕ)
     → Went (rounds k) (at es First c (ExchangesCounter x) m (locking Second (ExchangesCounter c) n) changes ran) (steps_of_rounds k)
 endless es zero c x more room m n changes ran = record { allowed = tt; steps = refl; same = refl }
@@ -221,20 +247,25 @@ endless es (suc k) c x more room m n changes ran =
 
 -- ---- the machine in which both have counted
 
+-- the trace to which the turns `both_count` lead: both releases have counted that no cell has an owner
 abbrev started : Trace ℕ
 started = run_on both_count (opening one_word Robust 2 2)
 
+-- the coding of numbers by one word each fulfils the laws of a coding
 one_word_codes : IsCoding one_word
 one_word_codes = record { some = omega arith; few = omega arith; sized = λ n. refl; given_back = λ n. refl }
 
+-- that trace is reached by turns from a machine that has just opened
 reached : IsReachedOn started
 reached = record { coded = one_word_codes; admitted = refl; turns = both_count; is = refl }
 
+-- that trace written out: the counter is 6, the first release has seen 5 and the second one 6
 abbrev both_counted : Trace ℕ
 both_counted =
     at started.events First 6 (ExchangesCounter 5) (record { steps = 7; backs = 0; since = 7 })
     (locking Second (ExchangesCounter 6) (record { steps = 7; backs = 0; since = 9 })) 10 27
 
+-- the turns `both_count` lead to the trace written out
 stands_so : started ≡ both_counted
 stands_so = refl
 
@@ -255,9 +286,11 @@ below (suc k) = (
   ),
 )
 
+-- fewer than ten steps for each of k rounds are fewer than the steps of k rounds
 many : (b k s : ℕ) → s ≡ 10 * k → b < 10 * k → b < s
 many b k s e less = omega arith
 
+-- a number is not below one equal to it: as many calls have ended as before, so none ended in between
 no_end : (a b : ℕ) → a ≡ b → b < a → ⊥
 no_end a b e less = absurd (omega arith)
 
@@ -273,5 +306,6 @@ no_bound k room bound few free =
     ap_ends : {a b : List (Event ℕ)} → a ≡ b → ends a ≡ ends b
     ap_ends {a} {b} e = subst (λ (xs : List (Event ℕ)). ends a ≡ ends xs) e refl
 
+-- no bound below ten steps for each of 2^63 - 5 rounds makes robust index sets lock-free
 pub robust : (bound : Bound) → bound 2 2 1 < 10 * (2 ^ 63 - 5) → IsLockFree ℕ Robust bound → ⊥
 robust bound few free = no_bound (2 ^ 63 - 5) (omega arith) bound few free

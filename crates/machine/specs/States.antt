@@ -11,13 +11,14 @@ module _ {T : Type 0} where
   ShowsNothing (Some state) = state.shown.elements ≡ []
   ShowsNothing None = ⊥
 
-  -- the state that the party's looks have written into, and before its first look one that shows nothing; none where
-  -- there is no such party
+  -- what a machine gives as the party's state: the one that its looks have written into, before its first
+  -- look one that shows nothing, and none where no party has this number
   abbrev pub IsFound : (parties p : ℕ) → Option (ContainerState T) → Option (ContainerState T) → Type 0
   IsFound parties p found (Some state) = found ≡ Some state
   IsFound parties p found None = (p < parties → ShowsNothing found) × (parties ≤ p → found ≡ None)
 
-  -- what a machine of so many parties keeps as the party's state; other kinds than the container have no states
+  -- what a machine with this many parties gives as the party's state; kinds other than the
+  -- container have no states
   abbrev pub IsStateIn : Registry T → (parties p : ℕ) → Option (ContainerState T) → Type 0
   IsStateIn (registries.Container dead states) parties p found =
       IsFound parties p found (state_of p states)

@@ -28,8 +28,8 @@ pub struct Machine<T: Words> {
     unlooked: Unlooked<T>,
 }
 
-// A drop by hand is one call in a caller's proof, on each way out. One that is derived is as many as it has fields
-// below.
+// This drop is written by hand, so that it is one call in a caller's proof, on each way out of the caller. A
+// derived one would be a call for each field, and for the fields of each.
 impl<T: Words> Drop for Machine<T> {
     fn drop(self) {
         let Self {
@@ -39,7 +39,7 @@ impl<T: Words> Drop for Machine<T> {
     }
 }
 
-/// The state of a party of a container before its first look. It has no elements, and takes no memory.
+/// The state that a party of a container has before its first look. It has no elements, and takes no memory.
 #[derive(Drop)]
 struct Unlooked<T> {
     state: ContainerState<T>,
@@ -108,7 +108,8 @@ impl<T: Words> Machine<T> {
         Self::made(alloc, parts)
     }
 
-    // The machine of these parts, unless memory for the state before a first look is refused.
+    // The machine of these parts. It is refused where memory is refused for the state that parties have
+    // before a first look.
     fn made(alloc: Global, parts: Parts<T>) -> Result<Machine<T>, UniqueIndexCreationError>
         requires { IsReached (trace_of (coding_by T.Words) parts) }
         ensures ok { IfOk result (λ m. trace_in (coding_by T.Words) m
@@ -142,7 +143,7 @@ impl<T: Words> Machine<T> {
     /// - Any turn, last: `NoMemory`, where there is no room for the events, for a new party, for its state, for the value
     ///   that its call is to read or for a dead owner.
     pub fn step(&mut self, turn: Turn<T>) -> Result<(), Refusal>
-        // Whether it is taken, or why not.
+        // Whether the turn is taken, or why it is refused.
         ensures allowed { OnOk result
             (refusal_of (world_in (coding_by T.Words) self.old) turn ≡ None) }
         ensures refused { IfErr result
@@ -153,7 +154,8 @@ impl<T: Words> Machine<T> {
         ensures ok { OnOk result (trace_in (coding_by T.Words) self.new
             ≡ after_turn (trace_in (coding_by T.Words) self.old) turn) }
 
-        // The same, in its own words.
+        // The same in separate facts: which word, which call and which counts a turn changes, and which
+        // events it writes.
         ensures later { OnOk result (IsOneTurnLater (world_in (coding_by T.Words) self.old)
             (world_in (coding_by T.Words) self.new)) }
         ensures word { OnOk result (WritesOneWord (world_in (coding_by T.Words) self.old)
@@ -169,7 +171,7 @@ impl<T: Words> Machine<T> {
         ensures events { OnOk result (WritesEvents (trace_in (coding_by T.Words) self.old)
             turn (trace_in (coding_by T.Words) self.new)) }
 
-        // The promises of every run.
+        // The promises that every run keeps.
         ensures kept { IsKept (trace_in (coding_by T.Words) self.new) }
     {
         self.parts.step(turn)?;
@@ -194,8 +196,8 @@ impl<T: Words> Machine<T> {
         }
     }
 
-    /// Takes the turns, all of them or up to the first that is refused, with why it was. That turn and those behind it
-    /// change nothing.
+    /// Takes the turns up to the first that is refused. The error says how many were taken, and why the next
+    /// was refused. The refused turn and those behind it change nothing.
     pub fn run_all(&mut self, turns: &[Turn<T>]) -> Result<(), Stopped>
         ensures all { OnOk result (AreAllowed (trace_in (coding_by T.Words) self.old) turns.now) }
         ensures ok { OnOk result (trace_in (coding_by T.Words) self.new
@@ -223,9 +225,9 @@ impl<T: Words> Machine<T> {
         Ok(())
     }
 
-    /// Takes so many turns of one party's call, without decisions, up to the first that is refused. It is what `run_all`
-    /// makes of a list of as many `Next`, in less time: a call that is done, or waits for a decision, is refused its next
-    /// one.
+    /// Takes `most` turns `Next` of one party's call, up to the first that is refused. It does what `run_all`
+    /// does with a list of `most` turns `Next`, in less time: a call that is done, or waits for a decision,
+    /// is refused its next turn.
     pub fn nexts(&mut self, party: u32, most: u64) -> Result<(), Stopped>
         ensures all { OnOk result (AreAllowed (trace_in (coding_by T.Words) self.old)
             (replicate most (Next party))) }
@@ -258,7 +260,7 @@ impl<T: Words> Machine<T> {
         Ok(())
     }
 
-    // Some of these turns, in one loop.
+    // Takes up to `most` turns `Next` of the party in one loop, and answers how many: it may stop earlier.
     fn at_once(&mut self, party: u32, most: u64) -> u64
         ensures most { result ≤ most }
         ensures allowed { AreAllowed (trace_in (coding_by T.Words) self.old)
@@ -285,16 +287,18 @@ impl<T: Words> Machine<T> {
         let _ = &self.parts;
     }
 
-    /// A law of every machine, which does nothing: turns have led to it. So every law of reached machines is one of it: those of
-    /// the crate `headline`, which is what all machines do in one statement, and those of `laws_machine`.
+    /// A law of every machine, which does nothing: the machine is reached by turns from an opening. So all
+    /// laws of reached machines hold of it: those of the crate `headline`, which says what every machine
+    /// does, and those of `laws_machine`.
     pub fn reached(&self)
         ensures { IsReached (trace_in (coding_by T.Words) self.now) }
     {
         let _ = &self.parts;
     }
 
-    /// A law of every machine, which does nothing: each party's latest call has taken no more steps than a wait-free call
-    /// of its name may take, or than an obstruction-free one may that pays for its retries by changes of others.
+    /// A law of every machine, which does nothing: each party's latest call keeps the guarantee of its name.
+    /// A wait-free call has taken no more steps than its bound, and an obstruction-free call no more than its
+    /// bound and what it is allowed for each change by others.
     pub fn keeps_guarantees(&self)
         ensures { KeepsGuarantees (trace_in (coding_by T.Words) self.now) }
     {

@@ -1,5 +1,5 @@
-//! What follows from the promises of every run, in the field's words. These functions do nothing: the contract of each is a
-//! law, whose proof is a lemma that a client's proof can cite.
+//! What follows from the promises of every run, in the words of the literature. These functions do nothing:
+//! the contract of each is a law, and its proof a lemma that a client's proof can cite.
 ghost use Rattle.std.specs.Prelude.{ℕ, IfSome, ◌<◌, ◌*◌, ◌-◌, ◌^◌};
 ghost use Rattle.model.specs.declared.families.Flight.{Flight};
 ghost use Rattle.model.specs.declared.turn.Kind.{Kind};
@@ -20,14 +20,15 @@ pub fn linearizable<T>()
     ensures { (t : Trace T) → IsKept t → IsLinearizableRun t }
 {}
 
-/// Of each call of each kind, whether it is wait-free or obstruction-free, with its constants, as the table
-/// `guarantee_of` says. The lemma is `guaranteed` of `proofs/Progress.antt` of `model`.
+/// Each entry of the table `guarantee_of` follows from the bound of steps that the kind promises for the
+/// call: whether the call is wait-free or obstruction-free, with its constants. The lemma is `guaranteed` of
+/// `proofs/Progress.antt` of `model`.
 pub fn guaranteed<T>()
     ensures { (kind : Kind) → AreGuaranteed T kind }
 {}
 
-/// In a run that keeps the promises of its kind each party's latest call has kept that guarantee. The lemma is
-/// `keeps_guarantees` of `proofs/Progress.antt` of `model`.
+/// In a run that keeps the promises of its kind each party's latest call keeps the guarantee that the table
+/// `guarantee_of` gives its name. The lemma is `keeps_guarantees` of `proofs/Progress.antt` of `model`.
 pub fn keeps_guarantees<T>()
     ensures { (t : Trace T) → IsKept t → KeepsGuarantees t }
 {}
@@ -38,22 +39,23 @@ pub fn looks_change_nothing<T>()
     ensures { (code : Coding T) (flight : Flight T) → Looks flight → ChangesNothing code flight }
 {}
 
-/// Lock-freedom of index queues, overflowing queues, queues, the single value, bit sets, counting bit sets and unique index
-/// sets, each with its bound as the table `lock_free_bound` says: wherever turns have led, and whatever turns n parties take from there while the
-/// others have stopped anywhere, in more steps than the bound one of their calls ends, and calls go on ending as often as the
-/// steps have that bound. The third clause says the first of the machines as they run, where n is the number of parties. A
-/// turn that is refused is in no such list, a call that waits for a decision takes no step, and nothing says that a party
-/// takes turns. The proof is `keep_ending` of `proofs/LockFree.antt`, by a measure of each call in the crate of its kind's
-/// laws.
+/// Index queues, overflowing queues, queues, the single value, bit sets, counting bit sets and unique index
+/// sets are lock-free, each with the bound that the table `lock_free_bound` says. Wherever turns have led,
+/// and whatever turns n parties take from there while the others have stopped anywhere, in more steps than
+/// the bound one of their calls ends, and calls go on ending as often as the steps have that bound. The third
+/// clause says what the first one says of the machines as they run, where n is the number of parties. A turn
+/// that is refused is in no such list, a call that waits for a decision takes no step, and nothing says that
+/// a party takes turns. The proof is `keep_ending` of `proofs/LockFree.antt`, by a measure of each call in
+/// the crate of its kind's laws.
 pub fn lock_free<T>()
     ensures one_ends { (kind : Kind) → IfSome (lock_free_bound kind) (IsLockFree T kind) }
     ensures keep_ending { (kind : Kind) → IfSome (lock_free_bound kind) (KeepsEnding T kind) }
     ensures as_run { (kind : Kind) → IfSome (lock_free_bound kind) (HasLockFreeRuns T kind) }
 {}
 
-/// Lock-freedom of robust index sets and of containers, in runs in which no release, no remove and no recovery is in the mode
-/// `LockIfLastIndex`, with the bounds `default_bound` and `default_container_bound`: as `lock_free` says of the kinds there. The
-/// second clause of each says that calls go on ending.
+/// Robust index sets and containers are lock-free in runs in which no release, no remove and no recovery is
+/// in the mode `LockIfLastIndex`, with the bounds `default_bound` and `default_container_bound`, in the way
+/// that `lock_free` says of the other kinds. The second clause of each says that calls go on ending.
 pub fn lock_free_by_default<T>()
     ensures one_ends { IsLockFreeOf T Robust IsDefault default_bound }
     ensures keep_ending { KeepsEndingOf T Robust IsDefault default_bound }
@@ -61,23 +63,26 @@ pub fn lock_free_by_default<T>()
     ensures container_keeps_ending { KeepsEndingOf T Container IsDefault default_container_bound }
 {}
 
-/// Lock-freedom of loan channels, of the machines as they run, with the bound `channel_bound`: wherever turns have led, and
-/// whatever turns follow, in more steps than the bound a call ends, and calls go on ending as often as the steps have that
-/// bound. The bound depends on the slots alone. It is the same for any number of parties, since only the sender and one
-/// receiver at a time take steps, and for any capacity of the submission queue. The two clauses say nothing of runs with more
-/// turns than a machine takes. The proof is `proofs/LockFree.antt` of `laws_loan`, by the steps that the sender's call has left
-/// and those that the receiver's has left.
+/// Loan channels are lock-free, as their machines run, with the bound `channel_bound`. Wherever turns have
+/// led, and whatever turns follow, in more steps than the bound a call ends, and calls go on ending as often
+/// as the steps have that bound. The bound depends on the slots alone. It is the same for any number of
+/// parties, since only the sender and one receiver at a time take steps, and for any capacity of the
+/// submission queue. The two clauses say nothing of runs with more turns than a machine takes. The proof is
+/// `proofs/LockFree.antt` of `laws_loan`, by the steps that the sender's call has left and those that the
+/// receiver's has left.
 pub fn lock_free_channel<T>()
     ensures one_ends { HasLockFreeRuns T Loan channel_bound }
     ensures keep_ending { KeepsEndingRuns T Loan channel_bound }
 {}
 
-/// No such bound is less than these, at so many parties, this capacity and values of one word: there is a run of so many steps
-/// in which no call ends. Of the first six kinds they are what `lock_free_bound` says there, so its bounds cannot be less. In a
-/// robust index set of two indices two releases in the mode `LockIfLastIndex` make each other begin again, in ten steps a round,
-/// until the counter is at its end: there are as many rounds as it has room for (`proofs/Rounds.antt`). Of a loan channel with
-/// one slot `channel_bound` says 24, and no bound is below 14. The other runs are those of `proofs/WorkedLockFree.antt` of
-/// `model`, and that of the channel of the file of this name in `laws_loan`.
+/// No bound that makes a kind lock-free is less than the number that the clause of that kind names. The
+/// clause takes the bound at a number of parties, a capacity and values of one word, in this order: there is
+/// a run with these of that many steps in which no call ends. For the first six kinds the numbers are what
+/// `lock_free_bound` says, so its bounds cannot be less. In a robust index set of two indices two releases in
+/// the mode `LockIfLastIndex` make each other begin again, in ten steps a round, until the counter is at its
+/// end: there are as many rounds as it has room for (`proofs/Rounds.antt`). Of a loan channel with one slot
+/// `channel_bound` says 24, and no bound is below 14. The other runs are those of
+/// `proofs/WorkedLockFree.antt` of `model`, and that of the channel of the file of this name in `laws_loan`.
 pub fn not_lock_free_below()
     ensures index_queue { (bound : Bound) → bound 2 1 1 < 10 → IsLockFree ℕ IndexQueue bound → ⊥ }
     ensures overflow { (bound : Bound) → bound 1 1 1 < 5 → IsLockFree ℕ Overflow bound → ⊥ }

@@ -1,4 +1,5 @@
--- What a turn of one party's call is to the whole machine.
+-- What a turn of one party's call is to the whole machine: which row refuses it, and that a turn taken on the
+-- parts leaves the machine as the model says.
 use Rattle.std.proofs.Common.{◌≡◌, ℕ, ◌+◌, ◌-◌, ◌^◌, ◌<◌, ◌≤◌, inl, inr, ⊎_elim, Bool, true, false, Option, Some, None}
 use Rattle.std.proofs.Common.{is_some, Bor, nat_le, List, refl, sym, ap, ◌∙◌, arith}
 use Rattle.std.proofs.lemmas.Bool.Decides.{nat_tests}
@@ -20,7 +21,8 @@ use Rattle.model.specs.World.{World, flight_in}
 use Rattle.machine_parts.specs.Parts.{turn_rows, going_refusal, IsGoingRefusal, Around, after_turn_of}
 
 module _ {T : Type 0} (w : World T) (p : ℕ) (said : Option Bool) where
-  -- what is tested of the turn, once its party is there
+  -- a turn of a party that the machine has, before its turns are used up, is refused by the rows of the
+  -- party's call alone
   rows_left : w.turns < 2 ^ 64 - 2 → p < w.parties
       → refusal_of w (turn_of p said) ≡ first_row (turn_rows w.coding w.kept (flight_of (doing_of (party_of p w.latest))) said)
   rows_left small within = go said
@@ -35,10 +37,13 @@ module _ {T : Type 0} (w : World T) (p : ℕ) (said : Option Bool) where
       go None = rw (early, there) refl
       go (Some b) = rw (early, there) refl
 
+  -- a turn of a party that has begun a call is refused as the rows of that call refuse it
   pub refusal_is : (x : Party T) → w.turns < 2 ^ 64 - 2 → p < w.parties → party_of p w.latest ≡ Some x
       → refusal_of w (turn_of p said) ≡ going_refusal w.coding w.kept x.doing said
   refusal_is x small within found = rows_left small within ∙ ap (λ o. first_row (turn_rows w.coding w.kept (flight_of (doing_of o)) said)) found
 
+  -- a refusal that names a row of the party's call, or refused memory where no row applies, is a refusal of
+  -- the turn by the machine
   pub is_refusal : (x : Party T) (r : Refusal) → w.turns < 2 ^ 64 - 2 → p < w.parties → party_of p w.latest ≡ Some x
       → IsGoingRefusal w.coding w.kept x.doing said r → IsRefusal w (turn_of p said) r
   is_refusal x r small within found is_going_refusal =
@@ -76,7 +81,7 @@ module _ {T : Type 0} (w : World T) (p : ℕ) (said : Option Bool) where
       go (Going flight since) same_doing None e = rw is (rw (same_doing, e) (rw (found, same_doing) refl))
       go (Going flight since) same_doing (Some b) e = rw is (rw (same_doing, e) (rw (found, same_doing) refl))
 
--- a turn that begins a call passes where the family's own rows do
+-- a turn that begins a call is not refused where none of the family's own rows applies
 pub begin_passes : {T : Type 0} (w : World T) (p : ℕ) (start : Start T) → w.turns < 2 ^ 64 - 2 → p < w.parties
     → is_some (flight_in w p) ≡ false → first_row (begin_rows w.kind w.capacity w.kept p start) ≡ None
     → refusal_of w (Begin p start) ≡ None
@@ -98,12 +103,13 @@ module _ {T : Type 0} (w : World T) (p : ℕ) (small : w.turns < 2 ^ 64 - 2) whe
   early : nat_le (2 ^ 64 - 2) w.turns ≡ false
   early = grind (arith, nat_tests)
 
-  -- a turn of no party
+  -- a call that begins for a party that the machine does not have is refused as `NoParty`
   pub begins_nowhere : (start : Start T) → w.parties ≤ p → refusal_of w (Begin p start) ≡ Some NoParty
   begins_nowhere start beyond =
       let there : nat_le w.parties p ≡ true = grind (arith, nat_tests) in
       rw (early, there) refl
 
+  -- a turn of a party that the machine does not have is refused as `NoParty`
   pub goes_on_nowhere : (said : Option Bool) → w.parties ≤ p → refusal_of w (turn_of p said) ≡ Some NoParty
   goes_on_nowhere said beyond = go said
     where
@@ -114,13 +120,13 @@ module _ {T : Type 0} (w : World T) (p : ℕ) (small : w.turns < 2 ^ 64 - 2) whe
       go None = rw (early, there) refl
       go (Some b) = rw (early, there) refl
 
-  -- a call that begins beside one under way
+  -- a call that begins for a party with a call under way is refused as `Busy`
   pub is_busy : (start : Start T) → p < w.parties → is_some (flight_in w p) ≡ true → refusal_of w (Begin p start) ≡ Some Busy
   is_busy start within taken =
       let there : nat_le w.parties p ≡ false = grind (arith, nat_tests) in
       rw (early, there, taken) refl
 
-  -- none that could go on
+  -- a turn of a party that has begun no call is refused as `Idle`
   pub is_idle : (said : Option Bool) → p < w.parties → party_of p w.latest ≡ None → refusal_of w (turn_of p said) ≡ Some Idle
   is_idle said within none = go said
     where
@@ -141,7 +147,7 @@ pub none_found : {A : Type 0} (o : Option (Bor A)) (found : Option A) → option
 none_found None found is e = ap is_some (sym is)
 none_found (Some x) found is e = absurd (cc)
 
--- a death passes where its rows do
+-- the death of an owner is not refused where none of its rows applies
 pub death_passes : {T : Type 0} (w : World T) (owner : ℕ) → w.turns < 2 ^ 64 - 2
     → lacks_party w.kept w.parties owner ≡ false → first_row (death_rows w.kept owner) ≡ None
     → refusal_of w (Die owner) ≡ None

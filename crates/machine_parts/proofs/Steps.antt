@@ -1,4 +1,5 @@
--- What several steps of one party's call, one after another, are to the whole machine.
+-- What n steps of one party's call, taken on the machine's parts, are to the whole machine: n turns of that
+-- party, none of which is refused.
 use Rattle.std.proofs.Common.{◌≡◌, ℕ, zero, suc, ◌+◌, ◌-◌, ◌^◌, ◌<◌, ◌≤◌, Some, None}
 use Rattle.std.proofs.Common.{List, [], ◌∷◌, ◌++◌, replicate, refl, sym, ap, ◌∙◌, subst, arith}
 use Rattle.std.proofs.lemmas.Bool.Decides.{nat_tests}
@@ -34,9 +35,11 @@ use Rattle.machine_parts.proofs.Going.{refusal_is, going_is}
 
 -- ---- a party written in its place
 
+-- a party's number compares as equal with itself
 at_itself : (p : ℕ) → nat_cmp p p ≡ Equal
 at_itself = grind (arith, nat_tests)
 
+-- of two parties written in the place of one number, the second one stands
 put_again : {X : Type 0} (p : ℕ) (x y : X) (es : List (ℕ × X))
     → insert_entry nat_cmp (insert_entry nat_cmp es p x) p y ≡ insert_entry nat_cmp es p y
 put_again p x y [] = rw (at_itself p) refl
@@ -53,10 +56,14 @@ put_again p x y (e ∷ es) = by (nat_cmp p e.0) refl (put_again p x y es)
 -- ---- counts stay small
 
 module _ {T : Type 0} where
+  -- where a step changes words `change` times, the counts of a call that goes on, or has ended, are still at
+  -- most the changes of all
   over_small : (changes since change : ℕ) (after : After (Flight T) (Answer T)) → since ≤ changes
       → HasSmallCount (changes + change) (doing_after (changes + change) (since + change) after)
   over_small = grind arith
 
+  -- a turn adds at most 1 to a party's steps, to its turns back and to the changes of words, so each is at
+  -- most the number of turns
   pub around_small : (code : Coding T) (p turns : ℕ) (a b : Around T) → HasSmallCounts turns a.changes a.party → a.changes ≤ turns
       → b ≡ after_turn_of code p None None a.party.doing a → HasSmallCounts (turns + 1) b.changes b.party × (b.changes ≤ turns + 1)
   around_small code p turns a b small few is = rw is (go a.party.doing small.doing)
@@ -79,6 +86,7 @@ module _ {T : Type 0} where
           let back = back_small (step_of code a.words None p a.party.start flight (answer_with code None a.words flight) a.kept).back in
           (record { steps = omega arith; backs = omega arith; doing = over_small a.changes since (change_of a.words ask) _ small_count }, omega arith)
 
+  -- before the first step none was taken
   pub none_taken : (code : Coding T) (p : ℕ) (a : Around T) → Steps code p 0 a a
   none_taken code p a = refl
 
@@ -94,6 +102,7 @@ module _ {T : Type 0} where
 
 -- w is the machine's world, p the party, x its latest call
 module _ {T : Type 0} (w : World T) (p : ℕ) (x : Party T) (events : List (Event T)) where
+  -- the machine from which the n steps are taken
   abbrev start : Trace T
   start = record { world = w; events = events }
 
@@ -106,12 +115,14 @@ module _ {T : Type 0} (w : World T) (p : ℕ) (x : Party T) (events : List (Even
         events = b.events;
       }
 
+  -- n turns of the party are not refused, and lead from the machine to the one with these parts
   abbrev Comes : ℕ → Around T → Type 0
   Comes n b = AreAllowed start (replicate n (Next p)) × (taken_to n b ≡ after_turns start (replicate n (Next p)))
 
   -- n steps of the party's call, taken on the parts, are n turns that go on with the call, none of which is refused
   pub steps_are : (n : ℕ) (b : Around T) → IsStrictlySortedBy nat_cmp (keys_of w.latest) → party_of p w.latest ≡ Some x → p < w.parties
       → w.turns + n ≤ 2 ^ 64 - 2 → Steps w.coding p n (around x w.words w.kept w.changes events) b → Comes n b
+  -- no step: no turn is taken, and the machine is the same
   steps_are zero b ordered found within small is =
       let same : put p x w.latest ≡ w.latest =
       sym (set_is_put p x x w.latest ordered found) ∙ set_value_same (is_at (nat_cmp p)) w.latest x found in
@@ -120,12 +131,14 @@ module _ {T : Type 0} (w : World T) (p : ℕ) (x : Party T) (events : List (Even
   steps_are (suc n) b ordered found within small (mid, before, alone, allowed, is) =
       let few : w.turns + n ≤ 2 ^ 64 - 2 = omega arith in
       let below : w.turns + n < 2 ^ 64 - 2 = omega arith in
+      -- the first n steps are n turns, after which the party is the one whose call they left
       let so_far = steps_are n mid ordered found within few before in
       let here : World T = (taken_to n mid).world in
       let there : party_of p here.latest ≡ Some mid.party = party_put_same p mid.party w.latest in
       let free : refusal_of here (Next p) ≡ None = refusal_is here p None mid.party below within there ∙ allowed in
       let beside : beside_of here.words here.kept here.latest p ≡ None = alone mid.words here.latest p in
       let later : w.turns + suc n ≡ w.turns + n + 1 = omega arith in
+      -- the last step, taken on the parts, is one turn more
       let goes : taken_to (suc n) b ≡ after_turn (taken_to n mid) (Next p) =
       ap (λ k. record {
         world = record w { words = b.words; kept = b.kept; latest = put p b.party w.latest; changes = b.changes; turns = k };

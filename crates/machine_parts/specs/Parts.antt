@@ -19,7 +19,7 @@ use Rattle.model.specs.Turns.{old_of, words_after, change_of, step_count, number
 use Rattle.model.specs.World.{Trace, State, trace_in}
 use Rattle.machine_parts.specs.declared.parts.Parts.{Parts}
 
--- what these parts hold
+-- the parts of a machine as the state of the model
 abbrev pub state_of : {T : Type 0} → Parts T → State T
 state_of m =
     record {
@@ -39,7 +39,8 @@ abbrev pub trace_of : {T : Type 0} → Coding T → Parts T → Trace T
 trace_of code m = trace_in code (state_of m)
 
 module _ {T : Type 0} where
-  -- what is tested of the call that is to go on, with a decision or without
+  -- The rows of refusals for the call that is to go on by a step (None) or by a decision: there is no call, a
+  -- decision is due or none is, and what its family forbids.
   abbrev pub turn_rows : Coding T → Registry T → Option (Flight T) → Option Bool → List (Bool × Refusal)
   turn_rows code kept flight None =
       (is_none flight, Idle) ∷ (is_due code flight, Undecided) ∷ going_rows code kept flight None
@@ -68,7 +69,8 @@ module _ {T : Type 0} where
   answer_with code None words flight = old_of words (ask_of (want_of code flight))
   answer_with code (Some said) words flight = number_of said
 
--- what a party's turn works on
+-- what a turn of a party's call reads and changes: the party, the words, what its family keeps, the number of
+-- changes and the events
 pub record Around (T : Type 0) : Type 0 where
   pub party : Party T
   pub words : List ℕ
@@ -77,7 +79,7 @@ pub record Around (T : Type 0) : Type 0 where
   pub events : List (Event T)
 
 module _ {T : Type 0} where
-  -- these as what a party's turn works on
+  -- the five parts of `Around`, put together
   abbrev pub around : Party T → List ℕ → Registry T → ℕ → List (Event T) → Around T
   around party words kept changes events =
       record {
@@ -88,7 +90,8 @@ module _ {T : Type 0} where
         events = events;
       }
 
-  -- what a step of the party's call leaves, which does this operation: the word is written, and what it tells is added
+  -- What is left after a step s of the party's call that does the operation `ask`: the word is written, the
+  -- changes and the party's counts are raised, and the events of the step are appended.
   abbrev after_going : ℕ → Option Ask → Party T → ℕ → Around T
       → Step (Flight T) (Registry T) T → Around T
   after_going p ask x since a s =
@@ -100,7 +103,7 @@ module _ {T : Type 0} where
         events = a.events ++ events_of_step p x.start s;
       }
 
-  -- what a party's turn makes of this; a call that is done stays
+  -- what is left after a turn of the party's call; a call that has ended changes nothing
   abbrev pub after_turn_of : Coding T → ℕ → Option Bool → Option (ℕ × ℕ) → Doing T → Around T
       → Around T
   after_turn_of code p said beside (Over others) a = a
@@ -109,11 +112,12 @@ module _ {T : Type 0} where
       (step_of code a.words beside p a.party.start flight
       (answer_with code said a.words flight) a.kept)
 
-  -- with this kept beside the words, no step of any party has to know what another party's call is about to do
+  -- in a family that keeps this beside the words, no step of any party can make another party's call act
   abbrev pub StandsAlone : Registry T → Type 0
   StandsAlone kept = (words : List ℕ) (latest : List (ℕ × Party T)) (p : ℕ) → beside_of words kept latest p ≡ None
 
-  -- n steps of the party's call lead from a to b, and none of them is refused or has to know of another party's call
+  -- n steps of the party's call lead from a to b: none of them is refused, and none can make
+  -- another party's call act
   abbrev pub Steps : Coding T → ℕ → ℕ → Around T → Around T → Type 0
   Steps code p zero a b = b ≡ a
   Steps code p (suc n) a b =

@@ -23,9 +23,11 @@ use steps::words::Words;
 use turns::party::flight_of;
 use turns::{families, words};
 
-/// As many turns as a machine takes.
+/// The greatest number of turns that a machine takes.
 const MOST_TURNS: u64 = u64::MAX - 1;
 
+/// What a machine keeps: its kind, capacity and parties, its words, what its family keeps beside them, each
+/// party's latest call, how often words were changed, how many turns were taken, and the events.
 pub struct Parts<T> {
     pub kind: Kind,
     pub capacity: u32,
@@ -38,8 +40,8 @@ pub struct Parts<T> {
     pub events: Vec<Event<T>>,
 }
 
-// A drop by hand is one call in a caller's proof, on each way out. One that is derived is as many as it has fields
-// below.
+// This drop is written by hand, so that it is one call in a caller's proof, on each way out of the caller. A
+// derived one would be a call for each field, and for the fields of each.
 impl<T: Drop> Drop for Parts<T> {
     fn drop(self) {
         let Self {
@@ -56,29 +58,30 @@ impl<T: Drop> Drop for Parts<T> {
     }
 }
 
-/// The answer that stands for a decision.
+/// The answer that a call is handed for a decision: 1 for yes, 0 for no.
 fn number_of(said: bool) -> u64
     ensures { result ≡ number_of said }
 {
     if said { 1 } else { 0 }
 }
 
-/// What a turn back counts.
+/// What a step adds to the count of turns back: 1 where the call begins a turn of its loop again, else 0.
 fn one_if(back: bool) -> u64
     ensures { result ≡ one_if back }
 {
     if back { 1 } else { 0 }
 }
 
-/// The seat has this party now.
+/// Puts this party into the seat.
 fn reseat<T: Words>(seat: &mut Seat<T>, party: Party<T>)
     ensures { seat.new ≡ party }
 {
     *seat.party = party;
 }
 
-/// The party's latest call is this one, and its family keeps what it keeps from its begin on, unless memory for one of
-/// them is refused. Then nothing changes. A party that has begun before takes no more memory for itself.
+/// Makes this call the party's latest, and notes what its family keeps from its begin on. Answers false where
+/// memory for one of them is refused, and nothing changes then. A party that has begun a call before takes no
+/// more memory for itself.
 #[tactic(auto, using(model::proofs::Parties::put_removed))]
 fn enter<T: Words>(
     alloc: Global,
@@ -115,15 +118,16 @@ fn enter<T: Words>(
     false
 }
 
-/// The party's call is done, and others made so many changes since it began. It stands by itself since its flight ends
-/// here, in one of many ways.
+/// Ends the party's call, since whose begin others made `others` changes. A function of its own, since it
+/// drops the call's flight, which has many variants.
 fn finish<T: Words>(party: &mut Party<T>, others: u64)
     ensures { party.new ≡ record party.old { doing = Over others } }
 {
     party.doing = Doing::Over(others);
 }
 
-/// The party's call takes its step, or is handed a decision, unless it is refused.
+/// Takes the next step of the party's call, or hands it the decision `said`, unless the turn is refused. A
+/// refused turn changes nothing.
 #[inline(always)]
 fn take_step<T: Words>(
     party: &mut Party<T>,
@@ -195,7 +199,8 @@ fn take_step<T: Words>(
     Ok(())
 }
 
-/// Whether a step has to know of the others.
+/// Whether a step of this family may make another party's call act, so that the calls of others
+/// have to be looked at.
 fn looks_beside<T>(kept: &Registry<T>) -> bool
     ensures { result ≡ false → StandsAlone kept.now }
 {
@@ -205,8 +210,8 @@ fn looks_beside<T>(kept: &Registry<T>) -> bool
     }
 }
 
-/// Takes steps of the party's call, one after another, while none of them has to know of the others. How many it took,
-/// of so many: it stops at the first that is refused.
+/// Takes up to `most` steps of the party's call, and answers how many: it stops at the first that is refused.
+/// It takes none in a family whose steps may make another party's call act.
 fn take_steps<T: Words>(
     party: &mut Party<T>,
     number: u32,
@@ -247,7 +252,7 @@ fn take_steps<T: Words>(
     most
 }
 
-/// The parts of a machine that opens with these words, and with this beside them. Nothing has happened.
+/// The parts of a machine that opens with these words and with this beside them, before any turn.
 fn made<T>(
     alloc: Global,
     kind: Kind,
@@ -282,7 +287,7 @@ fn made<T>(
 }
 
 impl<T: Words> Parts<T> {
-    /// The parts of a machine of this shape in which nothing has happened.
+    /// The parts of a machine of this shape before any turn, or why the shape is refused.
     pub fn new(
         alloc: Global,
         shape: Shape,
@@ -305,7 +310,7 @@ impl<T: Words> Parts<T> {
         Ok(made(alloc, kind, capacity, parties, words, kept))
     }
 
-    /// The party begins this call, unless that is refused.
+    /// The turn `Begin`: the party begins this call, unless that is refused.
     fn begin(&mut self, number: u32, start: Start<T>) -> Result<(), Refusal>
         requires { self.old.turns < 2 ^ 64 - 2 }
         ensures allowed { OnOk result
@@ -350,7 +355,8 @@ impl<T: Words> Parts<T> {
         Ok(())
     }
 
-    /// The party's call takes its step, or is handed a decision, unless that is refused.
+    /// The turn `Next`, or with `said` the turn `Decide`: the party's call takes its step, or is handed the
+    /// decision, unless that is refused.
     fn resume(&mut self, number: u32, said: Option<bool>) -> Result<(), Refusal>
         requires turns { self.old.turns < 2 ^ 64 - 2 }
         requires small { IsSmall (trace_of (coding_by T.Words) self.old).world }
@@ -392,7 +398,7 @@ impl<T: Words> Parts<T> {
         }
     }
 
-    /// The owner dies, unless that is refused.
+    /// The turn `Die`: the owner dies, unless that is refused.
     fn die(&mut self, owner: OwnerId) -> Result<(), Refusal>
         requires { self.old.turns < 2 ^ 64 - 2 }
         ensures allowed { OnOk result
@@ -421,7 +427,7 @@ impl<T: Words> Parts<T> {
         Ok(())
     }
 
-    /// One turn.
+    /// Takes one turn, or says why it is refused. A refused turn changes nothing.
     pub fn step(&mut self, turn: Turn<T>) -> Result<(), Refusal>
         requires { IsSmall (trace_of (coding_by T.Words) self.old).world }
         ensures allowed { OnOk result
@@ -443,7 +449,8 @@ impl<T: Words> Parts<T> {
         }
     }
 
-    /// Steps of the party's call, one after another, some of so many or none. How many.
+    /// Takes up to `most` turns `Next` of the party, and answers how many. It may stop earlier, even before a
+    /// turn that is allowed.
     pub fn steps(&mut self, number: u32, most: u64) -> u64
         requires { IsSmall (trace_of (coding_by T.Words) self.old).world }
         ensures most { result ≤ most }

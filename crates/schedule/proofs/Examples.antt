@@ -1,4 +1,4 @@
--- The definitions, computed at worked schedules and at broken ones.
+-- The text of an output (`output_of`), computed for worked schedules and for malformed ones.
 use Rattle.std.proofs.Common.{◌≡◌, ℕ, false, List, [], ◌∷◌, Ok, Err, refl, true, codes}
 use Rattle.std.specs.Fmt.{digits}
 use Rattle.texts.specs.declared.error.Cause.TheVariants as causes
@@ -13,6 +13,7 @@ use Rattle.texts.specs.Grammar.{number_at, setup_of, begin_of, next_of, decision
 use Rattle.texts.specs.Print.{event_text, refusal_text}
 use Rattle.schedule.specs.Output.{Output, outcome, nexts, lines_from, machine_of, output_of_lines, output_of, stopped}
 
+-- the output that prints this text and ends well
 abbrev printed_whole : List ℕ → Output
 printed_whole text = record { text = text; end = Ok tt }
 
@@ -56,6 +57,7 @@ unfolding output_of_lines machine_of setup_of number_at lines_from command_of tu
     push_index next_of nexts outcome event_text digits
 peeked = refl
 
+-- an overflowing queue has no peek: the line is malformed
 no_peek : output_of (codes "overflow 1 1\n0 begin peek") [] ≡ stopped 2 causes.UnknownCall
 unfolding output_of_lines machine_of setup_of number_at lines_from command_of turn_of begin_of overflow_call any_queue_call
 no_peek = refl
@@ -160,6 +162,7 @@ too_many_slots : output_of (codes "loan 16777215 0 1") [] ≡ stopped 1 causes.P
 unfolding output_of_lines machine_of setup_of number_at
 too_many_slots = refl
 
+-- a loan channel whose submission queue has no place is refused
 no_room_to_send : output_of (codes "loan 1 0 1") [] ≡ stopped 1 causes.ProvidedCapacityIsZero
 unfolding output_of_lines machine_of setup_of number_at
 no_room_to_send = refl
@@ -171,7 +174,8 @@ unfolding output_of_lines machine_of setup_of number_at lines_from command_of tu
     next_of outcome event_text refusal_text digits
 short_turn = refl
 
--- it is to the third of several turns: the first two are printed, and the line is over
+-- memory is refused to the third of several turns: the events of the first two are printed,
+-- and the line is over
 short_of_several : output_of (codes "counts 3 1\n0 begin set 1\n0 next\n0 begin reset_all\n0 next 9\n0 next\n0 next\n0 next")
     (false ∷ false ∷ false ∷ false ∷ false ∷ true ∷ [])
     ≡ printed_whole (codes
@@ -194,6 +198,7 @@ unfolding output_of_lines machine_of setup_of number_at lines_from command_of tu
     push_index outcome refusal_text
 short_and_malformed = refl
 
+-- an empty text has no first line: a value is missing in line 1
 missing : output_of [] [] ≡ stopped 1 causes.MissingValue
 unfolding output_of_lines machine_of setup_of
 missing = refl
@@ -203,6 +208,7 @@ too_large : output_of (codes "index_queue 4294967296 1") [] ≡ stopped 1 causes
 unfolding output_of_lines machine_of setup_of number_at
 too_large = refl
 
+-- a word too many in the first line is malformed, whatever the capacity is
 extra : output_of (codes "index_queue 4294967296 1 x") [] ≡ stopped 1 causes.ExtraWords
 unfolding output_of_lines machine_of setup_of number_at
 extra = refl

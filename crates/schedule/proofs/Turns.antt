@@ -1,4 +1,4 @@
--- Turns, one and several, and the text that they print.
+-- The turns of one command, one or several: what they do to the machine and what text they print.
 use Rattle.std.proofs.Common.{◌≡◌, ◌≢◌, ◌⊎◌, inl, inr, ℕ, zero, suc, ◌+◌, ◌-◌, ◌<◌, ◌≤◌, Bool, true, false, not}
 use Rattle.std.proofs.Common.{Option, None, Some, is_none, Result, Ok, Err, OnOk, IfErr, List}
 use Rattle.std.proofs.Common.{[], ◌∷◌, ◌++◌, replicate, refl, sym, ap, ◌∙◌, subst, append_assoc, append-nil, length, take, drop, cond, arith}
@@ -29,25 +29,31 @@ use Rattle.schedule.proofs.Writing.{AppendsPart_more, part_within}
 
 -- ---- one turn
 
--- what stands behind the events that were there before
+-- of a list that is longer by `told`, what stands behind the old part is `told`
 pub events_behind : {X : Type 0} (old new told : List X) → new ≡ old ++ told → take (length new - length old) (drop (length old) new) ≡ told
 events_behind old new told e = take_rest new (length old) ∙ ap (drop (length old)) e ∙ drop_at old told (length old) refl
 
+-- the outcome of a turn that is taken: the world after it, and the text of its events
 abbrev taken_as : World ℕ → Turn ℕ → Outcome
 taken_as w turn = record { text = events_text (events_of w turn); is_taken = true; world = world_after w turn }
 
+-- the outcome of a turn that is refused: the same world, and the text of the refusal
 abbrev refused_as : World ℕ → Refusal → Outcome
 refused_as w refusal = record { text = refusal_text refusal; is_taken = false; world = w }
 
+-- a turn that the machine does not refuse, and to which memory is not refused, is taken
 outcome_taken : (w : World ℕ) (turn : Turn ℕ) → refusal_of w turn ≡ None → outcome false w turn ≡ taken_as w turn
 unfolding outcome
 outcome_taken w turn e = ap (λ r. outcome_as w turn (refusal_where false r)) e
 
+-- a refusal of the turn, by the machine or for want of memory, is the outcome of the turn
 outcome_refused : (w : World ℕ) (turn : Turn ℕ) (refusal : Refusal) → IsRefusal w turn refusal → (short : Bool) × (outcome short w turn ≡ refused_as w refusal)
 unfolding outcome
 outcome_refused w turn refusal (inl e) = (false, ap (λ r. outcome_as w turn (refusal_where false r)) e)
 outcome_refused w turn refusal (inr (e, same)) = (true, ap (λ r. outcome_as w turn (refusal_where true r)) e ∙ ap (refused_as w) (sym same))
 
+-- a turn that was taken and whose events were written, or a beginning of them where the write failed, is a
+-- turn as `IsTurn` says
 pub taken_told : (w new : World ℕ) (turn : Turn ℕ) (b a : Option (List ℕ)) (r : Result (Unit {0}) ScheduleError) → refusal_of w turn ≡ None
     → new ≡ world_after w turn → Writes b a r (events_text (events_of w turn)) → (short : Bool) × IsTurn (outcome short w turn) new b a r
 taken_told w new turn b a (Ok u) e same p = (false, subst (λ o. IsTurn o new b a (Ok u)) (sym (outcome_taken w turn e)) (same, p))
@@ -65,16 +71,19 @@ refused_told w new turn b a refusal (Err error) e same p =
 
 -- ---- several turns
 
+-- the state of a schedule: the machine's world, and to which of the next turns memory is refused
 abbrev pub at : World ℕ → List Bool → State
 at w refusals = record { world = w; refusals = refusals }
 
+-- this text was printed, and this state reached
 abbrev pub as_printed : State → List ℕ → Printed
 as_printed s text = record { text = text; state = s }
 
+-- a text printed before what another text is printed before is printed before both
 after_text-after_text : (s t : List ℕ) (p : Printed) → after_text s (after_text t p) ≡ after_text (s ++ t) p
 after_text-after_text s t p = ap (as_printed p.state) (sym (append_assoc s t p.text))
 
--- where the party's call goes on, the text of the turn comes before that of the others
+-- where the party's call goes on, the text of the turn comes before that of the turns behind it
 nexts_going : (left party : ℕ) (w : World ℕ) (short : Bool) (more : List Bool) → goes_on party (outcome short w (Next party)) ≡ true
     → nexts (suc left) party (at w (short ∷ more))
     ≡ after_text (outcome short w (Next party)).text (nexts left party (at (outcome short w (Next party)).world more))
@@ -91,6 +100,7 @@ nexts_ending left party w short more e =
     let o = outcome short w (Next party) in
     ap (λ g. cond g (after_text o.text (nexts left party (at o.world more))) (printed o more)) e
 
+-- zero turns print nothing and leave the state as it is
 nexts_none : (party : ℕ) (s : State) → nexts 0 party s ≡ as_printed s []
 unfolding nexts
 nexts_none party s = refl
@@ -109,33 +119,37 @@ one_ending left p w more e ending =
     let same = outcome_taken w (Next p) e in
     nexts_ending left p w false more (ap (goes_on p) same ∙ ending) ∙ ap (λ (o : Outcome). printed o more) same
 
--- a call whose next turn is not refused goes on
+-- a call that is under way and is due no decision goes on by a turn `Next`
 goes_where : (code : Coding ℕ) (o : Option (Flight ℕ)) → is_none o ≡ false → is_due code o ≡ false → goes code o ≡ true
 goes_where code None e due = absurd (cc)
 goes_where code (Some flight) e due = ap not due
 
+-- a party whose turn `Next` is not refused has a call that goes on by such a turn
 allowed_going : (w : World ℕ) (p : ℕ) → refusal_of w (Next p) ≡ None → is_going w p ≡ true
 allowed_going w p e =
     let begun = row_passed (is_none (flight_in w p)) Idle _ (passes w (Next p) e).on in
     let free = row_passed (is_due w.coding (flight_in w p)) Undecided _ begun.1 in
     goes_where w.coding (flight_in w p) begun.0 free.0
 
--- what is done behind so many turns, of which the last may have ended the call
+-- what the turns behind the first n ones print: nothing where one of the n has ended the call, and otherwise
+-- what they print as the call goes on
 abbrev pub left_over : ℕ → World ℕ → ℕ → ℕ → List Bool → Printed
 left_over zero now p left more = nexts left p (at now more)
 left_over (suc taken) now p left more = cond (is_going now p) (nexts left p (at now more)) (as_printed (at now more) [])
 
--- so many turns were taken, and wrote this down
+-- n turns of the party were taken, led from the world `old` to `now`, and wrote these events
 abbrev pub Taken : ℕ → ℕ → World ℕ → World ℕ → List (Event ℕ) → Type 0
 Taken taken p old now told =
     (left : ℕ) (more : List Bool) → nexts (taken + left) p (at old (replicate taken false ++ more))
     ≡ after_text (events_text told) (left_over taken now p left more)
 
+-- zero turns lead from a world to itself, and write nothing
 after_nothing : (p : ℕ) (w : World ℕ) → Taken 0 p w w []
 after_nothing p w left more =
     let none : 0 + left ≡ left = omega arith in
     ap (λ n. nexts n p (at w more)) none
 
+-- one turn that is not refused was taken
 after_one : (p : ℕ) (w : World ℕ) → refusal_of w (Next p) ≡ None → Taken 1 p w (world_after w (Next p)) (events_of w (Next p))
 after_one p w e left more =
     let one : 1 + left ≡ suc left = omega arith in
@@ -161,7 +175,8 @@ after_more n p w now told e going taken left more =
     ∙ after_text-after_text (events_text first) (events_text told) (left_over (suc n) now p left more)
     ∙ ap (λ text. after_text text (left_over (suc n) now p left more)) (sym (flat_map-append event_text first told))
 
--- so many allowed turns write down what the machine's history has more
+-- n turns of the party that are not refused write, as text, the events that the machine's
+-- history has more after them
 pub taken_is : (n p : ℕ) (t : Trace ℕ) → AreAllowed t (replicate n (Next p))
     → (told : List (Event ℕ)) × ((after_turns t (replicate n (Next p))).events ≡ t.events ++ told)
     × Taken n p t.world (after_turns t (replicate n (Next p))).world told
@@ -177,6 +192,7 @@ taken_is (suc (suc n)) p t (e, all) =
 
 -- ---- what they print
 
+-- where no turn is left, nothing more is printed
 none_left : (n p : ℕ) (now : World ℕ) (more : List Bool) → left_over n now p 0 more ≡ as_printed (at now more) []
 none_left zero p now more = nexts_none p (at now more)
 none_left (suc n) p now more = by (is_going now p)
@@ -185,12 +201,13 @@ none_left (suc n) p now more = by (is_going now p)
     by true = nexts_none p (at now more)
     by false = refl
 
--- the next turn is tried: none was taken, or the call goes on
+-- where no turn was taken yet, or the call goes on after those that were taken, the next turn is tried
 goes_over : (n p left : ℕ) (now : World ℕ) (more : List Bool) → (n ≡ 0) ⊎ (is_going now p ≡ true) → left_over n now p left more ≡ nexts left p (at now more)
 goes_over zero p left now more h = refl
 goes_over (suc n) p left now more (inl none) = absurd (omega arith)
 goes_over (suc n) p left now more (inr going) = ap (λ b. cond b (nexts left p (at now more)) (as_printed (at now more) [])) going
 
+-- where a turn was taken and the call does not go on after it, no further turn is tried
 stops_over : (n p left : ℕ) (now : World ℕ) (more : List Bool) → n ≢ 0 → is_going now p ≡ false → left_over n now p left more ≡ as_printed (at now more) []
 stops_over zero p left now more some ending = absurd (some refl)
 stops_over (suc n) p left now more some ending = ap (λ b. cond b (nexts left p (at now more)) (as_printed (at now more) [])) ending
@@ -204,7 +221,7 @@ refused_over p left now refusal is =
       λ more. nexts_ending left p now r.0 more (ap (goes_on p) r.1) ∙ ap (λ (o : Outcome). printed o more) r.1,
     )
 
--- all turns were taken
+-- all turns of the command were taken: their events are what it prints
 pub all_taken : (most p : ℕ) (old now : World ℕ) (told : List (Event ℕ)) (b a : Option (List ℕ)) → Taken most p old now told
     → Appends b a (events_text told) → Prints (nexts most p) old now b a (Ok tt)
 all_taken most p old now told b a taken q =
@@ -217,7 +234,8 @@ all_taken most p old now told b a taken q =
       q,
     )
 
--- the call ended before
+-- the call ended before the command's turns were over: the events of the turns that were
+-- taken are what it prints
 pub call_ended : (most n p : ℕ) (old now : World ℕ) (told : List (Event ℕ)) (b a : Option (List ℕ)) → n < most → n ≢ 0 → is_going now p ≡ false
     → Taken n p old now told → Appends b a (events_text told) → Prints (nexts most p) old now b a (Ok tt)
 call_ended most n p old now told b a below some ending taken q =
@@ -253,7 +271,7 @@ next_refused most n p old now told refusal b m a below goes taken is q r =
     let leads = refused_leads most n p old now told refusal below goes taken is in
     (leads.0, events_text told ++ refusal_text refusal, leads.1, Appends-trans b m a (events_text told) (refusal_text refusal) q r)
 
--- a write failed
+-- a write of the events failed: what was written is a beginning of what the command prints
 pub events_failed : (most n p : ℕ) (old now : World ℕ) (told : List (Event ℕ)) (b a : Option (List ℕ)) → n ≤ most → Taken n p old now told
     → AppendsPart b a (events_text told) → (refusals : List Bool) × AppendsPart b a (nexts most p (at old refusals)).text
 events_failed most n p old now told b a within taken q =
@@ -276,7 +294,8 @@ refusal_failed most n p old now told refusal b m a below goes taken is q r =
           (append-nil (events_text told ++ refusal_text refusal) ∙ sym (ap (λ (p : Printed). p.text) (leads.1 []))),
     )
 
--- where the next turn is refused, the command prints so, whether the write succeeds or fails
+-- where the next turn is refused, the command prints the events and the refusal, or a beginning of them where
+-- the write of the refusal fails
 pub refused_prints : (most n p : ℕ) (old now : World ℕ) (told : List (Event ℕ)) (refusal : Refusal) (b m a : Option (List ℕ))
     (r : Result (Unit {0}) ScheduleError) → n < most → (n ≡ 0) ⊎ (is_going now p ≡ true) → Taken n p old now told → IsRefusal now (Next p) refusal
     → Appends b m (events_text told) → Writes m a r (refusal_text refusal) → Prints (nexts most p) old now b a r
@@ -288,7 +307,8 @@ refused_prints most n p old now told refusal b m a (Err e) below goes taken is q
 
 -- ---- as a machine answers them
 
--- so many turns led from one machine to the other
+-- at most `most` turns of the party led from the trace t to the trace u, and `told` are the
+-- events that they wrote
 pub record Ran (most p : ℕ) (t u : Trace ℕ) : Type 0 where
   pub taken : ℕ
   pub within : taken ≤ most
@@ -296,12 +316,14 @@ pub record Ran (most p : ℕ) (t u : Trace ℕ) : Type 0 where
   pub events : u.events ≡ t.events ++ told
   pub is : Taken taken p t.world u.world told
 
+-- n turns that are not refused lead from the trace t to the trace u: the events that they wrote, which stand
+-- behind the older ones
 pub ran_of : (most n p : ℕ) (t u : Trace ℕ) → n ≤ most → AreAllowed t (replicate n (Next p)) → u ≡ after_turns t (replicate n (Next p))
     → (told : List (Event ℕ)) × (u.events ≡ t.events ++ told) × Taken n p t.world u.world told
 ran_of most n p t u within all is =
     subst (λ (v : Trace ℕ). (told : List (Event ℕ)) × (v.events ≡ t.events ++ told) × Taken n p t.world v.world told) (sym is) (taken_is n p t all)
 
--- what a machine answers to so many turns says how many it took and what they wrote
+-- from what `nexts` of a machine answers, how many turns it took and which events they wrote
 pub ran_is : (most p : ℕ) (t u : Trace ℕ) (r : Result (Unit {0}) Stopped) → OnOk r (AreAllowed t (replicate most (Next p)))
     → OnOk r (u ≡ after_turns t (replicate most (Next p))) → IfErr r (λ stopped. stopped.taken < most)
     → IfErr r (λ stopped. AreAllowed t (replicate stopped.taken (Next p)))

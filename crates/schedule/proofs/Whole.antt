@@ -1,4 +1,4 @@
--- A whole text, and a whole run.
+-- The output of a whole text, by its first line and the lines behind it, and the run over it.
 use Rattle.std.proofs.Common.{◌≡◌, ◌⊎◌, inl, inr, ℕ, ◌≤◌, ◌==◌, Bool, Option, Some, None, Result, Ok, Err, List, [], ◌∷◌, sym, ap, ◌∙◌, subst}
 use Rattle.std.proofs.Common.{append-nil, length, arith, IfSome, IfErr}
 use Rattle.std.specs.Io.KnownBytes.{Appends, Keeps}
@@ -28,41 +28,52 @@ few_lines input first rest e =
 
 -- ---- the first line
 
+-- a text whose first line is malformed ends with that line and its cause, and nothing is written
 stops : (input : List ℕ) (b : Option (List ℕ)) (cause : Cause) → output_of input [] ≡ stopped 1 cause
     → IsOutput (output_of input) b b (Err (Malformed 1 cause))
 stops input b cause e = ([], ap (λ o. o.end) e, subst (Appends b b) (sym (ap (λ o. o.text) e)) (Appends-nil b))
 
+-- a text without a line ends with a value missing in line 1
 pub text_missing : (input : List ℕ) (b : Option (List ℕ)) → lines input ≡ [] → IsOutput (output_of input) b b (Err (Malformed 1 MissingValue))
 unfolding output_of_lines
 text_missing input b e = stops input b MissingValue (ap (output_of_lines []) e)
 
+-- what a text does by what its first line was read as: it stops with the cause, or opens the machine and does
+-- the lines behind it
 abbrev first_as : List (List ℕ) → List Bool → Result Setup Cause → Output
 first_as rest refusals read = elim read [ Err cause ↦ stopped 1 cause | Ok setup ↦ lines_from (kind_in setup.shape) 2 rest (opened setup refusals) ]
 
+-- a text with a first line does what that line was read as
 first_read : (input first : List ℕ) (rest : List (List ℕ)) (refusals : List Bool) → lines input ≡ first ∷ rest
     → output_of input refusals ≡ first_as rest refusals (machine_of (words first))
 unfolding output_of_lines
 first_read input first rest refusals e = ap (output_of_lines refusals) e
 
+-- where the first line names no machine, the output ends with its cause and nothing is written
 pub text_malformed : (input first : List ℕ) (rest : List (List ℕ)) (b : Option (List ℕ)) (cause : Cause) → lines input ≡ first ∷ rest
     → machine_of (words first) ≡ Err cause → IsOutput (output_of input) b b (Err (Malformed 1 cause))
 text_malformed input first rest b cause e read = stops input b cause (first_read input first rest [] e ∙ ap (first_as rest []) read)
 
 -- a capacity is tested once the line is read, as its machine is made
 
+-- a machine that was read, with its capacity tested
 abbrev tested : Result Setup Cause → Result Setup Cause
 tested read = read >>= λ setup. admitted setup (capacity_cause (setup_error setup))
 
+-- the machine of a line is the one that was read, with its capacity tested
 read_so : (ws : List (List ℕ)) (read : Result Setup Cause) → setup_of ws ≡ read → machine_of ws ≡ tested read
 unfolding machine_of
 read_so ws read is = ap tested is
 
+-- where the machine that was read has a capacity that is admitted, it is the machine of the line
 pub first_admitted : (ws : List (List ℕ)) (setup : Setup) → setup_of ws ≡ Ok setup → setup_error setup ≡ None → machine_of ws ≡ Ok setup
 first_admitted ws setup is none = read_so ws (Ok setup) is ∙ ap (λ o. admitted setup (capacity_cause o)) none
 
+-- where the words name no machine, the line has none, for the same cause
 pub first_malformed : (ws : List (List ℕ)) (cause : Cause) → setup_of ws ≡ Err cause → machine_of ws ≡ Err cause
 first_malformed ws cause is = read_so ws (Err cause) is
 
+-- where the capacity is not admitted, the line has no machine
 first_refused : (ws : List (List ℕ)) (setup : Setup) (cause : Cause) → setup_of ws ≡ Ok setup → capacity_cause (setup_error setup) ≡ Some cause
     → machine_of ws ≡ Err cause
 first_refused ws setup cause is refused = read_so ws (Ok setup) is ∙ ap (admitted setup) refused
@@ -78,7 +89,7 @@ text_unopened input first rest b setup e split read (inr (cause, refused, is)) =
 
 -- ---- the other lines
 
--- what is said of an output holds of one that is the same for each list
+-- an output that is the same as another for each list of refusals has what is said of that other one
 same_output : (one other : List Bool → Output) → ((refusals : List Bool) → one refusals ≡ other refusals)
     → (b a : Option (List ℕ)) (r : Result (Unit {0}) ScheduleError)
     → IsOutput one b a r → IsOutput other b a r
@@ -103,9 +114,11 @@ text_lines input first rest setup kind w b a r e read named same p =
 
 -- ---- what the writer kept back
 
+-- all of a text was written, of which the writer kept a part back: a beginning of the text was written
 kept_part : (b m a : Option (List ℕ)) (text : List ℕ) → Appends b m text → Keeps m a → AppendsPart b a text
 kept_part b m a text p q = (text, [], append-nil text, Appends-kept b m a text p q)
 
+-- the whole text was done, and the writer wrote the rest out or failed to: the run is as `IsRun` says
 pub flushed_end : (known b m a : Option (List ℕ)) (input : List ℕ) (r : Result (Unit {0}) ScheduleError) → IfSome known (λ bytes. bytes ≡ input)
     → IsOutput (output_of input) b m (Ok tt) → Keeps m a → IfErr r (λ e. e ≡ WriteFailed) → IsRun known b a r
 flushed_end known b m a input (Ok u) read p q failed = (input, read, (p.0, p.1, Appends-kept b m a _ p.2 q))

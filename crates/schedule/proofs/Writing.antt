@@ -1,4 +1,4 @@
--- What a writer holds after one text, and then another.
+-- What a writer holds once one text and then another were written to it, whole or in part.
 use Rattle.std.proofs.Common.{◌≡◌, ℕ, List, [], ◌++◌, Option, refl, sym, ap, ◌∙◌, append_assoc, take, drop, take-append-drop, subst, length, get_or, ◌+◌, ◌<◌}
 use Rattle.std.specs.Io.KnownBytes.{Appends, Keeps}
 use Rattle.std.proofs.KnownBytes.{Appends-trans, Appends-nil, Appends-kept}
@@ -7,14 +7,15 @@ use Rattle.model.specs.declared.event.Event.{Event}
 use Rattle.texts.specs.Print.{event_text, events_text}
 use Rattle.schedule.specs.Written.{AppendsPart}
 
--- all of a first text was written, and a beginning of what follows it
+-- all of a first text was written and a beginning of a second one: together a beginning of both
 pub AppendsPart_then : (a b c : Option (List ℕ)) (done text : List ℕ) → Appends a b done → AppendsPart b c text → AppendsPart a c (done ++ text)
 AppendsPart_then a b c done text p q = (done ++ q.0, q.1, append_assoc done q.0 q.1 ∙ ap (λ t. done ++ t) q.2, Appends-trans a b c done q.0 p q.3)
 
--- a beginning of a beginning
+-- a beginning of a text is a beginning of a longer one
 pub AppendsPart_more : (a b : Option (List ℕ)) (text more : List ℕ) → AppendsPart a b text → AppendsPart a b (text ++ more)
 AppendsPart_more a b text more q = (q.0, q.1 ++ more, sym (append_assoc q.0 q.1 more) ∙ ap (λ t. t ++ more) q.2, q.3)
 
+-- a writer that has grown by nothing has grown by a beginning of any text
 pub AppendsPart_nil : (a : Option (List ℕ)) (text : List ℕ) → AppendsPart a a text
 AppendsPart_nil a text = ([], text, refl, Appends-nil a)
 
@@ -29,11 +30,13 @@ wrote_more a b c bytes part left new_left count e p q f = (
   Appends-trans a b c part (take count left) p q,
 )
 
+-- a write that failed: what was written so far, and what is left, are still all the bytes
 pub wrote_none : (a b c : Option (List ℕ)) (bytes part left new_left : List ℕ) → part ++ left ≡ bytes → Appends a b part
     → Keeps b c → new_left ≡ left → (all : List ℕ) × (all ++ new_left ≡ bytes) × Appends a c all
 wrote_none a b c bytes part left new_left e p q f = (part, ap (λ t. part ++ t) f ∙ e, Appends-kept a b c part p q)
 
--- a beginning of a text in the middle of a whole
+-- all of one text was written, then a beginning of a second one: together a beginning of each whole that
+-- begins with both
 pub part_within : (a b c : Option (List ℕ)) (written text more whole : List ℕ) → Appends a b written → AppendsPart b c text
     → written ++ text ++ more ≡ whole → AppendsPart a c whole
 part_within a b c written text more whole p q e =
@@ -41,7 +44,8 @@ part_within a b c written text more whole p q e =
 
 -- ---- the lines of events
 
--- the line of the next event is written
+-- once the line of the next event is written, what is written and the lines that are left are still those of
+-- all the events
 pub events_more : (events : List (Event ℕ)) (at : ℕ) (event : Event ℕ) (written text : List ℕ) → at < length events
     → written ++ events_text (drop at events) ≡ events_text events → text ≡ event_text (get_or events at event)
     → written ++ text ++ events_text (drop (at + 1) events) ≡ events_text events

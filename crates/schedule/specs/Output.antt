@@ -57,8 +57,8 @@ outcome short w turn = outcome_as w turn (refusal_where short (refusal_of w turn
 
 -- ---- several turns
 
--- For each turn to come the list says whether memory is
--- refused to it. Past the list's end it is not.
+-- The state of a schedule between two turns: the machine's world, and for each turn to come whether memory is
+-- refused to it. Past the list's end memory is refused to no turn.
 pub record State : Type 0 where
   pub world : World ℕ
   pub refusals : List Bool
@@ -95,7 +95,8 @@ printed o refusals =
 abbrev pub goes_on : ℕ → Outcome → Bool
 goes_on party o = o.is_taken && is_going o.world party
 
--- up to so many turns of a party's call
+-- what up to `most` turns `Next` of a party's call print, and the state after them: they end with one that is
+-- refused or after which the call does not go on by itself
 unfoldable pub nexts : ℕ → ℕ → State → Printed
 nexts zero party s = record { text = []; state = s }
 nexts (suc most) party s =
@@ -105,7 +106,7 @@ nexts (suc most) party s =
     (nexts most party (record { world = o.world; refusals = later s.refusals }))
     else printed o (later s.refusals)
 
--- what a command prints: of one turn, or of up to so many turns of one party
+-- what a command prints: of one turn, or of up to a number of turns `Next` of one party
 abbrev pub commanded : Command → State → Printed
 commanded (Once turn) s = printed (next_outcome s turn) (later s.refusals)
 commanded (Times party most) s = nexts most party s
@@ -125,7 +126,7 @@ stopped number cause = record { text = []; end = Err (number, cause) }
 abbrev pub before : List ℕ → Output → Output
 before text o = record { text = text ++ o.text; end = o.end }
 
--- the lines from this number on; an empty line says nothing
+-- the output of these lines, of which the first has this number; an empty line prints nothing
 unfoldable pub lines_from : Kind → ℕ → List (List ℕ) → State → Output
 lines_from kind number [] s = record { text = []; end = Ok tt }
 lines_from kind number ([] ∷ lines) s = lines_from kind (number + 1) lines s
@@ -154,6 +155,8 @@ admitted setup (Some cause) = Err cause
 abbrev pub setup_error : Setup → Option UniqueIndexCreationError
 setup_error setup = shape_error setup.shape
 
+-- the machine that the words of a first line ask for, or why they are malformed or their
+-- capacity is not admitted
 unfoldable pub machine_of : List (List ℕ) → Result Setup Cause
 machine_of ws = do
   setup ← setup_of ws
@@ -167,6 +170,7 @@ trace_of setup = opening_as two_words setup.shape setup.parties
 abbrev pub opened : Setup → List Bool → State
 opened setup refusals = record { world = (trace_of setup).world; refusals = refusals }
 
+-- the output of these lines, where the list says to which turns memory is refused
 unfoldable pub output_of_lines : List Bool → List (List ℕ) → Output
 output_of_lines refusals [] = stopped 1 causes.MissingValue
 output_of_lines refusals (first ∷ lines) =
@@ -175,7 +179,7 @@ output_of_lines refusals (first ∷ lines) =
       | Ok setup ↦ lines_from (kind_in setup.shape) 2 lines (opened setup refusals)
     ]
 
--- The output for these bytes, where memory is refused to each turn of which the list says so and that nothing else
--- refuses. With the empty list it is refused to none.
+-- The output of these bytes. The list says for each turn whether memory is refused to it where nothing else
+-- refuses it; past its end memory is refused to no turn.
 abbrev pub output_of : List ℕ → List Bool → Output
 output_of input refusals = output_of_lines refusals (lines input)

@@ -44,9 +44,9 @@ IsUnopened setup e =
     (e ≡ errors.NoMemory)
     ⊎ (cause : Cause) × (capacity_cause (setup_error setup) ≡ Some cause) × (e ≡ errors.Malformed 1 cause)
 
--- The run ended as the output does, and its text was written. After a failed write
--- it was a beginning of the text, and where there was no memory for the machine,
--- nothing. All was read before. The list says to which turns memory was refused.
+-- The run ended as the output f of some list of refusals of memory says, and the writer's bytes `before` grew
+-- by its text. After a failed write they grew by a beginning of the text; where there was no memory for the
+-- machine they stayed. All input was read before.
 abbrev pub IsOutput : (List Bool → Output) → Option (List ℕ) → Option (List ℕ)
     → Result (Unit {0}) ScheduleError → Type 0
 IsOutput f before after (Ok u) =
@@ -59,7 +59,8 @@ IsOutput f before after (Err errors.WriteFailed) =
 IsOutput f before after (Err errors.ReadFailed) = ⊥
 IsOutput f before after (Err errors.NoMemory) = Keeps before after
 
--- `IsOut`, of a reader of which all that it had left was read
+-- A run on a reader whose input is `known`, if it is known: after a failed read, or without memory, nothing
+-- was written; else all input was read, and `IsOutput` holds of its output.
 abbrev pub IsRun : Option (List ℕ) → Option (List ℕ) → Option (List ℕ)
     → Result (Unit {0}) ScheduleError → Type 0
 IsRun known before after (Err errors.ReadFailed) = Keeps before after

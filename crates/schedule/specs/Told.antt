@@ -23,7 +23,7 @@ abbrev pub exit_of : Result (Unit {0}) ScheduleError → ℕ
 exit_of (Ok u) = 0
 exit_of (Err e) = error_exit e
 
--- a line was told, or a beginning of it, and it comes behind what was told before
+-- what was told before, `old`, grew by this line or a beginning of it, and perhaps by more after that
 abbrev pub TellsMore : Option (List ℕ) → Option (List ℕ) → List ℕ → Type 0
 TellsMore old new line =
     (between : Option (List ℕ)) × AppendsPart old between line

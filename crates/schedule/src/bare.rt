@@ -1,5 +1,5 @@
-//! Calls of a machine, and of what reads and prints a schedule, for those who need no contract: a caller of these
-//! loads and carries none of theirs.
+//! Calls of a machine, and of what reads and prints a schedule, without contracts. For a caller that needs
+//! none: no contract of theirs is loaded or proved at its calls.
 use crate::explained::run_and_explain;
 use crate::runs::{self, machine_of, run_and_tell, run_in};
 use crate::told::status;
@@ -17,7 +17,7 @@ use texts::error::{Cause, ScheduleError};
 use texts::grammar::{Command, Setup, command_of, setup_of};
 use texts::line::Line;
 
-/// What takes turns: a machine, for those who name none. A function over a type parameter with this bound is proved
+/// What takes turns: a machine, as a bound. A function over a type parameter with this bound is proved
 /// without the types of which a machine is made.
 pub trait TakesTurns<T: Words> {
     fn step(&mut self, turn: Turn<T>) -> Result<(), Refusal>;
@@ -93,7 +93,8 @@ pub fn run_all<T: Words>(machine: &mut Machine<T>, turns: &[Turn<T>]) -> Result<
     machine.run_all(turns)
 }
 
-/// Takes up to so many turns of the party's call. The error says how many were taken, and why the next was refused.
+/// Takes up to `most` turns of the party's call. The error says how many were taken, and why
+/// the next was refused.
 pub fn nexts<T: Words>(machine: &mut Machine<T>, party: u32, most: u64) -> Result<(), Stopped> {
     machine.nexts(party, most)
 }

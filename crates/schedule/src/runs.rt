@@ -50,8 +50,8 @@ fn events_from(events: &[Event<u128>], from: usize) -> &[Event<u128>]
     &events[from..]
 }
 
-// Takes up to so many turns of the party's call, and prints what they wrote down once all are taken, and why one was
-// refused.
+// Takes up to `most` turns of the party's call. It prints their events once all are taken,
+// and why one was refused.
 fn take_nexts<W: Write>(
     machine: &mut Machine<u128>,
     party: u32,

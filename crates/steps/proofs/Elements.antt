@@ -1,4 +1,5 @@
--- The elements of a state: their numbers, and the values that are shown.
+-- What loops over the elements of a container's state have done so far: the numbers that they copied
+-- (`numbers_over`), and the values that they showed to a closure (`HasShown`).
 use Rattle.std.proofs.Common.{◌≡◌, ℕ, zero, suc, ◌+◌, ◌%◌, ◌≤◌, List, [], ◌∷◌, ◌++◌, length, take, drop, refl, ap, sym, subst, ◌∙◌, inl, inr, arith, add-one}
 use Rattle.std.specs.Prelude.{Option, Some, None, slice_get, slice_set}
 use Rattle.std.specs.List.{FoldsTo}
@@ -12,7 +13,7 @@ use Rattle.steps.specs.declared.enums.CallbackProgression.TheVariants.{Continue,
 use Rattle.steps.specs.declared.container.state.Element.{Element}
 
 module _ {T : Type 0} where
-  -- one more element
+  -- one element more: its number is written over the one at its index
   numbers_next : (counts : List ℕ) (es : List (Element T)) (i : ℕ) (e : Element T)
       → slice_get es i ≡ Some e
       → numbers_over counts (take (suc i) es)
@@ -24,13 +25,14 @@ module _ {T : Type 0} where
   numbers_next (n ∷ counts) (x ∷ es) (suc i) e at =
       ap (λ r. x.count ∷ r) (numbers_next counts es i e at)
 
+  -- `numbers_next`, with the number of elements written as i + 1
   pub numbers_more : (counts : List ℕ) (es : List (Element T)) (i : ℕ) (e : Element T)
       → slice_get es i ≡ Some e
       → numbers_over counts (take (i + 1) es)
       ≡ slice_set (numbers_over counts (take i es)) i e.count
   numbers_more counts es i e at = rw (add-one) (numbers_next counts es i e at)
 
-  -- what is shown by the first elements and by the others
+  -- a value shown before a list of pairs is shown before a longer list in the same way
   shown_first-append : (shown : Option T) (index : ℕ) (xs ys : List (ℕ × T))
       → shown_first shown index (xs ++ ys) ≡ shown_first shown index xs ++ ys
   shown_first-append None index xs ys = refl
@@ -53,7 +55,7 @@ module _ {T : Type 0} where
       ∙ shown_first-append (value_shown x) index (shown_from (index + 1) (take i es))
       (shown_first (value_shown e) (index + 1 + i) []))
 
-  -- the same from the first element on
+  -- `shown_next` for the elements from the first one on
   shown_more : (es : List (Element T)) (i : ℕ) (e : Element T)
       → slice_get es i ≡ Some e
       → shown_from 0 (take (i + 1) es)
@@ -83,7 +85,7 @@ module _ {T : Type 0} where
       (shown_first (value_shown e) (index + 1 + i)
       (shown_from (index + 1 + i + 1) (drop (suc i) es))))
 
-  -- the same from the first element on
+  -- `shown_splits` for the elements from the first one on
   shown_parts : (es : List (Element T)) (i : ℕ) (e : Element T)
       → slice_get es i ≡ Some e
       → shown_from 0 es
@@ -95,18 +97,20 @@ module _ {T : Type 0} where
       ∙ ap (λ n. shown_from 0 (take i es)
       ++ shown_first (value_shown e) n (shown_from (n + 1) (drop (suc i) es))) here
 
+  -- an element with an even number shows no value
   value_even : (e : Element T) → e.count % 2 ≡ 0 → value_shown e ≡ None
   value_even e even =
       by_eq (λ v. v ≡ None) (e.count % 2) 0 None (Some e.value) (λ h. refl)
       (λ no. absurd (no even))
 
+  -- an element with an odd number shows its value
   value_odd : (e : Element T) → e.count % 2 ≡ 1 → value_shown e ≡ Some e.value
   value_odd e odd =
       by_eq (λ v. v ≡ Some e.value) (e.count % 2) 0 None (Some e.value)
       (λ h. absurd (omega arith)) (λ no. refl)
 
   module _ {F : Type 0} where
-    -- the calls so far, at an element that is not shown and after a call at one that is
+    -- the closure's calls stay the same at an element with an even number, which shows no value
     pub folds_even : (R : F → ℕ × T → F → Type 0) (f q : F) (es : List (Element T)) (i : ℕ)
         (e : Element T) → slice_get es i ≡ Some e → e.count % 2 ≡ 0
         → FoldsTo R f (shown_from 0 (take i es)) q
@@ -119,7 +123,7 @@ module _ {T : Type 0} where
         ∙ append-nil (shown_from 0 (take i es)) in
         subst (λ xs. FoldsTo R f xs q) (sym same) calls
 
-    -- the calls so far and one more, at an element that shows its value
+    -- the closure is called once more at an element with an odd number, which shows its value
     pub folds_odd : (R : F → ℕ × T → F → Type 0) (f q h : F) (es : List (Element T)) (i : ℕ)
         (e : Element T) → slice_get es i ≡ Some e → e.count % 2 ≡ 1
         → FoldsTo R f (shown_from 0 (take i es)) q → R q (i, e.value) h
@@ -130,7 +134,7 @@ module _ {T : Type 0} where
         subst (λ xs. FoldsTo R f xs h) (sym same)
         (FoldsTo-push R f (shown_from 0 (take i es)) q (i, e.value) h calls call)
 
-    -- a call through a reference
+    -- a call of the closure with a reference to the value is a call at that value
     pub called_at : (R : F → ℕ → Bor T → CallbackProgression → F → Type 0) (p : F) (i : ℕ)
         (r : Bor T) (said : CallbackProgression) (q : F) (value : T) (s : CallbackProgression)
         → R p i r said q → said ≡ s → r.now ≡ value → at_value R p (i, value) s q
@@ -139,7 +143,7 @@ module _ {T : Type 0} where
 
     module _ (step : F → ℕ × T → CallbackProgression → F → Type 0) (f q : F)
         (es : List (Element T)) (i : ℕ) where
-      -- all of them were called, or one said Stop
+      -- where the loop is past the last element, the closure was called for each value that is shown
       pub shown_all : length es ≤ i
           → FoldsTo (λ p x r. step p x Continue r) f (shown_from 0 (take i es)) q
           → HasShown step (shown_from 0 es) f

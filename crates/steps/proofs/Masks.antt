@@ -1,4 +1,5 @@
--- A mask leaves what a division by a power of two leaves.
+-- For a power of two c, the mask c - 1 leaves the remainder by c: so a ring of that capacity
+-- finds a cell by a mask.
 use Rattle.std.proofs.Common.{◌≡◌, ℕ, zero, suc, ◌+◌, ◌-◌, ◌*◌, ◌/◌, ◌%◌, ◌<◌, ◌≤◌, min}
 use Rattle.std.proofs.Common.{sym, ap, ap₂, ◌∙◌, arith, mod-lt, div-add-mod', mod-eq_of_lt, mul_assoc}
 use native.Mathlib.Nat.{add-mul-mod_self_right}
@@ -6,7 +7,8 @@ use native.Mathlib.Decide.{ℕ_discrete}
 use mathlib.Core.Logic.{dite}
 use lib.Bits.{bit_and, and_step, and_self, and_zero_r}
 
--- what a division by twice a number leaves, from the halves
+-- the remainder of p by twice a number is twice the remainder of half of p by that number, and the last bit
+-- of p more
 twice_mod : (p h : ℕ) → 0 < h → p % (h * 2) ≡ p / 2 % h * 2 + p % 2
 twice_mod p h some =
     let q = p / 2 / h in
@@ -19,6 +21,7 @@ twice_mod p h some =
     ap (λ n. n % (h * 2)) (sym is) ∙ add-mul-mod_self_right (r * 2 + p % 2) q (h * 2) ∙ mod-eq_of_lt small
 
 module _ (p c : ℕ) where
+  -- to mask p with the number before c gives the remainder of p by c
   abbrev Masks : Type 0
   Masks = bit_and p (c - 1) ≡ p % c
 
@@ -30,6 +33,7 @@ masked (suc most) p c low some alone = dite (ℕ_discrete c 1) one (more (masked
     h : ℕ
     h = c / 2
 
+    -- the number 1: the mask is 0, and so is the remainder
     one : c ≡ 1 → Masks p c
     one e = let none : c - 1 ≡ 0 = omega arith in ap (bit_and p) none ∙ and_zero_r p ∙ sym (ap (λ n. p % n) e ∙ omega arith)
 
@@ -56,5 +60,6 @@ masked (suc most) p c low some alone = dite (ℕ_discrete c 1) one (more (masked
         and_step p (c - 1) ∙ ap₂ (λ u v. u * 2 + v) (ap (bit_and (p / 2)) half ∙ below) last_bit
         ∙ sym (ap (λ n. p % n) (sym whole) ∙ twice_mod p h (omega arith))
 
+    -- another number: it is odd or even
     more : (h ≤ most → 0 < h → bit_and h (h - 1) ≡ 0 → Masks (p / 2) h) → (c ≡ 1 → ⊥) → Masks p c
     more halved ne = dite (ℕ_discrete (c % 2) 0) (even halved ne) (λ some. odd ne (omega (arith, some)))

@@ -1,5 +1,7 @@
--- The calls of the single value, one step after another.
--- V is the type of the values, size the number of their words, R the room for them.
+-- The calls of the single value, one step after another. V is the type of the values, size the number of
+-- their words, R the room for them. `.._asks` says what a call asks for at each stage, and `.._takes` where
+-- the answer leads: to a next stage (`GoOn`) or to its end (`Done`). `.._kept` says what its room keeps, and
+-- `.._left` is a number that each step lowers.
 use Rattle.std.specs.Prelude.{ℕ, ◌+◌, ◌-◌, ◌*◌, ◌%◌, ◌^◌, ◌==◌, Bool, true, false, not, List, if◌then◌else◌, nat_lt, slice_index}
 use Rattle.steps.specs.Queues.Ring.{load, store, word_at}
 use Rattle.steps.specs.declared.ask.Op.TheVariants.{Add, Exchange}
@@ -26,7 +28,7 @@ before_version version = (version + 2 ^ 64 - 1) % 2 ^ 64
 -- ---- store
 
 module _ {V : Type 0} where
-  -- the call at this stage
+  -- the store, moved to this stage
   abbrev pub at_store : Store V → StoreStage → Store V
   at_store call stage = record call { stage = stage }
 
@@ -42,7 +44,7 @@ module _ {V : Type 0} where
   store_asks words_of stores.AddsVersion value =
       wants.Ask (record { word = 0; op = Add 1 })
 
-  -- what the store waits for
+  -- what the store asks for next, at the stage where it stands
   abbrev pub store_want : (V → List ℕ) → Store V → V → Want (Unit {0})
   store_want words_of call value = store_asks words_of call.stage value
 
@@ -93,7 +95,7 @@ module _ {R : Type 0} where
   load_keeps with_word room (loads.ChecksVersion version) old = room
 
 module _ {V R : Type 0} where
-  -- the call at this stage
+  -- the load, moved to this stage
   abbrev pub at_load : Load V R → LoadStage → Load V R
   at_load call stage = record call { stage = stage }
 
@@ -101,7 +103,7 @@ module _ {V R : Type 0} where
   abbrev pub first_load : Load V R
   first_load = record { stage = loads.LoadsVersion; of = record {} }
 
-  -- what the load waits for
+  -- what the load asks for next, at the stage where it stands
   abbrev pub load_want : Load V R → Want (Unit {0})
   load_want call = load_asks call.stage
 

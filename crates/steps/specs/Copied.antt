@@ -2,7 +2,8 @@
 use Rattle.std.specs.Prelude.{◌≡◌, ℕ, zero, suc, List, [], ◌∷◌, length, take, replicate, slice_set, if◌then◌else◌, nat_lt, refl}
 use Rattle.steps.specs.declared.copied.OneWord.{OneWord}
 
--- the value that the first of these words make; where they are too few, that of zeros
+-- the value that the first `size` of these words make; where there are fewer words, the value
+-- that words of zeros make
 abbrev pub value_in : {V : Type 0} → (List ℕ → V) → ℕ → List ℕ → V
 value_in value_of size words =
     if nat_lt (length words) size

@@ -100,7 +100,7 @@ module _ {V : Type 0} (words_of : V → List ℕ) (size : ℕ) where
   push_tells c (pushes.TheVariants.StoresWrite write) x room m n t = (refl, refl)
 
 module _ {V : Type 0} (size : ℕ) where
-  -- one more than the steps that are left of the push, and 0 once it has ended
+  -- one more than `push_left` of the call, which each step lowers, and 0 once the call has ended
   abbrev push_then : After (Push V) Bool → ℕ
   push_then (GoOn d) = push_left size d.stage + 1
   push_then (Done e) = 0
@@ -123,7 +123,7 @@ module _ {V : Type 0} (size : ℕ) where
       (λ t. omega arith)
   push_stage_fewer c (pushes.TheVariants.StoresWrite p) k = omega arith
 
-  -- a push that goes on has fewer steps left
+  -- where a push goes on after a step, `push_left` is less
   pub push_fewer : (c d : Push V) (k : ℕ) → push_after size c k ≡ GoOn d
       → push_left size d.stage < push_left size c.stage
   push_fewer c d k goes =
@@ -140,7 +140,7 @@ module _ {V R : Type 0} (with_word : R → ℕ → ℕ → R) (size : ℕ) where
   pop_tells c (pops.TheVariants.StoresRead read) room m n t = (refl, refl)
 
 module _ {V R : Type 0} (size : ℕ) where
-  -- one more than the steps that are left of the call, and 0 once it has ended
+  -- one more than `pop_left` of the call, which each step lowers, and 0 once the call has ended
   abbrev pop_then : After (Pop V R) Bool → ℕ
   pop_then (GoOn d) = pop_left size d.stage + 1
   pop_then (Done e) = 0
@@ -161,7 +161,7 @@ module _ {V R : Type 0} (size : ℕ) where
       (λ t. omega arith)
   pop_stage_fewer c (pops.TheVariants.StoresRead p) k = omega arith
 
-  -- a pop that goes on has fewer steps left
+  -- where a pop goes on after a step, `pop_left` is less
   pub pop_fewer : (c d : Pop V R) (k : ℕ) → pop_after size c k ≡ GoOn d
       → pop_left size d.stage < pop_left size c.stage
   pop_fewer c d k goes =
@@ -177,7 +177,7 @@ module _ {V R : Type 0} (with_word : R → ℕ → ℕ → R) (size : ℕ) where
   peek_tells c (peeks.LoadsCell cell at) room m n t = no_store t
 
 module _ {V R : Type 0} (size : ℕ) where
-  -- one more than the steps that are left of the call, and 0 once it has ended
+  -- one more than `peek_left` of the call, which each step lowers, and 0 once the call has ended
   abbrev peek_then : After (Peek V R) Bool → ℕ
   peek_then (GoOn d) = peek_left size d.stage + 1
   peek_then (Done e) = 0
@@ -196,7 +196,7 @@ module _ {V R : Type 0} (size : ℕ) where
       (λ t. let further : at + 1 < size = grind (arith, nat_tests) in omega arith)
       (λ t. omega arith)
 
-  -- a peek that goes on has fewer steps left
+  -- where a peek goes on after a step, `peek_left` is less
   pub peek_fewer : (c d : Peek V R) (k : ℕ) → peek_after size c k ≡ GoOn d
       → peek_left size d.stage < peek_left size c.stage
   peek_fewer c d k goes =
@@ -217,7 +217,7 @@ overflow_push_tells c (over_pushes.StoresWrite write read) x room m n t = (refl,
 overflow_push_tells c (over_pushes.MovesRead read) x room m n t = no_store t
 overflow_push_tells c (over_pushes.LoadsCell read) x room m n t = no_store t
 
--- one more than the steps that are left of the call, and 0 once it has ended
+-- one more than `push_left` of the call, which each step lowers, and 0 once the call has ended
 abbrev overflow_then : After over.Push PushEnd → ℕ
 overflow_then (GoOn d) = overflow.push_left d.stage + 1
 overflow_then (Done e) = 0
@@ -242,7 +242,7 @@ overflow_stage_fewer c (over_pushes.MovesRead read) k =
     (λ e. omega arith) (λ e. omega arith)
 overflow_stage_fewer c (over_pushes.LoadsCell read) k = omega arith
 
--- a push of the overflowing queue that goes on has fewer steps left
+-- where a push of the overflowing queue goes on after a step, its `push_left` is less
 pub overflow_push_fewer : (c d : over.Push) (k : ℕ) → overflow.push_after c k ≡ GoOn d
     → overflow.push_left d.stage < overflow.push_left c.stage
 overflow_push_fewer c d k goes =
@@ -271,7 +271,7 @@ module _ {V : Type 0} (words_of : V → List ℕ) (size : ℕ) where
   store_tells c stores.AddsVersion x room m n t = no_store t
 
 module _ {V : Type 0} (size : ℕ) where
-  -- one more than the steps that are left of the call, and 0 once it has ended
+  -- one more than `store_left` of the call, which each step lowers, and 0 once the call has ended
   abbrev store_then : After (Store V) Bool → ℕ
   store_then (GoOn d) = value.store_left size d.stage + 1
   store_then (Done e) = 0
@@ -291,7 +291,7 @@ module _ {V : Type 0} (size : ℕ) where
       (λ t. omega arith)
   store_stage_fewer c stores.AddsVersion k = omega arith
 
-  -- a store that goes on has fewer steps left
+  -- where a store goes on after a step, `store_left` is less
   pub store_fewer : (c d : Store V) (k : ℕ) → value.store_after size c k ≡ GoOn d
       → value.store_left size d.stage < value.store_left size c.stage
   store_fewer c d k goes =

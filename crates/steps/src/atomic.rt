@@ -23,7 +23,7 @@ pub const PRODUCER: usize = 1;
 /// The first word of the first cell.
 pub const FIRST_CELL: usize = 2;
 
-/// The first word of the cell `number` mod 2, where a value has so many words.
+/// The first word of the cell `number` mod 2, where a value takes `words` words.
 #[inline(always)]
 pub fn cell_word(words: u8, number: u64) -> usize
     ensures { result ≡ cell_word words number }
@@ -119,6 +119,7 @@ impl<T: Words, R: Room<T>> Load<T, R> {
     }
 }
 
+/// The steps of a store: given the value, it reads nothing into a room, and answers whether it has stored.
 impl<T: Words> Routine for Store<T> {
     ghost use Rattle.steps.specs.Laws.{store_tells};
 
@@ -145,6 +146,8 @@ impl<T: Words> Routine for Store<T> {
     ghost store_tells_nothing = { λ c given room m n t.
         store_tells T.words_of T.WORDS c c.stage given room m n t };
 
+    /// Asks for the version, then stores the words of the value one by one into the cell of that version,
+    /// then adds 1 to the version. A place past the value's words would get 0.
     #[inline(always)]
     fn ask(self, given: &T) -> Want<()> {
         let (word, op) = match self.stage {
@@ -162,6 +165,8 @@ impl<T: Words> Routine for Store<T> {
         Want::Ask(Ask { word, op })
     }
 
+    /// Ends with false where the version is at its end. Otherwise the words follow one another, and after the
+    /// version's step the value is stored.
     #[inline(always)]
     fn take(self, _given: &T, _room: &mut (), answer: u64) -> After<Store<T>, bool> {
         let stage = match self.stage {
@@ -189,6 +194,7 @@ impl<T: Words> Routine for Store<T> {
         })
     }
 
+    /// The value that is stored.
     fn value(given: &T, _room: &()) -> T {
         *given
     }
@@ -208,6 +214,8 @@ impl<T: Words> Ends for Store<T> {
     ghost fewer = { λ c d given n goes. store_fewer T.WORDS c d n goes };
 }
 
+/// The steps of a load: given nothing, it reads the words into a room R, and answers the
+/// value that they make.
 impl<T: Words, R: Room<T> + Drop> Routine for Load<T, R> {
     ghost use Rattle.steps.specs.Laws.{load_tells};
 
@@ -234,6 +242,8 @@ impl<T: Words, R: Room<T> + Drop> Routine for Load<T, R> {
     ghost store_tells_nothing = { λ c given room m n t.
         load_tells R.with_word T.WORDS c c.stage room m n t };
 
+    /// Asks for the version, then loads the words of its cell, then exchanges the version for itself, which
+    /// tells whether a store came in between.
     #[inline(always)]
     fn ask(self, _given: &()) -> Want<()> {
         let (word, op) = match self.stage {
@@ -244,6 +254,8 @@ impl<T: Words, R: Room<T> + Drop> Routine for Load<T, R> {
         Want::Ask(Ask { word, op })
     }
 
+    /// Puts each word of the cell into the room. Where the version has moved in the meantime the load begins
+    /// again with the cell of the new one.
     #[inline(always)]
     fn take(self, _given: &(), room: &mut R, answer: u64) -> After<Load<T, R>, ()> {
         let stage = match self.stage {
@@ -281,6 +293,7 @@ impl<T: Words, R: Room<T> + Drop> Routine for Load<T, R> {
         })
     }
 
+    /// The value that the words in the room make.
     fn value(_given: &(), room: &R) -> T {
         room.value()
     }

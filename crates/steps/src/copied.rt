@@ -26,6 +26,7 @@ pub trait Room<T: Words> {
 #[derive(Debug, Clone, Copy, PartialEq, Eq)]
 pub struct OneWord(pub u64);
 
+/// A room of one word: it keeps the word put at place 0, and drops all others.
 impl Room<u64> for OneWord {
     ghost use Rattle.std.specs.Prelude.{[], ◌∷◌};
     ghost use Rattle.steps.specs.Copied.{kept_in_one, one_put_in};
@@ -60,7 +61,7 @@ pub struct Buffer<const N: usize> {
 pub type Copied = Buffer<128>;
 
 impl<const N: usize> Buffer<N> {
-    /// No word is read yet.
+    /// A buffer of zeros: no word is read yet.
     #[inline(always)]
     pub fn new() -> Buffer<N>
         ensures { length result.words ≡ N }
@@ -69,7 +70,8 @@ impl<const N: usize> Buffer<N> {
     }
 }
 
-/// The value that the first of these words make, or the one of zeros where they are too few.
+/// The value that the first `T::WORDS` of these words make. Where there are fewer words, the value that words
+/// of zeros make.
 #[inline(always)]
 fn value_in<T: Words>(words: &[u64]) -> T
     ensures { result ≡ value_in T.value_of T.WORDS words.now }
@@ -81,6 +83,7 @@ fn value_in<T: Words>(words: &[u64]) -> T
     }
 }
 
+/// A room of N words: it keeps the words put at places below N, and drops all others.
 impl<T: Words, const N: usize> Room<T> for Buffer<N> {
     ghost use Rattle.std.specs.Prelude.{refl};
 

@@ -47,6 +47,7 @@ pub struct OwnerId {
     number: u64,
 }
 
+/// Contracts see an owner as its number, which is below 2^64 - 1.
 impl Model for OwnerId {
     ghost use Rattle.std.specs.Prelude.{ℕ, ◌<◌, ◌-◌, ◌^◌};
 

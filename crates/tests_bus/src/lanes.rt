@@ -1,5 +1,6 @@
-//! A bus with few and with many lanes, whose slots are more than a byte's bits: each subscriber reads each record just as it was
-//! published, records and slots come back, and who joins in a freed lane finds nothing of who had it before.
+//! Buses with few and with many subscribers, and with more slots than a byte or a word has bits. Each
+//! subscriber reads each record just as it was published, and all records and slots come back. Who joins in a
+//! freed lane finds nothing of the one who had it before.
 use crate::rooms::{publish, read};
 use crate::stage::{Failure, Plays, check, on_new_bus, some};
 use crate::words::Words;
@@ -13,12 +14,14 @@ use zero_copy_bus::error::{LoanFailure, ReclaimFailure, SubscribeFailure};
 use zero_copy_bus::publisher::Publisher;
 use zero_copy_bus::subscriber::Subscriber;
 
+/// How many words each record has.
 const WORDS: usize = 3;
 
-/// How many slots and records a bus here has beside those that are read.
+/// How many slots a bus of `few_and_many_lanes` has, and how many rounds are played on it.
 const ROOM: usize = 40;
 
-/// So many subscribers, each of which takes part, in the lane of its place.
+/// Lets `lanes` subscribers join, with the owners 1, 2 and so on. It is wrong if one is not let in, or gets
+/// another lane than the next one.
 fn join_all<'a>(
     rt: &impl Wait,
     alloc: Global,
@@ -37,7 +40,9 @@ fn join_all<'a>(
     Ok(all)
 }
 
-/// Two records go to each of so many, who reads both, and gives them back. How many slots are out then.
+/// Publishes two records to all subscribers. Each of them reads both in order, gives them back, and
+/// finds no third. It returns how many slots are out once the publisher has taken back what they
+/// gave back: 0 is right.
 fn go_round(
     rt: &impl Wait,
     publisher: &mut Publisher<'_, Words>,
@@ -56,7 +61,8 @@ fn go_round(
     Ok(publisher.borrowed())
 }
 
-/// Each leaves, while a record waits for it: all slots come back, and who joins after that finds nothing.
+/// Lets each subscriber leave while a record waits for it. All slots have to come back by the next look, and
+/// subscribers who join in the freed lanes find no record that was published before.
 fn leave_all(
     rt: &impl Wait,
     alloc: Global,
@@ -79,7 +85,8 @@ fn leave_all(
     check(go_round(rt, publisher, &mut others)? == 0 && right)
 }
 
-/// So many lanes. Records are published more often than there are slots.
+/// Plays a bus with this many lanes. When each lane has a subscriber, no further one is let in. Then `ROOM`
+/// rounds of two records publish more records than there are slots, and all subscribers leave.
 #[derive(Drop)]
 struct Lanes {
     lanes: usize,
@@ -105,7 +112,9 @@ impl Plays for Lanes {
     }
 }
 
-/// So many slots but one are on loan at once, each another, and no record is left then. The last one can be had again.
+/// Plays loans alone, on a bus that has one record less than it has slots. All records are on loan at once,
+/// each in a slot of its own. Then the next loan is refused, since no record is left to write. A slot on
+/// loan, and one past the last, cannot be reclaimed. Once a loan is given up the next one succeeds.
 #[derive(Drop)]
 struct Loans {
     slots: u32,
@@ -137,6 +146,8 @@ impl Plays for Loans {
     }
 }
 
+/// Plays `Lanes` with 1, 4, 9 and 63 subscribers, the most that a bus has. A lane that is mixed up with
+/// another one would give a subscriber the wrong record, or leave a slot out.
 #[test]
 fn few_and_many_lanes(rt: HostRuntime) -> Result<(), Fail> {
     for lanes in [1, 4, 9, 63] {
@@ -150,6 +161,8 @@ fn few_and_many_lanes(rt: HostRuntime) -> Result<(), Fail> {
     Ok(())
 }
 
+/// Plays `Loans` with 2, 25, 65 and 300 slots. A slot that is lost or handed out twice would show in a loan
+/// that comes or is refused wrongly.
 #[test]
 fn many_slots_on_loan(rt: HostRuntime) -> Result<(), Fail> {
     for slots in [2u32, 25, 65, 300] {

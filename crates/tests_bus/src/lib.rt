@@ -1,4 +1,5 @@
-//! A bus of `zero_copy_bus` by turns in one thread, and between four; and what BUS.md shows.
+//! Tests of the bus of `zero_copy_bus`, for what no clause says. They are rows of steps in one thread, runs
+//! of two and of four threads, and the program that BUS.md shows.
 #![tactic(auto)]
 
 #[cfg(test)]

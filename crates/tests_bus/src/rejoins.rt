@@ -1,5 +1,6 @@
-//! A subscriber leaves with records in hand and records that wait, and the publisher takes in what it left. After one look no slot is
-//! out, though nothing was collected, and the lane is let again. One that was taken out as dead cannot leave, and keeps its lane.
+//! A subscriber leaves with records in hand and records that wait, and the publisher takes in what it left
+//! (`rejoin`). After one look no slot is out, though nothing was collected, and the lane is free again. A
+//! subscriber that was taken out as dead cannot leave, and keeps its lane.
 ghost use Rattle.std.specs.Prelude.{◌≡◌, IfSome};
 ghost use Rattle.zero_copy_bus.specs.Ends.{place_at, receives_queue, IsOfLane};
 ghost use Rattle.zero_copy_bus.specs.Relays.{HasPublished};
@@ -15,7 +16,7 @@ use zero_copy_bus::bus::Sizes;
 use zero_copy_bus::publisher::Publisher;
 use zero_copy_bus::subscriber::{Left, Subscriber};
 
-/// Publishes so many records. False where one of them cannot be.
+/// Publishes `number` records. False where a loan does not come.
 fn publish(rt: &impl Wait, publisher: &mut Publisher<'_, Words>, number: usize) -> bool
     ensures { HasPublished publisher.old publisher.new }
 {
@@ -28,7 +29,8 @@ fn publish(rt: &impl Wait, publisher: &mut Publisher<'_, Words>, number: usize) 
     true
 }
 
-/// Receives a record and gives it back, and then one that it keeps, if there is one more.
+/// Receives a record and gives it back, and then receives another one, if one waits, and keeps it. False
+/// where no record waits, or it cannot be given back.
 fn take_two(rt: &impl Wait, subscriber: &mut Subscriber<'_, Words>) -> bool
     ensures place { place_at subscriber.new ≡ place_at subscriber.old }
     ensures queue { receives_queue subscriber.new ≡ receives_queue subscriber.old }
@@ -41,7 +43,8 @@ fn take_two(rt: &impl Wait, subscriber: &mut Subscriber<'_, Words>) -> bool
     is_back
 }
 
-/// Somebody subscribes, all slots go out to it, and it leaves. None where it does not come to this.
+/// Somebody subscribes, `slots` records are published to it, it takes two of them (`take_two`), and leaves.
+/// None where one of these calls is refused.
 fn leave<'a>(rt: &impl Wait, publisher: &mut Publisher<'a, Words>, slots: usize) -> Option<Left<'a>>
     ensures { IfSome result (λ left. IsOfLane left publisher.new) }
 {
@@ -61,8 +64,8 @@ fn leave<'a>(rt: &impl Wait, publisher: &mut Publisher<'a, Words>, slots: usize)
     Some(left)
 }
 
-/// Somebody leaves, and the publisher looks who takes part before it takes in what was left. Whether no slot is out in the end, and a
-/// lane is free. None where it does not come to this.
+/// Somebody leaves, and the publisher looks who takes part before it takes in what was left. It returns
+/// whether no slot is out in the end, and a lane is free. None where `leave` did not succeed.
 fn come_back_before(
     rt: &impl Wait,
     publisher: &mut Publisher<'_, Words>,
@@ -74,7 +77,9 @@ fn come_back_before(
     Some(publisher.is_free() && publisher.seat().is_some())
 }
 
-/// What one left comes back, and then what another left. The publisher looks only after it has taken in what the first left.
+/// Plays two subscribers that leave one after the other. The publisher takes in what the first
+/// one left before it looks, and what the second one left after it has looked. Until that first
+/// look all slots are out.
 #[derive(Drop)]
 struct ComesBack {
     slots: usize,
@@ -94,15 +99,15 @@ impl Plays for ComesBack {
         check(!publisher.is_free() && publisher.borrowed() == self.slots)?;
         publisher.update(rt);
         check(publisher.is_free() && publisher.seat().is_some())?;
-        // (the seat is free again)
+        // This look frees the lane whose seat was dropped in the line above.
         publisher.update(rt);
         check(come_back_before(rt, publisher, self.slots) == Some(true))?;
         Ok(None)
     }
 }
 
-/// A subscriber that was taken out as dead does not leave. It comes back, and receives what waits. Its slots stay out until it is
-/// dropped, and then a lane is free.
+/// Plays a subscriber that was taken out as dead and then tries to leave. It is refused, comes back, and
+/// receives a record that waits. Slots stay out until it is dropped, and then a lane is free.
 #[derive(Drop)]
 struct ComesBackLate;
 
@@ -130,6 +135,8 @@ impl Plays for ComesBackLate {
     }
 }
 
+/// Plays `ComesBack` with 1, 9 and 65 slots, so that all slots fill a bit, more than a byte and more than a
+/// word, and `ComesBackLate` once. A slot that stays out would be lost for good.
 #[test]
 fn what_was_left_comes_back(rt: HostRuntime) -> Result<(), Fail> {
     for slots in [1usize, 9, 65] {

@@ -1,4 +1,4 @@
-//! A bus with places for two, and the steps of a row, each with what it has to come to.
+//! The steps of the rows that `turns` plays on a bus with two places, and what each step has to come to.
 use crate::stage::{Failure, Plays, some};
 use crate::words::{Words, is_whole, write};
 use lock_free::mpmc::container::OwnerId;
@@ -11,70 +11,75 @@ use zero_copy_bus::error::LoanFailure;
 use zero_copy_bus::publisher::{Loan, Publisher};
 use zero_copy_bus::subscriber::Subscriber;
 
-/// The subscribers.
+/// The two subscribers of a bus of these tests.
 #[derive(Clone, Copy)]
 pub enum Who {
     One,
     Other,
 }
 
-/// A step, and what has to come of it.
+/// A step of a row, with what it has to come to. A step that comes to something else is the
+/// wrong one of its row.
 #[derive(Clone, Copy)]
 pub enum Step {
-    /// The subscriber gets a seat, and joins as the owner of this number.
+    /// The subscriber gets a seat, and joins as the owner of this number. The publisher looks at
+    /// once, so it takes part.
     Joins(Who, u64),
-    /// Whether a seat is free. It is given back at once.
+    /// Whether a seat is free. The seat is dropped at once.
     HasSeat(bool),
-    /// A record of this number goes to so many.
+    /// A record of this number is published, and as many subscribers as the second number get it.
     Publishes(u64, usize),
-    /// Whether there is a slot to loan. The loan is kept where none was.
+    /// Whether a loan comes. It is kept if no loan is kept yet, and dropped otherwise, so its slot stays out.
     Loans(bool),
-    /// Whether a slot comes by so many tries, whose loan is given up.
+    /// Whether a loan comes by at most as many tries as the first number says. It is given up at once.
     LoansBy(u64, bool),
-    /// A slot comes to who waits for it, whose loan is given up.
+    /// The publisher waits for a loan, which comes, and is given up at once.
     WaitsForLoan,
     /// The first loan that was kept is given up.
     GivesUp,
-    /// The subscriber reads the record of this number, and gives it back.
+    /// The subscriber reads its oldest record, which has this number and is whole, and gives it back.
     Reads(Who, u64),
-    /// Whether a record comes to the subscriber by so many tries, who keeps it.
+    /// Whether a record comes to the subscriber by at most as many tries as the number says. The subscriber
+    /// never gives it back.
     Gets(Who, u64, bool),
     /// The subscriber leaves.
     Leaves(Who),
-    /// The subscriber dies.
+    /// The subscriber dies: it is dropped.
     Dies(Who),
-    /// The dead owner of this number is taken out, and what he had comes back.
+    /// The owner of this number is declared dead and recovered, so what he had comes back.
     Recovers(u64),
-    /// The publisher takes back what was given back.
+    /// The publisher takes back the slots that subscribers gave back.
     Collects,
     /// The publisher looks which subscribers take part.
     Updates,
-    /// The loan that was kept is dropped.
+    /// The loan that is kept is dropped, so its slot stays out.
     DropsLoan,
-    /// Whether this slot, which stayed out, can be reclaimed.
+    /// Whether this slot, which was out, is reclaimed.
     Reclaims(u32, bool),
     /// The subscriber receives a record, forgets the reading of it, and gives it back.
     Forgets(Who),
-    /// A loan is refused, since this slot is still read.
+    /// A loan is refused, since somebody still reads this slot.
     IsStillRead(u32),
-    /// The other subscriber still reads what the first one has given back. So its slot is not loaned, and can be reclaimed once it is
-    /// read no more.
+    /// One subscriber gives back a record that the other still reads. Its slot is then not loaned and not
+    /// reclaimed, until the reading ends.
     ReadsOn,
     /// The next record has this number.
     IsNext(u64),
-    /// So many slots are out.
+    /// This many slots are out.
     Out(usize),
 }
 
+/// How many words each record has.
 pub const WORDS: usize = 4;
 
+/// The sizes of the bus of all rows: eight slots, two subscribers, and two records that wait for each.
 pub const SIZES: Sizes = Sizes {
     slots: 8,
     subscribers: 2,
     queue: 2,
 };
 
-/// Both subscribers, and a loan that is kept.
+/// What a row has in hand: both subscribers, as long as they take part, and the first loan that it keeps.
 struct Room<'a> {
     one: Option<Subscriber<'a, Words>>,
     other: Option<Subscriber<'a, Words>>,
@@ -91,7 +96,8 @@ impl<'a> Drop for Room<'a> {
     }
 }
 
-/// Publishes a record of this number, and answers to how many.
+/// Publishes a record of this number, and returns how many subscribers got it. It is wrong if the loan has
+/// another number in it after it was written.
 pub fn publish(
     rt: &impl Wait,
     publisher: &mut Publisher<'_, Words>,
@@ -107,8 +113,9 @@ pub fn publish(
     Ok(publisher.publish(loan))
 }
 
-/// Whether the oldest record that waits is of this number, and has so many words: the number that it was published with, if the
-/// reading tells the same. It is given back.
+/// Receives the oldest record, and gives it back. It returns the number that the record was published with.
+/// None where none waits, where it is not the record of `number` with this many words, or where the reading
+/// tells another number than the sample.
 pub fn read(
     rt: &impl Wait,
     subscriber: &mut Subscriber<'_, Words>,
@@ -132,7 +139,8 @@ pub fn read(
     }
 }
 
-/// Whether a record waits, of which the reading is forgotten.
+/// Receives a record, forgets its reading, and gives it back. The reading then holds the slot for good. False
+/// where none of this succeeds.
 fn forget_reading(rt: &impl Wait, subscriber: &mut Subscriber<'_, Words>) -> bool {
     let Some(sample) = subscriber.receive(rt) else {
         return false;
@@ -144,7 +152,7 @@ fn forget_reading(rt: &impl Wait, subscriber: &mut Subscriber<'_, Words>) -> boo
     subscriber.give_back(sample)
 }
 
-/// Whether no slot is loaned, since this one is still read.
+/// Whether a loan is refused because this slot is still read.
 fn is_still_read(rt: &impl Wait, publisher: &mut Publisher<'_, Words>, slot: u32) -> bool {
     match publisher.loan(rt) {
         Err(LoanFailure::StillRead(found)) => found == slot,
@@ -152,7 +160,7 @@ fn is_still_read(rt: &impl Wait, publisher: &mut Publisher<'_, Words>, slot: u32
     }
 }
 
-/// Whether there is a slot, of which a loan is kept where none was.
+/// Whether a loan comes. It is kept in `kept` if that is empty, and dropped otherwise.
 fn keep_loan<'a>(
     rt: &impl Wait,
     publisher: &mut Publisher<'a, Words>,
@@ -169,7 +177,7 @@ fn keep_loan<'a>(
     }
 }
 
-/// Whether there is a slot by so many tries, of which the loan is given up.
+/// Whether a loan comes by at most `tries` tries. It is given up at once.
 fn try_loan(rt: &impl Wait, publisher: &mut Publisher<'_, Words>, tries: u64) -> bool {
     match publisher.loan_within(rt, tries) {
         Some(loan) => {
@@ -180,7 +188,8 @@ fn try_loan(rt: &impl Wait, publisher: &mut Publisher<'_, Words>, tries: u64) ->
     }
 }
 
-/// Whether there is a seat, with which somebody joins as the owner of this number.
+/// Whether a seat is free and its subscriber is let in as the owner of this number. The publisher looks at
+/// once, and the subscriber is put into `kept`.
 fn join<'a>(
     rt: &impl Wait,
     publisher: &mut Publisher<'a, Words>,
@@ -201,7 +210,8 @@ fn join<'a>(
     true
 }
 
-/// Whether no slot is loaned as long as the other subscriber reads what the first one has given back, and it is reclaimed then.
+/// Plays `Step::ReadsOn`. `other` reads the record that `one` receives and gives back. As long as it does the
+/// slot is neither loaned nor reclaimed, and once it ends the slot is reclaimed.
 fn read_on(rt: &impl Wait, publisher: &mut Publisher<'_, Words>, room: &mut Room<'_>) -> bool {
     let (Some(one), Some(other)) = (&mut room.one, &room.other) else {
         return false;
@@ -224,6 +234,7 @@ fn read_on(rt: &impl Wait, publisher: &mut Publisher<'_, Words>, room: &mut Room
 }
 
 impl<'a> Room<'a> {
+    /// The place of this subscriber, which is None while it takes no part.
     fn subscriber(&mut self, who: Who) -> &mut Option<Subscriber<'a, Words>> {
         match who {
             Who::One => &mut self.one,
@@ -231,7 +242,8 @@ impl<'a> Room<'a> {
         }
     }
 
-    /// Does a step of a subscriber, and answers whether it comes to what it has to.
+    /// Takes a step of one subscriber, and says whether it came to what the step has to. False where the
+    /// subscriber takes no part.
     fn take_step_of(&mut self, rt: &impl Wait, step: Step) -> bool {
         match step {
             Step::Reads(who, number) => match self.subscriber(who) {
@@ -255,7 +267,8 @@ impl<'a> Room<'a> {
         }
     }
 
-    /// Does a step, and answers whether it comes to what it has to.
+    /// Takes a step of a row, and says whether it came to what the step has to. A failure says that memory
+    /// was refused, or that a loan went wrong.
     fn take_step(
         &mut self,
         rt: &impl Wait,
@@ -306,7 +319,8 @@ impl<'a> Room<'a> {
         Ok(is_right)
     }
 
-    /// Does the steps, so often. It answers the first that does not come to what it has to.
+    /// Takes these steps in order, `rounds` times. It returns the place of the first step that came to
+    /// something else than its row says; None where none did.
     fn first_wrong(
         &mut self,
         rt: &impl Wait,
@@ -325,7 +339,7 @@ impl<'a> Room<'a> {
     }
 }
 
-/// Steps that are done once, and then others so often.
+/// A row: the steps `begin`, taken once, and then `steps`, taken `rounds` times.
 #[derive(Drop)]
 pub struct Row<'s> {
     pub begin: &'s [Step],
@@ -334,7 +348,8 @@ pub struct Row<'s> {
 }
 
 impl<'s> Plays for Row<'s> {
-    /// It tells of a first step as of the last one that there can be.
+    /// The place of the first wrong step of `steps`. For a wrong step of `begin` it is `usize::MAX`, which is
+    /// the place of no step.
     fn play(
         &self,
         rt: &(impl Threads + Wait + Sync),

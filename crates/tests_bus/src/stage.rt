@@ -1,4 +1,4 @@
-//! A new bus of records, and what a test does with its publisher.
+//! Makes a new bus of records, plays what a test does with its publisher, and says how many records are left.
 use crate::words::{Words, spares};
 use lock_free::mpmc::unique_index_set_enums::UniqueIndexCreationError;
 use std::alloc::{AllocError, Global};
@@ -8,7 +8,8 @@ use zero_copy_bus::bus::{Bus, Sizes};
 use zero_copy_bus::error::BusError;
 use zero_copy_bus::publisher::Publisher;
 
-/// Why a test ends before its time: memory was refused, or a call did not come to what it has to.
+/// Why a test ends before its time: memory was refused, or a call did not come to what
+/// the test expects of it.
 #[derive(Debug, Drop)]
 pub enum Failure {
     NoMemory,
@@ -31,7 +32,7 @@ impl From<BusError> for Failure {
     }
 }
 
-/// What a call returned, which must be there.
+/// The value that a call returned. A test that finds None instead ends with `Failure::Wrong`.
 pub fn some<T>(found: Option<T>) -> Result<T, Failure> {
     match found {
         Some(found) => Ok(found),
@@ -39,14 +40,15 @@ pub fn some<T>(found: Option<T>) -> Result<T, Failure> {
     }
 }
 
-/// That so it is.
+/// Ends the test with `Failure::Wrong` where this is false.
 pub fn check(is_so: bool) -> Result<(), Failure> {
     if is_so { Ok(()) } else { Err(Failure::Wrong) }
 }
 
-/// What is done with the publisher of a new bus.
+/// What a test does with the publisher of a new bus.
 pub trait Plays {
-    /// Does it. The first of its steps that does not come to what it has to, if it tells of them.
+    /// Plays the test. For a test that has steps, Some is the place of the first step that came to something
+    /// else than its row says. None says that all went well.
     fn play(
         &self,
         rt: &(impl Threads + Wait + Sync),
@@ -55,8 +57,9 @@ pub trait Plays {
     ) -> Result<Option<usize>, Failure>;
 }
 
-/// Does it with a bus of these sizes, and so many records of so many words. It answers the first wrong step, and how many records are
-/// left in the end, besides those that lie in a slot.
+/// Makes a bus of these sizes and `records` records of `words` words, and plays the test with its publisher.
+/// It returns the first wrong step, if any, and how many records the publisher hands out in the end, which
+/// are those that lie in no slot.
 pub fn on_new_bus<P: Plays>(
     rt: &(impl Threads + Wait + Sync),
     alloc: Global,

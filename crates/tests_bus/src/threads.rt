@@ -1,5 +1,6 @@
-//! A publisher and three subscribers side by side: one is slow, one dies with slots in hand, and one joins late. They wait for slots
-//! and for records by calls of the bus, each by so many tries that all give up at last where the bus loses one.
+//! A publisher and three subscribers in four threads: one subscriber is slow, one dies with slots in hand,
+//! and one joins late. They wait for slots and for records by calls with a limit of tries, so that all of
+//! them give up at last, and the test fails, if the bus loses a slot or a record.
 ghost use Rattle.std.specs.Prelude.{◌≡◌, IfSome};
 
 use crate::limit::{TURNS, wait_for};
@@ -18,20 +19,23 @@ use zero_copy_bus::numbers::Sequence;
 use zero_copy_bus::publisher::Publisher;
 use zero_copy_bus::subscriber::{Sample, Seat, Subscriber};
 
-/// Before which record the late one joins, and the dead one has died.
+/// How many records are published before the late subscriber joins. The publisher goes on only once it has
+/// joined, and another subscriber has died.
 const MIDDLE: u64 = 1_000;
 
-/// How many records are published before the publisher waits for nobody any more, and how many in all.
+/// Up to the record of this number the publisher waits for a subscriber now and then (`EVERY`). From there on
+/// it waits for nobody.
 const LEAST: u64 = 2_000;
 
+/// How many records are published in all.
 const RECORDS: u64 = 4_000;
 
-/// After which of the first records the publisher waits until the slow one, and later the late one, has got one more: each
-/// one of so many.
+/// At each record whose number is a multiple of this, the publisher waits until a subscriber has got one more
+/// record. It is the slow one before `MIDDLE`, and the late one from there to `LEAST`.
 const EVERY: u64 = 16;
 
-/// Records that are published one after another, up to an end, and at which of them the publisher waits for somebody: each one of
-/// so many.
+/// Records that are published one after another, from `first` to before `end`. At each number that is a
+/// multiple of `every` the publisher waits for a subscriber.
 #[derive(Clone, Copy)]
 struct Part {
     first: u64,
@@ -39,47 +43,57 @@ struct Part {
     every: u64,
 }
 
+/// The records up to the death of a subscriber. At each 16th the publisher waits for the slow subscriber.
 const BEFORE_DEATH: Part = Part {
     first: 0,
     end: MIDDLE,
     every: EVERY,
 };
 
+/// The records from the death up to `LEAST`. At each 16th the publisher waits for the late subscriber.
 const AFTER_DEATH: Part = Part {
     first: MIDDLE,
     end: LEAST,
     every: EVERY,
 };
 
-/// At none of these.
+/// The last records. The publisher waits at none of them, since none of their numbers is a
+/// multiple of `RECORDS`.
 const REST: Part = Part {
     first: LEAST,
     end: RECORDS,
     every: RECORDS,
 };
 
-/// How many records the one who dies keeps in hand.
+/// How many records the subscriber who dies has received and not given back.
 const KEPT: u64 = 3;
 
-/// How often the slow one reads each record.
+/// How often the slow subscriber reads each record again.
 const LOOKS: u64 = 20;
 
+/// How many words each record has.
 const WORDS: usize = 16;
 
+/// The sizes of the bus: 24 slots, three subscribers, and four records that wait for each.
 const SIZES: Sizes = Sizes {
     slots: 24,
     subscribers: 3,
     queue: 4,
 };
 
-/// What the threads tell each other.
+/// What the threads tell each other. Each word is a count that only rises.
 struct Shared {
+    /// How many records were published.
     published: AtomicU64,
+    /// How many subscribers have joined.
     joined: AtomicU64,
+    /// How many subscribers have died.
     dead: AtomicU64,
+    /// How many subscribers have left.
     left: AtomicU64,
-    /// How many records came to the slow one, and to the late one.
+    /// How many records came to the slow subscriber.
     slow: AtomicU64,
+    /// How many records came to the late subscriber.
     late: AtomicU64,
 }
 
@@ -96,8 +110,8 @@ impl Drop for Shared {
     }
 }
 
-/// Publishes a record of this number, and tells of it. False where no slot came, where the next number is another, and where there is
-/// no memory.
+/// Publishes a record of this number, and tells the listener that there is one. False where no slot came by
+/// `TURNS` tries, where the next number of the bus is another one, or where there was no memory for the text.
 fn publish(
     rt: &impl Wait,
     publisher: &mut Publisher<'_, Words, OwnNumber>,
@@ -116,7 +130,8 @@ fn publish(
     is_written && next == number
 }
 
-/// Publishes these records, and waits at some of them until this subscriber has got one more: whether all went well.
+/// Publishes the records of this part in order. At some of them it waits until `came`, the count of a
+/// subscriber's records, has risen. False where a record could not be published, or a wait reached its limit.
 fn publish_part(
     rt: &impl Wait,
     publisher: &mut Publisher<'_, Words, OwnNumber>,
@@ -140,14 +155,16 @@ fn publish_part(
     true
 }
 
-/// What the publisher tells of a run: how many slots were out once one had died, and in the end.
+/// What the publisher found: how many slots were out once a subscriber had died and before it was recovered,
+/// and how many in the end.
 #[derive(Clone, Copy)]
 struct Published {
     out_at_death: usize,
     out: usize,
 }
 
-/// Publishes all records, takes out the one who has died, and waits until the others have left.
+/// Publishes all records, recovers the subscriber who has died, and waits until the other two have left. None
+/// where a record could not be published, or a wait reached its limit.
 fn publish_all(
     rt: &impl Wait,
     publisher: &mut Publisher<'_, Words, OwnNumber>,
@@ -176,8 +193,8 @@ fn publish_all(
     })
 }
 
-/// The number that a record was published with, and the one that stands in it. They are the same by the rule. None where the
-/// record is not whole.
+/// The number that a record was published with, and the number that stands in it. They are equal by the rule
+/// of the record type. None where the record has a word or a text of another number.
 fn numbers_of(subscriber: &Subscriber<'_, Words, OwnNumber>, sample: &Sample) -> Option<(u64, u64)>
     ensures { IfSome result (λ r. r.0 ≡ r.1) }
 {
@@ -189,7 +206,8 @@ fn numbers_of(subscriber: &Subscriber<'_, Words, OwnNumber>, sample: &Sample) ->
     Some((reading.number(), words.number))
 }
 
-/// The number of a record, which is read so often more. None where it was torn, or has changed.
+/// Reads the record `looks` times more, and returns its number. None where it was torn, or changed
+/// between two readings.
 fn number_still(
     subscriber: &Subscriber<'_, Words, OwnNumber>,
     sample: &Sample,
@@ -205,8 +223,10 @@ fn number_still(
     Some(found)
 }
 
-/// Receives records until the last one, reads each so often more, and gives it back: how many came, which it also tells as they
-/// come. None where one was torn, or did not come, or not in order. (Nothing pushes the last one out.)
+/// Receives records until the one of the last number, reads each `looks` times more, and gives it back. It
+/// returns how many records came, and counts them in `came`. None where a record was torn, did not come by
+/// `TURNS` tries, or was not newer than the one before. The last record always comes, since no later one
+/// pushes it out.
 fn receive_all(
     rt: &impl Wait,
     subscriber: &mut Subscriber<'_, Words, OwnNumber>,
@@ -230,7 +250,8 @@ fn receive_all(
     None
 }
 
-/// Joins once so many records have been published, receives, and leaves: how many records came.
+/// Joins once `joins_at` records have been published, receives all that come, and leaves. It returns how many
+/// records came, or None where it gave up.
 fn subscribe(
     rt: &impl Wait,
     seat: Seat<'_, Words, OwnNumber>,
@@ -251,7 +272,7 @@ fn subscribe(
     Some(number)
 }
 
-/// Joins, and dies with so many records in hand.
+/// Joins, receives `KEPT` records, and dies with them in hand. None where a record did not come.
 fn die(
     rt: &impl Wait,
     seat: Seat<'_, Words, OwnNumber>,
@@ -268,7 +289,8 @@ fn die(
     Some(KEPT)
 }
 
-/// What came of a run. Besides what the publisher tells it is how many records came to the slow one and to the late one.
+/// What a run came to: what the publisher found, and how many records came to the slow and to
+/// the late subscriber.
 #[derive(Clone, Copy)]
 struct Came {
     published: Published,
@@ -276,7 +298,7 @@ struct Came {
     late: u64,
 }
 
-/// Runs the four threads.
+/// Runs the publisher and the three subscribers in four threads. None where one of them gave up.
 fn run<R: Threads + Wait + Sync>(
     rt: &R,
     publisher: &mut Publisher<'_, Words, OwnNumber>,
@@ -312,7 +334,8 @@ fn run<R: Threads + Wait + Sync>(
     })
 }
 
-/// The same with three seats of this publisher, and whether the topic was told of in the end.
+/// Makes three seats of this publisher and runs `run` with them. It also returns whether the listener hears
+/// in the end that there was a record.
 fn run_and_hear<R: Threads + Wait + Sync>(
     rt: &R,
     publisher: &mut Publisher<'_, Words, OwnNumber>,
@@ -333,7 +356,7 @@ fn run_and_hear<R: Threads + Wait + Sync>(
     Some((came, listener.next(rt) == Some(0)))
 }
 
-/// The same on a new bus.
+/// Makes a bus and its publisher, and runs `run_and_hear` on it.
 fn run_anew<R: Threads + Wait + Sync>(
     rt: &R,
     alloc: Global,
@@ -348,6 +371,9 @@ fn run_anew<R: Threads + Wait + Sync>(
     Ok(run_and_hear(rt, &mut publisher, &mut news, owners))
 }
 
+/// Runs the four threads once. In the end no slot is out, so none was lost with the dead subscriber or in a
+/// queue. When that subscriber died at least the `KEPT` slots were out. The slow and the late subscriber got
+/// at least the records that the publisher waited for.
 #[test]
 fn all_slots_are_free_in_the_end(rt: HostRuntime) -> Result<(), Fail> {
     let owners = [OwnerId::new(1)?, OwnerId::new(2)?, OwnerId::new(3)?];

@@ -1,4 +1,5 @@
-//! Rows of steps on a bus, taken by one thread.
+//! Rows of steps on a bus with eight slots and two subscribers, taken by one thread, and the sizes that a bus
+//! refuses. A number in a row is that of a record, of an owner, of tries or of a slot (`rooms::Step`).
 use crate::rooms::Step::{
     Collects, Dies, DropsLoan, Forgets, Gets, GivesUp, HasSeat, IsNext, IsStillRead, Joins, Leaves,
     Loans, LoansBy, Out, Publishes, Reads, ReadsOn, Reclaims, Recovers, Updates, WaitsForLoan,
@@ -14,7 +15,7 @@ use zero_copy_bus::error::BusError;
 use zero_copy_bus::news::News;
 use zero_copy_slots::Anything;
 
-/// Both get each record, in order; and none comes back before both have given it back.
+/// Both subscribers get each record, in order, and its slot comes back only after both have given it back.
 const BOTH: [Step; 9] = [
     Publishes(7, 2),
     Out(1),
@@ -27,7 +28,8 @@ const BOTH: [Step; 9] = [
     Gets(One, 1, false),
 ];
 
-/// Two wait for one who is slow, and what was sent before came back.
+/// Two records wait for a subscriber that is slow, and the slots of the records that were
+/// published before come back.
 const SLOW: [Step; 11] = [
     Publishes(0, 1),
     Publishes(1, 1),
@@ -42,7 +44,7 @@ const SLOW: [Step; 11] = [
     Out(0),
 ];
 
-/// No slot is left for a ninth loan, until one is given up.
+/// Eight loans take all slots, and no ninth comes until one of them is given up.
 const LOANS: [Step; 12] = [
     Loans(true),
     Loans(true),
@@ -58,7 +60,8 @@ const LOANS: [Step; 12] = [
     Loans(true),
 ];
 
-/// What those who left had in hand, had given back, and what waited for them comes back.
+/// After both subscribers have left, all slots come back: the one in hand, the one that was given back, and
+/// those of the records that waited.
 const LEFT: [Step; 14] = [
     Publishes(0, 2),
     Publishes(1, 2),
@@ -76,7 +79,8 @@ const LEFT: [Step; 14] = [
     Reads(One, 4),
 ];
 
-/// What one who died had comes back once he is recovered, and not before; nor is his place free.
+/// What a dead subscriber had comes back once its owner is recovered, and not before, and its
+/// place is not free before.
 const DEAD: [Step; 17] = [
     Publishes(0, 2),
     Gets(Other, 1, true),
@@ -97,8 +101,9 @@ const DEAD: [Step; 17] = [
     Reads(One, 2),
 ];
 
-/// What one who died gave back, and nobody took back, takes nothing from the one who follows him. Of three more records
-/// the last lies in the slot of the first, which the others have pushed out.
+/// A dead subscriber had given a slot back which the publisher did not collect. The slot is used again after
+/// the recovery, by record 3, and is out until both subscribers have given that record back: what the dead
+/// one gave back does not free it.
 const GIVEN: [Step; 17] = [
     Publishes(0, 2),
     Reads(Other, 0),
@@ -119,7 +124,7 @@ const GIVEN: [Step; 17] = [
     Out(0),
 ];
 
-/// A seat that nobody took is free again once the publisher has looked.
+/// A seat that was dropped without a `join` is free again once the publisher has looked.
 const SEATS: [Step; 6] = [
     HasSeat(true),
     HasSeat(true),
@@ -129,7 +134,8 @@ const SEATS: [Step; 6] = [
     HasSeat(true),
 ];
 
-/// A reading that is forgotten keeps its slot, of which the next loan is told, and the others go on.
+/// A reading that is forgotten holds its slot: the next loan is refused and names this slot, which cannot be
+/// reclaimed. Other slots are loaned and read as before.
 const FORGOTTEN: [Step; 10] = [
     Publishes(0, 1),
     Forgets(One),
@@ -143,8 +149,8 @@ const FORGOTTEN: [Step; 10] = [
     IsNext(2),
 ];
 
-/// A try that gets no slot since it finds one whose reading is forgotten leaves that out, and the next gets another. No record is lost
-/// but that which lies there.
+/// A call with one try finds a slot whose reading is forgotten, and gets no loan. The slot stays out, so the
+/// next call gets another one. Only the record in that slot is lost.
 const FORGOTTEN_PAST: [Step; 9] = [
     Publishes(0, 1),
     Forgets(One),
@@ -157,14 +163,15 @@ const FORGOTTEN_PAST: [Step; 9] = [
     Out(1),
 ];
 
-/// So two tries of one call get another, too.
+/// A call with two tries gets another slot by its second try, after the first one found a slot
+/// whose reading is forgotten.
 const FORGOTTEN_BY_TWO: [Step; 4] = [Publishes(0, 1), Forgets(One), LoansBy(2, true), Out(1)];
 
-/// Who waits gets another, too, and does not stay at the one that is read for good.
+/// A publisher that waits for a loan gets another slot, and does not stay at the one that is held for good.
 const FORGOTTEN_WAITED: [Step; 4] = [Publishes(0, 1), Forgets(One), WaitsForLoan, Out(1)];
 
-/// Who may not try takes nothing. A try to loan takes back what was given back. Where nothing comes by any number of tries, nothing has
-/// changed.
+/// A limit of 0 tries takes nothing, neither a loan nor a record. A try to loan first takes back what was
+/// given back. Where no try brings a loan or a record, no slot and no number is used up.
 const LIMITS: [Step; 38] = [
     LoansBy(0, false),
     LoansBy(1, true),
@@ -206,7 +213,8 @@ const LIMITS: [Step; 38] = [
     Reads(One, 3),
 ];
 
-/// The slot of a loan that was dropped is free once it is reclaimed. That of a loan in hand is not.
+/// The slot of a loan that was dropped is free once it is reclaimed. The slot of a loan in
+/// hand is not reclaimed.
 const DROPPED: [Step; 9] = [
     Loans(true),
     Reclaims(0, false),
@@ -219,7 +227,8 @@ const DROPPED: [Step; 9] = [
     IsNext(1),
 ];
 
-/// The slot of a second loan that was dropped is free once it is reclaimed. That of the first one, in hand, is not.
+/// The slot of a second loan, which was dropped, is free once it is reclaimed. The slot of the first one, in
+/// hand, is not reclaimed.
 const DROPPED_OTHER: [Step; 7] = [
     Loans(true),
     Loans(true),
@@ -230,10 +239,12 @@ const DROPPED_OTHER: [Step; 7] = [
     GivesUp,
 ];
 
-/// What lay in a slot that was still read is written again once the slot is reclaimed: there are 16 records.
+/// A record in a slot that was still read is written again once the slot is reclaimed. By 17 rounds with 16
+/// records a lost record would show.
 const READ_ON: [Step; 4] = [Publishes(0, 2), Reads(Other, 0), ReadsOn, Out(0)];
 
-/// A lane is free after one look, also where one who left has given back all slots that there are, and nothing was collected.
+/// A lane is free after one look. The subscriber that left had given back all slots that there are, and
+/// nothing was collected before.
 const ALL_GIVEN: [Step; 20] = [
     Publishes(0, 1),
     Reads(One, 0),
@@ -257,24 +268,28 @@ const ALL_GIVEN: [Step; 20] = [
     Out(0),
 ];
 
-/// The record of a loan that is given up is written again, and so is what lay in its slot.
+/// The record of a loan that was given up is written again, and so is the record that lay in its slot before.
+/// By 100 rounds with 16 records a lost record would show.
 const GIVEN_UP: [Step; 3] = [Publishes(0, 0), Loans(true), GivesUp];
 
-/// All records come back from a publisher who has none in a slot.
+/// A publisher that has no record in a slot hands out all its records when it finishes.
 const NONE_LEFT: [Step; 2] = [Loans(true), GivesUp];
 
-/// Both take a seat, and none is left.
+/// Both subscribers take a seat, and no further seat is free.
 const JOIN: [Step; 3] = [Joins(One, 1), Joins(Other, 2), HasSeat(false)];
 
-/// One takes a seat.
+/// One subscriber takes a seat.
 const JOIN_ONE: [Step; 1] = [Joins(One, 1)];
 
-/// How many records there are.
+/// How many records a bus of these rows has to write.
 const RECORDS: usize = 16;
 
+/// Plays each row on a new bus. A row is its name, its steps to begin with, its steps, their rounds, and how
+/// many records have to be left at least when the publisher finishes. A failure names the row, and the place
+/// of the step that came to something else.
 #[test]
 fn rows(rt: HostRuntime) -> Result<(), Fail> {
-    // (and how many records are left at least)
+    // (name, steps taken once, steps of each round, rounds, least number of records that are left)
     let rows: [(&str, &[Step], &[Step], usize, usize); 18] = [
         ("BOTH", &JOIN, &BOTH, 100, 0),
         ("SLOW", &JOIN_ONE, &SLOW, 3, 0),
@@ -320,7 +335,8 @@ fn rows(rt: HostRuntime) -> Result<(), Fail> {
     Ok(())
 }
 
-/// More than 63 may not subscribe: a bus is refused for that.
+/// Sizes that a bus refuses, and whether it refuses them because of too many subscribers. At
+/// most 63 may subscribe.
 const REFUSED: [(Sizes, bool); 6] = [
     (Sizes { slots: 0, ..SIZES }, false),
     (
@@ -360,6 +376,7 @@ const REFUSED: [(Sizes, bool); 6] = [
     ),
 ];
 
+/// Each size of `REFUSED` is refused for its reason, and a bus whose queues hold no record can be made.
 #[test]
 fn a_bus_has_sizes(rt: HostRuntime) -> Result<(), Fail> {
     for (sizes, are_many) in &REFUSED {
@@ -375,7 +392,9 @@ fn a_bus_has_sizes(rt: HostRuntime) -> Result<(), Fail> {
     Ok(())
 }
 
-/// Whether nothing is heard before anything was told, and then what was, each once. None where there is no pass.
+/// Tells of the topics 69 and 3, the latter twice, and refuses topic 70 of a bus of 70 topics. The
+/// listener hears nothing before that and each topic once after it, the lower one first. None where
+/// an end is not to be had.
 fn is_heard(rt: &impl Wait, news: &mut News) -> Option<bool> {
     let (mut notifier, mut listener) = news.ends()?;
     let mut right = listener.next(rt).is_none();
@@ -388,6 +407,8 @@ fn is_heard(rt: &impl Wait, news: &mut News) -> Option<bool> {
     Some(right & listener.next(rt).is_none())
 }
 
+/// A topic that was told of twice is heard once. If it were heard twice, or not at all, a listener would look
+/// in vain or miss what is new.
 #[test]
 fn a_topic_has_news_until_it_is_heard(rt: HostRuntime) -> Result<(), Fail> {
     let mut news = News::new(rt.alloc(), 70)?;

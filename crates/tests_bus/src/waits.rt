@@ -1,4 +1,5 @@
-//! A subscriber who waits for a publisher that comes late, and a publisher who waits until a slot comes back; and so by a limit of tries.
+//! A subscriber waits for a publisher that comes late, and a publisher waits until a slot comes back. Both
+//! wait by calls that have no limit, and by calls with a limit of tries.
 use crate::limit::{TURNS, wait_and_rest, wait_for};
 use crate::stage::{Failure, some};
 use crate::words::{Words, spares};
@@ -13,14 +14,16 @@ use zero_copy_bus::bus::{Bus, Sizes};
 use zero_copy_bus::publisher::Publisher;
 use zero_copy_bus::subscriber::Subscriber;
 
-/// All records may wait.
+/// The sizes of a bus on which both slots may wait in the queue.
 const SIZES: Sizes = Sizes {
     slots: 2,
     subscribers: 1,
     queue: 2,
 };
 
-/// Publishes three records once the subscriber is about to wait. For the third it waits until a slot comes back, and tells so before.
+/// Publishes the records 0, 1 and 2 once the subscriber is about to wait. Before the third loan, which has to
+/// wait until a slot comes back, it tells so by `loans`. False where the subscriber does not come, or a
+/// record is not served to it.
 fn publish_late(
     rt: &impl Wait,
     publisher: &mut Publisher<'_, Words>,
@@ -38,8 +41,9 @@ fn publish_late(
     right
 }
 
-/// Tells that it is about to wait, receives two records, and keeps both until the publisher is about to wait for a slot. Then it gives
-/// the first one back, and receives a third, in its slot: whether they are numbered 0, 1 and 2.
+/// Tells by `receives` that it is about to wait, receives two records, and keeps both until the publisher is
+/// about to wait for a slot. Then it gives the first one back, and receives the third. It returns whether the
+/// records have the numbers 0, 1 and 2, and the third lies in the slot of the first.
 fn receive_early(
     rt: &impl Wait,
     subscriber: &mut Subscriber<'_, Words>,
@@ -57,7 +61,8 @@ fn receive_early(
     right && third.number() == 2 && third.slot() == slot
 }
 
-/// Runs both threads. `join` calls its first closure last where no thread can be made.
+/// Runs the publisher and the subscriber in two threads, and says whether both went well. `join` calls its
+/// first closure last where no thread can be made.
 fn run<R: Threads + Wait + Sync>(
     rt: &R,
     publisher: &mut Publisher<'_, Words>,
@@ -73,7 +78,7 @@ fn run<R: Threads + Wait + Sync>(
     has_received && has_published
 }
 
-/// The same on a new bus.
+/// Makes a bus with two slots, its publisher and a subscriber of this owner, and runs `run` on it.
 fn run_anew<R: Threads + Wait + Sync>(
     rt: &R,
     alloc: Global,
@@ -86,23 +91,27 @@ fn run_anew<R: Threads + Wait + Sync>(
     Ok(run(rt, &mut publisher, &mut subscriber))
 }
 
+/// A call that waits ends as soon as what it waits for is there. If it missed that, the test would not end.
 #[test]
 fn who_waits_gets_what_comes(rt: HostRuntime) -> Result<(), Fail> {
     assert!(rt; run_anew(&rt, rt.alloc(), OwnerId::new(1)?)?);
     Ok(())
 }
 
+/// The sizes of a bus with one slot, so that publisher and subscriber take turns.
 const ONE_SLOT: Sizes = Sizes {
     slots: 1,
     subscribers: 1,
     queue: 1,
 };
 
-/// How many records go through one slot.
+/// How many records go through the one slot.
 const ROUNDS: u64 = 32;
 
-/// Tries to loan the one slot, which the subscriber gives back some turns after this has begun to try. It publishes some turns after the
-/// subscriber has begun to try. How many records it published.
+/// Publishes `ROUNDS` records through the one slot, by tries. The subscriber gives the slot back some turns
+/// after the publisher has begun to try for a loan, and the publisher publishes some turns after the
+/// subscriber has begun to try. It returns how many records it published; fewer than `ROUNDS` where a wait
+/// reached its limit.
 fn publish_in_turn(
     rt: &impl Wait,
     publisher: &mut Publisher<'_, Words>,
@@ -123,8 +132,9 @@ fn publish_in_turn(
     ROUNDS
 }
 
-/// Tries to receive a record, which is published some turns after this has begun to try. It gives it back some turns after the publisher
-/// has begun to try to loan. How many records came in order.
+/// Receives `ROUNDS` records by tries, each published some turns after the tries have begun. It gives a
+/// record back some turns after the publisher has begun to try for a loan. It returns how many records came
+/// in order before one did not come, had another number, or a wait reached its limit.
 fn receive_in_turn(
     rt: &impl Wait,
     subscriber: &mut Subscriber<'_, Words>,
@@ -144,7 +154,8 @@ fn receive_in_turn(
     ROUNDS
 }
 
-/// Runs both threads: whether each record came.
+/// Runs `publish_in_turn` and `receive_in_turn` in two threads, and says whether all records
+/// went out and came in.
 fn run_in_turn<R: Threads + Wait + Sync>(
     rt: &R,
     publisher: &mut Publisher<'_, Words>,
@@ -160,7 +171,7 @@ fn run_in_turn<R: Threads + Wait + Sync>(
     received == ROUNDS && published == ROUNDS
 }
 
-/// The same on a new bus with one slot.
+/// Makes a bus with one slot, its publisher and a subscriber of this owner, and runs `run_in_turn` on it.
 fn run_in_turn_anew<R: Threads + Wait + Sync>(
     rt: &R,
     alloc: Global,
@@ -173,6 +184,8 @@ fn run_in_turn_anew<R: Threads + Wait + Sync>(
     Ok(run_in_turn(rt, &mut publisher, &mut subscriber))
 }
 
+/// A call with a limit of tries looks anew at each try, so it finds what comes after its first try. A call
+/// that looked only once would return None here.
 #[test]
 fn each_try_looks_anew(rt: HostRuntime) -> Result<(), Fail> {
     assert!(rt; run_in_turn_anew(&rt, rt.alloc(), OwnerId::new(1)?)?);

@@ -1,4 +1,5 @@
-//! Values of three words, of 16 and of 128, and numbers that values are made of, for tests.
+//! Values for tests: of three, 16 and 128 words, and values that are made of a number so that a
+//! torn one is recognized.
 #![tactic(auto)]
 
 pub mod long_values;

@@ -1,4 +1,4 @@
-//! Values of many words.
+//! Values of three, 16 and 128 words, for tests of structures that copy a value word by word.
 use steps::words::Words;
 
 /// A value of three words.
@@ -35,7 +35,7 @@ impl Words for Three {
     }
 }
 
-/// A value of 16 words: these four, four times.
+/// A value of 16 words: its four numbers, four times one after another.
 #[derive(Clone, Copy, PartialEq)]
 pub struct Sixteen(pub u64, pub u64, pub u64, pub u64);
 
@@ -70,7 +70,8 @@ impl Words for Sixteen {
     }
 }
 
-/// A value of 128 words, as many as a value may have: three of them, and 9 everywhere else.
+/// A value of 128 words, which is the most that a value may have. Its three numbers are the words 0, 64 and
+/// 127, and each other word is 9.
 #[derive(Clone, Copy, PartialEq)]
 pub struct Greatest(pub u64, pub u64, pub u64);
 

@@ -1,20 +1,20 @@
-//! Values that are made of a number, and the number that a value was made of.
+//! Values that are made of a number, so that a value that was torn, or made of two, tells no number.
 use crate::long_values::{Greatest, Sixteen, Three};
 use steps::words::Words;
 
-/// What the number of a value is that was made of none.
+/// The number of a value that was made of no number.
 pub const TORN: u64 = u64::MAX;
 
-/// A value whose words are all of one number.
+/// A value that can be made of a number, and tells that number again.
 pub trait Numbered: Words {
-    /// The value of this number, in `u32` of its low half.
+    /// The value of this number. For `u32` it is that of the low half of the number.
     fn of_number(number: u64) -> Self;
 
-    /// The number of the value, `TORN` where its words are not of one number.
+    /// The number that the value was made of, or `TORN` where its words do not belong to one number.
     fn number(&self) -> u64;
 }
 
-/// The number, where this holds.
+/// The number, if `is` is true, and `TORN` otherwise.
 fn whole(is: bool, number: u64) -> u64 {
     if is { number } else { TORN }
 }

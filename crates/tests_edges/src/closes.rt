@@ -1,4 +1,5 @@
-//! Queues that memory is refused to as they are closed.
+//! Queues that are closed while memory may be refused. `bin/try-memory` runs these tests, each time with
+//! another allocation refused.
 use lock_free::mpmc::unique_index_set_enums::UniqueIndexCreationError;
 use lock_free::spsc::index_queue::IndexQueue;
 use lock_free::spsc::queue::Queue;
@@ -8,10 +9,11 @@ use std::alloc::Global;
 use std::test::Fail;
 use tests_calls::long_values::Three;
 
-/// Whether what was asked for was right, or that memory was refused.
+/// Whether what was asked for came out right, or that memory was refused.
 type Right = Result<bool, UniqueIndexCreationError>;
 
-/// Whether both were right. Where memory is refused to one of them alone, the other has to be right all the same.
+/// Whether both were right. False where memory was refused to both, since one refusal may not reach the
+/// other. A refusal to one alone is passed on, so that the test fails by it.
 fn both(one: Right, other: Right) -> Right {
     if one.is_err() && other.is_err() {
         return Ok(false);
@@ -19,7 +21,7 @@ fn both(one: Right, other: Right) -> Right {
     Ok(one? && other?)
 }
 
-/// Whether a pass that is left looks, is split and joined.
+/// A pass that is left after a close looks, is split, and joined again. False where it cannot be split.
 fn use_index_pass(left: &mut index_queue::Pass) -> bool {
     left.look();
     match left.split() {
@@ -31,8 +33,8 @@ fn use_index_pass(left: &mut index_queue::Pass) -> bool {
     }
 }
 
-/// Whether a queue into which 7 was pushed is closed with just that in it. Also where it is refused to close, the pass that
-/// is left goes on.
+/// Pushes 7 into an index queue and closes it. True if the queue that is left has just 7. The pass that was
+/// split off goes on also where the close is refused memory, and that is the result then.
 fn index_queue(alloc: Global) -> Right {
     let (queue, mut left) = IndexQueue::new(alloc, 2)?;
     let Some(pass) = left.split() else {
@@ -49,7 +51,8 @@ fn index_queue(alloc: Global) -> Right {
     Ok(pushed & goes_on & (list.pop() == Some(7)) & list.pop().is_none())
 }
 
-/// The same of a pass of a queue of values.
+/// A pass of a queue of values, left after a close, looks, is split, and joined again. False
+/// where it cannot be split.
 fn use_value_pass(left: &mut queue::Pass<Three>) -> bool {
     left.look();
     match left.split() {
@@ -61,7 +64,8 @@ fn use_value_pass(left: &mut queue::Pass<Three>) -> bool {
     }
 }
 
-/// The same of a queue of values.
+/// Pushes a value into a queue of values and closes it. True if the queue that is left has just this value,
+/// and the pass that was split off goes on.
 fn value_queue(alloc: Global) -> Right {
     let (queue, mut left) = Queue::<Three, 2>::new(alloc)?;
     let Some(pass) = left.split() else {
@@ -78,7 +82,8 @@ fn value_queue(alloc: Global) -> Right {
     Ok(pushed & goes_on & (list.pop() == Some(Three(7, 8, 9))) & list.pop().is_none())
 }
 
-/// The same of a pass of an overflowing queue.
+/// A pass of an overflowing queue, left after a close, looks, is split, and joined again. False where it
+/// cannot be split.
 fn use_overflowing_pass(left: &mut overflowing::Pass) -> bool {
     left.look();
     match left.split() {
@@ -90,7 +95,8 @@ fn use_overflowing_pass(left: &mut overflowing::Pass) -> bool {
     }
 }
 
-/// The same of an overflowing queue, from which 6 has come back.
+/// Pushes 6 and 7 into an overflowing queue of capacity 1 and closes it. True if 6 was pushed out, the queue
+/// that is left has just 7, and the pass that was split off goes on.
 fn overflowing_queue(alloc: Global) -> Right {
     let (queue, mut left) = SafelyOverflowingIndexQueue::new(alloc, 1)?;
     let Some(pass) = left.split() else {
@@ -107,7 +113,8 @@ fn overflowing_queue(alloc: Global) -> Right {
     Ok(pushed & goes_on & (list.pop() == Some(7)) & list.pop().is_none())
 }
 
-/// Where memory is refused to a close the test fails by that alone: another queue is made and closed then.
+/// Closes two index queues, one after another. Where memory is refused to one close, the test fails by this
+/// refusal alone, and the other queue is made and closed as if nothing had been refused.
 #[test]
 fn a_refused_close_of_an_index_queue(rt: HostRuntime) -> Result<(), Fail> {
     let (one, other) = (index_queue(rt.alloc()), index_queue(rt.alloc()));
@@ -115,6 +122,7 @@ fn a_refused_close_of_an_index_queue(rt: HostRuntime) -> Result<(), Fail> {
     Ok(())
 }
 
+/// Closes two queues of values; the outcomes are those of `a_refused_close_of_an_index_queue`.
 #[test]
 fn a_refused_close_of_a_queue(rt: HostRuntime) -> Result<(), Fail> {
     let (one, other) = (value_queue(rt.alloc()), value_queue(rt.alloc()));
@@ -122,6 +130,7 @@ fn a_refused_close_of_a_queue(rt: HostRuntime) -> Result<(), Fail> {
     Ok(())
 }
 
+/// Closes two overflowing queues; the outcomes are those of `a_refused_close_of_an_index_queue`.
 #[test]
 fn a_refused_close_of_an_overflowing_queue(rt: HostRuntime) -> Result<(), Fail> {
     let (one, other) = (overflowing_queue(rt.alloc()), overflowing_queue(rt.alloc()));

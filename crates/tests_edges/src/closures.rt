@@ -1,5 +1,5 @@
-//! Closures that index an array, which a set's capacity allows; and closures that set places of the set that they hear
-//! of.
+//! Closures that a set calls. Some index an array by what the set tells them, which is safe by the clauses
+//! about its capacity, and some set places of the set that calls them.
 ghost use Rattle.std.specs.Prelude.{◌≡◌};
 ghost use Rattle.lock_free.specs.RobustUniqueIndexSet.{capacity_of, IsPassOf};
 
@@ -13,7 +13,7 @@ use lock_free::mpmc::{bit_set, counting_bit_set};
 use std::sync::Wait;
 use std::test::Fail;
 
-/// One who uses a set of 100 indices.
+/// A user of a robust set of 100 indices, by a pass.
 struct User<'a> {
     set: &'a RobustUniqueIndexSet,
     pass: Pass,
@@ -31,7 +31,7 @@ impl<'a> Drop for User<'a> {
 }
 
 impl<'a> User<'a> {
-    /// Whether each index goes to one of three owners, in turn.
+    /// Acquires all 100 indices for three owners in turn. True if each acquire gives the next index.
     fn fill(&mut self, rt: &impl Wait, owners: &[OwnerId; 3]) -> bool {
         let mut right = true;
         for index in 0..100usize {
@@ -41,7 +41,7 @@ impl<'a> User<'a> {
         right
     }
 
-    /// Marks the indices of the owner: how many.
+    /// Marks the indices of the owner in the array, and returns how many they were.
     fn mark(&mut self, owner: OwnerId, marks: &mut [bool; 100]) -> usize {
         self.set.find(
             owner,
@@ -53,7 +53,7 @@ impl<'a> User<'a> {
         )
     }
 
-    /// Frees the indices of the owner that have no mark: how many.
+    /// Recovers those indices of the dead owner that have no mark, and returns how many they were.
     fn free(&mut self, rt: &impl Wait, dead: OwnerId, marks: &[bool; 100]) -> usize {
         let mut freed = 0usize;
         self.set.recover(
@@ -76,7 +76,7 @@ impl<'a> User<'a> {
     }
 }
 
-/// Whether the marks are at the places of the first of three owners, and at no other.
+/// Whether the marks are at the indices of the first of three owners, and at no other.
 fn are_right(marks: &[bool; 100]) -> bool {
     let mut right = true;
     for index in 0..100usize {
@@ -85,7 +85,8 @@ fn are_right(marks: &[bool; 100]) -> bool {
     right
 }
 
-/// Whether the indices of one owner are marked, and those of another freed.
+/// Marks the 34 indices of the first owner, and frees the 33 of the third. True if these are the numbers, the
+/// marks are right, and the second owner still has its 33.
 fn mark_and_free(rt: &impl Wait, user: &mut User<'_>, owners: &[OwnerId; 3]) -> bool {
     let mut table = [false; 100];
     let mut right = user.fill(rt, owners);
@@ -96,6 +97,8 @@ fn mark_and_free(rt: &impl Wait, user: &mut User<'_>, owners: &[OwnerId; 3]) -> 
     right & (user.find(owners[2]) == 0)
 }
 
+/// A closure may use an index of the set as a place of an array of 100, without a test. Were an index not
+/// below the capacity, the proof of this function would fail.
 #[test]
 fn closures_that_index(rt: HostRuntime) -> Result<(), Fail> {
     let owners = [OwnerId::new(1)?, OwnerId::new(2)?, OwnerId::new(3)?];
@@ -105,13 +108,14 @@ fn closures_that_index(rt: HostRuntime) -> Result<(), Fail> {
     Ok(())
 }
 
-/// Sets a place of a bit set, where there is one.
+/// Sets a place of a bit set. False where there is no such place, or it was set already.
 fn set_place(rt: &impl Wait, handle: &mut bit_set::Handle<'_>, place: usize) -> bool {
     place < handle.capacity() && handle.set(rt, place)
 }
 
-/// The places that a reset of all comes to, three digits each. At place 0 others are set: one of the same 64, which the
-/// call has passed, and one of the next.
+/// The places that `reset_all` hands out, as one number with three digits each. While it hands out place 0,
+/// the places 1 and 64 are set by another handle: the first in the word that the call has just taken, the
+/// second in the next word.
 fn reset_places(
     rt: &impl Wait,
     handle: &mut bit_set::Handle<'_>,
@@ -128,7 +132,9 @@ fn reset_places(
     digits
 }
 
-/// What is set behind the place is handed out by the same call, and what is set before it stands.
+/// A place in a later word that is set while `reset_all` runs is handed out by the same call. A place in the
+/// word that it has taken stands, and comes by the next call. The bit sets have 66, 130 and 1,000 places. A
+/// failure says that a place was lost or handed out twice.
 #[test]
 fn a_closure_that_sets_places(rt: HostRuntime) -> Result<(), Fail> {
     for last in [65, 129, 999usize] {
@@ -144,15 +150,15 @@ fn a_closure_that_sets_places(rt: HostRuntime) -> Result<(), Fail> {
     Ok(())
 }
 
-/// Counts a place of a counting bit set, where there is one.
+/// Adds 1 to the count of a place, where there is such a place.
 fn count_place(handle: &mut counting_bit_set::Handle<'_>, place: usize) {
     if place < handle.capacity() {
         handle.set(place);
     }
 }
 
-/// The places and counts that a reset of all comes to, two digits each. At places 0 and 1 the next one is counted, and at
-/// place 1 place 0 too.
+/// The places and counts that `reset_all` hands out, as one number with a digit for each. While it hands out
+/// place 0 or 1, the next place is counted by another handle, and at place 1 place 0 too.
 fn take_out(
     handle: &mut counting_bit_set::Handle<'_>,
     other: &mut counting_bit_set::Handle<'_>,
@@ -174,7 +180,9 @@ fn take_out(
     digits
 }
 
-/// The same of counts.
+/// A count that is added at a later place while `reset_all` runs is handed out by the same call, and one that
+/// is added at an earlier place by the next call. The sets have 3, 140 and 1,000 places. A failure says that
+/// a count was lost or handed out twice.
 #[test]
 fn a_closure_that_counts_places(rt: HostRuntime) -> Result<(), Fail> {
     for capacity in [3, 140, 1000] {

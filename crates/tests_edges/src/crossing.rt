@@ -1,4 +1,4 @@
-//! What may cross threads.
+//! Which types may cross threads. These tests hold if they compile.
 use lock_free::mpmc::bit_set::{BitSet, FixedSizeBitSet};
 use lock_free::mpmc::container::{Container, ContainerHandle, ContainerState, FixedSizeContainer};
 use lock_free::mpmc::counting_bit_set::{CountingBitSet, FixedSizeCountingBitSet};
@@ -17,12 +17,14 @@ use lock_free::spsc::safely_overflowing_index_queue::{
 use lock_free::spsc::{index_queue, queue, safely_overflowing_index_queue as overflowing};
 use tests_calls::long_values::Sixteen;
 
-/// A tuple may be sent where each of its parts may, so that one call tells of all of them.
+/// Compiles only for a type that may be sent to another thread. A tuple may be sent where each of its parts
+/// may, so one call says it of all of them.
 fn may_be_sent<T: Send>() {}
 
-/// The same of what may be sent and shared.
+/// Compiles only for a type that may be sent to another thread and shared between threads.
 fn may_be_shared<T: Send + Sync>() {}
 
+/// Queues and the single value may be shared, and their passes and guards may be sent.
 #[test]
 fn what_crosses_threads(rt: HostRuntime) {
     may_be_shared::<
@@ -56,6 +58,7 @@ fn what_crosses_threads(rt: HostRuntime) {
     >();
 }
 
+/// Bit sets may be shared, and their passes may be sent.
 #[test]
 fn what_of_bit_sets_crosses_threads(rt: HostRuntime) {
     may_be_shared::<
@@ -69,6 +72,7 @@ fn what_of_bit_sets_crosses_threads(rt: HostRuntime) {
     may_be_sent::<(bit_set::Pass, counting_bit_set::Pass)>();
 }
 
+/// Sets of indices may be shared, and their passes and an index in hand may be sent.
 #[test]
 fn what_of_index_sets_crosses_threads(rt: HostRuntime) {
     may_be_shared::<
@@ -88,6 +92,7 @@ fn what_of_index_sets_crosses_threads(rt: HostRuntime) {
     >();
 }
 
+/// Containers and handles of values may be shared, and passes and states may be sent.
 #[test]
 fn what_of_containers_crosses_threads(rt: HostRuntime) {
     may_be_shared::<(Container<u32>, FixedSizeContainer<u32, 8>, ContainerHandle)>();

@@ -1,5 +1,6 @@
-//! Each structure is made many times, with its passes, guards and handles: once these are dropped, its memory comes back.
-//! `bin/try-memory --freed` runs these tests where there is memory for few at once.
+//! Each structure is made many times, with its passes, guards and handles, which are dropped: then its memory
+//! has to come back. `bin/try-memory --freed` runs these tests with 32 MB of memory, less than the structures
+//! of one test would take if none of it came back.
 use lock_free::mpmc::bit_set::BitSet;
 use lock_free::mpmc::container::Container;
 use lock_free::mpmc::counting_bit_set::CountingBitSet;
@@ -15,17 +16,21 @@ use std::sync::Wait;
 use std::test::Fail;
 use tests_calls::long_values::Greatest;
 
-/// How many places each structure has. If nothing were given back, all that are made would take 33 MB and more.
+/// How many places each structure has. If nothing came back, all structures of one test would
+/// take 33 MB and more.
 const PLACES: usize = 5000;
 
 /// How often each structure is made.
 const ROUNDS: u64 = 1000;
 
-/// A value takes 2 KB, so it is made more often.
+/// How often the single value is made. It takes 2 KB, which is less than the others, so
+/// it is made more often.
 const VALUES: u64 = 20_000;
 
+/// Whether the structure was made, or the reason why not.
 type Made = Result<(), UniqueIndexCreationError>;
 
+/// Makes an index queue, and drops the guards of both roles, which are taken by passes.
 fn index_queue(alloc: Global) -> Made {
     let (queue, mut pass) = IndexQueue::new(alloc, PLACES)?;
     let other = pass.split();
@@ -36,6 +41,7 @@ fn index_queue(alloc: Global) -> Made {
     Ok(())
 }
 
+/// Makes an index queue, and drops the guards of both roles, which are taken by handles.
 fn handles_of_index_queue(alloc: Global) -> Made {
     let (queue, pass) = IndexQueue::new(alloc, PLACES)?;
     let mut handle = queue.handle(pass);
@@ -47,6 +53,7 @@ fn handles_of_index_queue(alloc: Global) -> Made {
     Ok(())
 }
 
+/// Makes a queue of values, and drops the guards of both roles.
 fn queue(alloc: Global) -> Made {
     let (queue, mut pass) = Queue::<u64, PLACES>::new(alloc)?;
     let other = pass.split();
@@ -57,6 +64,7 @@ fn queue(alloc: Global) -> Made {
     Ok(())
 }
 
+/// Makes an overflowing queue, and drops the guards of both roles.
 fn overflowing_queue(alloc: Global) -> Made {
     let (queue, mut pass) = SafelyOverflowingIndexQueue::new(alloc, PLACES)?;
     let other = pass.split();
@@ -67,6 +75,7 @@ fn overflowing_queue(alloc: Global) -> Made {
     Ok(())
 }
 
+/// Makes a value of 128 words, and drops its producer and a handle.
 fn value(alloc: Global) -> Made {
     let (value, mut pass) = UnrestrictedAtomic::new(alloc, Greatest(7, 8, 9))?;
     if let Some(other) = pass.split() {
@@ -76,6 +85,7 @@ fn value(alloc: Global) -> Made {
     Ok(())
 }
 
+/// Makes a bit set, and drops a handle and a pass.
 fn bit_set(alloc: Global) -> Made {
     let (set, mut pass) = BitSet::new(alloc, 64 * PLACES)?;
     let other = pass.split();
@@ -84,6 +94,7 @@ fn bit_set(alloc: Global) -> Made {
     Ok(())
 }
 
+/// Makes a counting bit set, and drops a handle and a pass.
 fn counting_bit_set(alloc: Global) -> Made {
     let (set, mut pass) = CountingBitSet::new(alloc, PLACES)?;
     let other = pass.split();
@@ -92,7 +103,8 @@ fn counting_bit_set(alloc: Global) -> Made {
     Ok(())
 }
 
-/// An index that is dropped gives itself back, and its pass is gone.
+/// Makes a unique index set, and drops an index that was taken by a pass, one that was taken by a handle, and
+/// a handle. An index that is dropped gives itself back.
 fn unique_index_set(rt: &impl Wait, alloc: Global) -> Made {
     let (set, mut pass) = UniqueIndexSet::new(alloc, PLACES)?;
     if let Some(other) = pass.split() {
@@ -105,6 +117,7 @@ fn unique_index_set(rt: &impl Wait, alloc: Global) -> Made {
     Ok(())
 }
 
+/// Makes a robust set, and drops a handle and a pass.
 fn robust_unique_index_set(alloc: Global) -> Made {
     let (set, mut pass) = RobustUniqueIndexSet::new(alloc, PLACES)?;
     let other = pass.split();
@@ -113,6 +126,7 @@ fn robust_unique_index_set(alloc: Global) -> Made {
     Ok(())
 }
 
+/// Makes a container, and drops a handle and a pass.
 fn container(alloc: Global) -> Made {
     let (container, mut pass) = Container::<u64>::new(alloc, PLACES, 5)?;
     let other = pass.split();
@@ -121,6 +135,8 @@ fn container(alloc: Global) -> Made {
     Ok(())
 }
 
+/// The memory of an index queue comes back once its guards, passes and handles are dropped. If one of them
+/// kept it, a later queue would be refused memory.
 #[test]
 fn index_queues(rt: HostRuntime) -> Result<(), Fail> {
     for _ in 0..ROUNDS {
@@ -130,6 +146,7 @@ fn index_queues(rt: HostRuntime) -> Result<(), Fail> {
     Ok(())
 }
 
+/// The memory of a queue of values comes back, or a later one would be refused memory.
 #[test]
 fn queues(rt: HostRuntime) -> Result<(), Fail> {
     for _ in 0..ROUNDS {
@@ -138,6 +155,7 @@ fn queues(rt: HostRuntime) -> Result<(), Fail> {
     Ok(())
 }
 
+/// The memory of an overflowing queue comes back, or a later one would be refused memory.
 #[test]
 fn overflowing_queues(rt: HostRuntime) -> Result<(), Fail> {
     for _ in 0..ROUNDS {
@@ -146,6 +164,7 @@ fn overflowing_queues(rt: HostRuntime) -> Result<(), Fail> {
     Ok(())
 }
 
+/// The memory of the single value comes back, or a later one would be refused memory.
 #[test]
 fn values(rt: HostRuntime) -> Result<(), Fail> {
     for _ in 0..VALUES {
@@ -154,6 +173,7 @@ fn values(rt: HostRuntime) -> Result<(), Fail> {
     Ok(())
 }
 
+/// The memory of a bit set comes back, or a later one would be refused memory.
 #[test]
 fn bits(rt: HostRuntime) -> Result<(), Fail> {
     for _ in 0..ROUNDS {
@@ -162,6 +182,7 @@ fn bits(rt: HostRuntime) -> Result<(), Fail> {
     Ok(())
 }
 
+/// The memory of a counting bit set comes back, or a later one would be refused memory.
 #[test]
 fn counts(rt: HostRuntime) -> Result<(), Fail> {
     for _ in 0..ROUNDS {
@@ -170,6 +191,7 @@ fn counts(rt: HostRuntime) -> Result<(), Fail> {
     Ok(())
 }
 
+/// The memory of a unique index set comes back, or a later one would be refused memory.
 #[test]
 fn unique_sets(rt: HostRuntime) -> Result<(), Fail> {
     for _ in 0..ROUNDS {
@@ -178,6 +200,7 @@ fn unique_sets(rt: HostRuntime) -> Result<(), Fail> {
     Ok(())
 }
 
+/// The memory of a robust set comes back, or a later one would be refused memory.
 #[test]
 fn robust_sets(rt: HostRuntime) -> Result<(), Fail> {
     for _ in 0..ROUNDS {
@@ -186,6 +209,7 @@ fn robust_sets(rt: HostRuntime) -> Result<(), Fail> {
     Ok(())
 }
 
+/// The memory of a container comes back, or a later one would be refused memory.
 #[test]
 fn containers(rt: HostRuntime) -> Result<(), Fail> {
     for _ in 0..ROUNDS {

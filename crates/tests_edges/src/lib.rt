@@ -1,5 +1,6 @@
-//! What of the threaded types no text of calls can say: what crosses threads, memory that is refused, closures that
-//! capture, a state that outlives its container, and what both ends of a queue tell.
+//! Tests of the threaded types that no script of `tests_forms` can play. They are about types that may cross
+//! threads, memory that is refused (`bin/try-memory`) or freed, closures that capture, a state that outlives
+//! its container, and what the ends of a queue tell of it.
 #![tactic(auto)]
 
 #[cfg(test)]

@@ -1,4 +1,4 @@
-//! A sender of a loan channel that memory is refused to, or that is dropped.
+//! A sender of a loan channel that is refused memory, or that is dropped.
 use lock_free::mpmc::unique_index_set::UniqueIndexSet;
 use lock_free::spsc::index_queue::IndexQueue;
 use lock_free::spsc::loan::LoanSender;
@@ -6,7 +6,8 @@ use lock_free::spsc::safely_overflowing_index_queue::SafelyOverflowingIndexQueue
 use lock_free::spsc::{index_queue, safely_overflowing_index_queue as overflowing};
 use std::test::Fail;
 
-/// The end that loans are sent at, and another handle.
+/// The producer of the submission queue, by which a sender sends, and another handle of that queue. None
+/// where the role is taken.
 fn sending<'a>(
     handle: overflowing::Handle<'a>,
 ) -> Option<(overflowing::Producer<'a>, overflowing::Handle<'a>)> {
@@ -16,7 +17,8 @@ fn sending<'a>(
     Some((producer, other))
 }
 
-/// The end that they are taken back at, and another handle.
+/// The consumer of the completion queue, from which a sender takes indices back, and another handle of that
+/// queue. None where the role is taken.
 fn taking<'a>(
     handle: index_queue::Handle<'a>,
 ) -> Option<(index_queue::Consumer<'a>, index_queue::Handle<'a>)> {
@@ -26,18 +28,19 @@ fn taking<'a>(
     Some((consumer, other))
 }
 
-/// Whether another one sends.
+/// Whether the role of the producer is taken, so that somebody sends.
 fn is_sending(handle: overflowing::Handle<'_>) -> bool {
     handle.acquire_producer().is_err()
 }
 
-/// Whether another one takes back.
+/// Whether the role of the consumer is taken, so that somebody takes back.
 fn is_taking(handle: index_queue::Handle<'_>) -> bool {
     handle.acquire_consumer().is_err()
 }
 
-/// Where memory is refused to the sender the test fails by that alone: both roles are free then. They are not while it
-/// lives, and are again once it is dropped.
+/// A sender has both roles as long as it lives, and they are free once it is dropped. Where memory is refused
+/// to it the test fails by that alone, and the roles are free at once. If one stayed taken, no later sender
+/// could be made.
 #[test]
 fn a_refused_or_dropped_sender(rt: HostRuntime) -> Result<(), Fail> {
     let (set, slots) = UniqueIndexSet::new(rt.alloc(), 12)?;

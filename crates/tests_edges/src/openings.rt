@@ -1,4 +1,5 @@
-//! Each structure is made once: where memory is refused to it, a test fails by that alone.
+//! Makes each structure once. `bin/try-memory` refuses one allocation after another, and each refusal has to
+//! end the test by `NoMemory` alone.
 use lock_free::mpmc::bit_set::{BitSet, FixedSizeBitSet};
 use lock_free::mpmc::container::{Container, FixedSizeContainer};
 use lock_free::mpmc::counting_bit_set::{CountingBitSet, FixedSizeCountingBitSet};
@@ -14,7 +15,7 @@ use lock_free::spsc::safely_overflowing_index_queue::{
 use std::alloc::Global;
 use std::test::Fail;
 
-/// Drops what was made, so that nothing but the refusal is left of its types.
+/// Drops what was made, and keeps only whether it was refused, so that one type fits all structures.
 fn opened<T: Drop, E>(made: Result<T, E>) -> Result<(), E> {
     match made {
         Ok(_) => Ok(()),
@@ -22,6 +23,7 @@ fn opened<T: Drop, E>(made: Result<T, E>) -> Result<(), E> {
     }
 }
 
+/// Makes queues and the single value in the form of one caller.
 fn queues_of_one_caller(alloc: Global) -> Result<(), UniqueIndexCreationError> {
     opened(plain::IndexQueue::new(alloc, 2))?;
     opened(plain::SafelyOverflowingIndexQueue::new(alloc, 2))?;
@@ -30,6 +32,7 @@ fn queues_of_one_caller(alloc: Global) -> Result<(), UniqueIndexCreationError> {
     Ok(())
 }
 
+/// Makes sets and a container in the form of one caller.
 fn sets_of_one_caller(alloc: Global) -> Result<(), UniqueIndexCreationError> {
     opened(plain::BitSet::new(alloc, 123))?;
     opened(plain::CountingBitSet::new(alloc, 123))?;
@@ -39,6 +42,7 @@ fn sets_of_one_caller(alloc: Global) -> Result<(), UniqueIndexCreationError> {
     Ok(())
 }
 
+/// The forms of one caller are made, or the refusal of memory is passed on.
 #[test]
 fn forms_of_one_caller(rt: HostRuntime) -> Result<(), Fail> {
     queues_of_one_caller(rt.alloc())?;
@@ -46,6 +50,7 @@ fn forms_of_one_caller(rt: HostRuntime) -> Result<(), Fail> {
     Ok(())
 }
 
+/// Makes queues and the single value in the form of threads, with a capacity from the run.
 fn queues(alloc: Global) -> Result<(), UniqueIndexCreationError> {
     opened(IndexQueue::new(alloc, 2))?;
     opened(SafelyOverflowingIndexQueue::new(alloc, 2))?;
@@ -54,6 +59,7 @@ fn queues(alloc: Global) -> Result<(), UniqueIndexCreationError> {
     Ok(())
 }
 
+/// Makes sets and a container in the form of threads, with a capacity from the run.
 fn sets(alloc: Global) -> Result<(), UniqueIndexCreationError> {
     opened(BitSet::new(alloc, 123))?;
     opened(CountingBitSet::new(alloc, 123))?;
@@ -63,6 +69,7 @@ fn sets(alloc: Global) -> Result<(), UniqueIndexCreationError> {
     Ok(())
 }
 
+/// The forms of threads are made, or the refusal of memory is passed on.
 #[test]
 fn forms_of_threads(rt: HostRuntime) -> Result<(), Fail> {
     queues(rt.alloc())?;
@@ -70,12 +77,14 @@ fn forms_of_threads(rt: HostRuntime) -> Result<(), Fail> {
     Ok(())
 }
 
+/// Makes queues in the form of threads whose types have the capacity.
 fn queues_of_types(alloc: Global) -> Result<(), UniqueIndexCreationError> {
     opened(FixedSizeIndexQueue::<2>::new(alloc))?;
     opened(FixedSizeSafelyOverflowingIndexQueue::<2>::new(alloc))?;
     Ok(())
 }
 
+/// Makes sets and containers in the form of threads whose types have the capacity, also with a reduced one.
 fn sets_of_types(alloc: Global) -> Result<(), UniqueIndexCreationError> {
     opened(FixedSizeBitSet::<123>::new(alloc))?;
     opened(FixedSizeCountingBitSet::<123>::new(alloc))?;
@@ -87,6 +96,7 @@ fn sets_of_types(alloc: Global) -> Result<(), UniqueIndexCreationError> {
     Ok(())
 }
 
+/// The forms whose types have the capacity are made, or the refusal of memory is passed on.
 #[test]
 fn forms_of_types(rt: HostRuntime) -> Result<(), Fail> {
     queues_of_types(rt.alloc())?;

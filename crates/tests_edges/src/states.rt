@@ -1,5 +1,5 @@
-//! States of a container of threads: one that memory is refused to, one that outlives its container, and one whose entries
-//! are gone over.
+//! States of a container between threads: one that is refused memory, one that outlives its container, and
+//! one whose entries are listed.
 ghost use Rattle.lock_free.specs.Container.Names.{IsPassOf};
 
 use lock_free::mpmc::container::{
@@ -10,7 +10,7 @@ use std::alloc::Global;
 use std::sync::Wait;
 use std::test::Fail;
 
-/// One who uses a container.
+/// A user of a container, by a pass.
 struct User<'a> {
     container: &'a Container<u32>,
     pass: Pass<u32>,
@@ -27,15 +27,17 @@ impl<'a> Drop for User<'a> {
 }
 
 impl<'a> User<'a> {
+    /// Adds a value for this owner. False where it is refused.
     fn add(&mut self, rt: &impl Wait, value: u32, owner: OwnerId) -> bool {
         self.container.add(rt, value, owner, &mut self.pass).is_ok()
     }
 
+    /// A state of the container. None where memory is refused.
     fn state(&mut self, rt: &impl Wait) -> Option<ContainerState<u32>> {
         self.container.get_state(rt, &mut self.pass).ok()
     }
 
-    /// Whether the state is as it was, and the container too: two values, and no lock.
+    /// Whether the state still shows the container as it is: no change since, two values, and no lock.
     fn is_unchanged(&mut self, rt: &impl Wait, state: &mut ContainerState<u32>) -> bool {
         let same = self.container.is_state_of(state)
             && !self.container.update_state(rt, state, &mut self.pass);
@@ -44,7 +46,8 @@ impl<'a> User<'a> {
     }
 }
 
-/// The indices and values that a state shows, two digits each.
+/// The indices and values that a state shows, as one number with a digit for each: 516 says 5 at index 0 and
+/// 6 at index 1.
 fn shown(state: &ContainerState<u32>) -> u64 {
     let mut digits = 0u64;
     state.for_each(|index, value| {
@@ -58,7 +61,8 @@ fn shown(state: &ContainerState<u32>) -> u64 {
     digits
 }
 
-/// The same of its entries.
+/// The indices and values that `entries` lists of a state, as one number with a digit for
+/// each, as in `shown`.
 fn listed(state: &ContainerState<u32>) -> u64 {
     let mut digits = 0u64;
     for (index, value) in entries(state) {
@@ -71,7 +75,8 @@ fn listed(state: &ContainerState<u32>) -> u64 {
     digits
 }
 
-/// Whether a second state shows all, or changes nothing where memory is refused to it alone. None where memory is refused.
+/// Takes two states of a container with the values 5 and 6. True if the second one shows these, and the first
+/// one, taken before, sees no change. None where memory is refused to one of them.
 fn second_state(rt: &impl Wait, user: &mut User<'_>) -> Option<bool> {
     let mut first = user.state(rt)?;
     let second = user.state(rt);
@@ -81,7 +86,7 @@ fn second_state(rt: &impl Wait, user: &mut User<'_>) -> Option<bool> {
     Some(shown(&second?) == 516)
 }
 
-/// The same of a new container with the values 5 and 6.
+/// Makes a container of capacity 3 with the values 5 and 6, and plays `second_state` on it.
 fn of_two(
     rt: &impl Wait,
     alloc: Global,
@@ -96,8 +101,8 @@ fn of_two(
     Ok(second_state(rt, &mut user).map(|right| right && added))
 }
 
-/// Where memory is refused to the second state the test fails by `no memory` alone. The first state then shows that
-/// nothing has changed.
+/// Where memory is refused to a state, the test fails by `no memory` alone. The first state then shows that
+/// the refusal has changed nothing in the container.
 #[test]
 fn a_refused_state(rt: HostRuntime) -> Result<(), Fail> {
     let owner = OwnerId::new(1)?;
@@ -106,7 +111,8 @@ fn a_refused_state(rt: HostRuntime) -> Result<(), Fail> {
     Ok(())
 }
 
-/// A state of a container that is gone.
+/// A state of a container with the values 5 and 6, which is dropped before the state is returned. None where
+/// memory or an `add` is refused.
 fn left_over(rt: &impl Wait, alloc: Global, owner: OwnerId) -> Option<ContainerState<u32>> {
     let (container, pass) = Container::new(alloc, 3, 5).ok()?;
     let mut user = User {
@@ -120,6 +126,8 @@ fn left_over(rt: &impl Wait, alloc: Global, owner: OwnerId) -> Option<ContainerS
     }
 }
 
+/// A state shows its values after its container is gone. If it only pointed to them, they
+/// would be freed by then.
 #[test]
 fn state_without_container(rt: HostRuntime) -> Result<(), Fail> {
     let owner = OwnerId::new(1)?;
@@ -128,7 +136,8 @@ fn state_without_container(rt: HostRuntime) -> Result<(), Fail> {
     Ok(())
 }
 
-/// The entries of a state come by ascending index, from the first index to the last, and without one that was removed.
+/// The entries of a state come by ascending index, from the first index to the last, and without one that was
+/// removed. A state that was taken before the remove still lists the removed value.
 #[test]
 fn state_entries(rt: HostRuntime) -> Result<(), Fail> {
     let owner = OwnerId::new(1)?;

@@ -5,12 +5,15 @@ use lock_free::spsc::queue::Queue;
 use lock_free::words::Words;
 use std::test::Fail;
 
+/// A field of `Report` that is a struct itself: a place of a table.
 #[derive(Debug, Clone, Copy, PartialEq)]
 struct Place {
     row: u16,
     column: u32,
 }
 
+/// A value with a field of each type that `bin/words` accepts, and with facts about two of
+/// them. It has 12 words.
 #[derive(Clone, Copy)]
 struct Report {
     level: u8,
@@ -282,6 +285,7 @@ impl Words for Report {
 }
 // bin/words: end
 
+/// A report comes out of a queue as it went in. A field at a wrong word, or cut off, would come out changed.
 #[test]
 fn a_report_through_a_queue(rt: HostRuntime) -> Result<(), Fail> {
     let report = Report {

@@ -1,4 +1,5 @@
-//! What CALLING.md shows of handles: three threads ring, with no clause. And handles of a value.
+//! Handles, as CALLING.md shows them: three threads ring bells, and no function has a clause. Besides,
+//! handles of the single value, of a pool and of a queue.
 
 use lock_free::mpmc::bit_set::{BitSet, Handle};
 use lock_free::mpmc::unique_index_set;
@@ -10,17 +11,21 @@ use std::test::Fail;
 use std::thread;
 use std::thread::Threads;
 
+/// Somebody who rings one of the bells, by a handle of the bit set that they are.
 #[derive(Drop)]
 pub struct Ringer<'a> {
     bells: Handle<'a>,
     bell: usize,
 }
 
+/// Rings the bell. False where there is no such bell, or it was rung already.
 fn ring(rt: &impl Wait, ringer: Ringer<'_>) -> bool {
     let Ringer { mut bells, bell } = ringer;
     bell < bells.capacity() && bells.set(rt, bell)
 }
 
+/// Lets three ringers ring at the same time, each in a thread. True if each rang; None where no
+/// thread could be made.
 fn all<'a, R: Threads + Wait + Sync>(
     rt: &R,
     a: Ringer<'a>,
@@ -35,6 +40,8 @@ fn all<'a, R: Threads + Wait + Sync>(
     })
 }
 
+/// Each of three bells that three threads rang is heard once. A bell that was lost, or heard twice, would
+/// change the number.
 #[test]
 fn three_ring(rt: HostRuntime) -> Result<(), Fail> {
     let (set, pass) = BitSet::new(rt.alloc(), 64)?;
@@ -60,6 +67,7 @@ fn three_ring(rt: HostRuntime) -> Result<(), Fail> {
     Ok(())
 }
 
+/// One handle stores a value and two others load it. The producer's role is refused to a second one.
 #[test]
 fn one_stores_and_two_load(rt: HostRuntime) -> Result<(), Fail> {
     let (value, pass) = UnrestrictedAtomic::new(rt.alloc(), 7u64)?;
@@ -78,7 +86,7 @@ fn one_stores_and_two_load(rt: HostRuntime) -> Result<(), Fail> {
     Ok(())
 }
 
-/// Takes an index so many times, and gives it back: how often it got one.
+/// Takes an index and gives it back until it has got one `times` times, and returns that number.
 fn use_pool(rt: &impl Wait, pool: unique_index_set::Handle<'_>, times: u64) -> u64 {
     let (mut pool, mut got) = (pool, 0u64);
     for _ in rt.forever() {
@@ -96,6 +104,7 @@ fn use_pool(rt: &impl Wait, pool: unique_index_set::Handle<'_>, times: u64) -> u
     got
 }
 
+/// A pool gives an index each time that one was given back.
 #[test]
 fn one_uses_a_pool(rt: HostRuntime) -> Result<(), Fail> {
     let (set, pass) = UniqueIndexSet::new(rt.alloc(), 2)?;
@@ -103,6 +112,8 @@ fn one_uses_a_pool(rt: HostRuntime) -> Result<(), Fail> {
     Ok(())
 }
 
+/// A queue by three handles: one pushes, one pops, and one looks and counts. A role that is
+/// taken is refused to it.
 #[test]
 fn a_queue_by_handles(rt: HostRuntime) -> Result<(), Fail> {
     let (queue, pass) = IndexQueue::new(rt.alloc(), 4)?;

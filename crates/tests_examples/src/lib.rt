@@ -1,4 +1,5 @@
-//! The worked pieces of README.md and of CALLING.md.
+//! The examples that README.md, CALLING.md and the doc comments show, as tests, and values whose impls
+//! `bin/words` writes.
 #![tactic(auto)]
 
 #[cfg(test)]

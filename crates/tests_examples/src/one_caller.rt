@@ -1,4 +1,5 @@
-//! One caller uses each structure: what the types of `plain` show.
+//! The structures of `plain`, which one caller uses, each in a few calls. A failure says that the doc comment
+//! of the type shows something wrong.
 
 use plain::{
     BitSet, Container, CountingBitSet, IndexQueue, Queue, RobustUniqueIndexSet,
@@ -7,6 +8,7 @@ use plain::{
 use std::test::Fail;
 use steps::enums::OwnerId;
 
+/// A flag is set once, and comes once.
 #[test]
 fn flags(rt: HostRuntime) -> Result<(), Fail> {
     let mut flags = BitSet::new(rt.alloc(), 64)?;
@@ -15,6 +17,7 @@ fn flags(rt: HostRuntime) -> Result<(), Fail> {
     Ok(())
 }
 
+/// A count of two comes by one call.
 #[test]
 fn counts(rt: HostRuntime) -> Result<(), Fail> {
     let mut counts = CountingBitSet::new(rt.alloc(), 8)?;
@@ -25,6 +28,7 @@ fn counts(rt: HostRuntime) -> Result<(), Fail> {
     Ok(())
 }
 
+/// A pool of one index refuses a second one.
 #[test]
 fn pool(rt: HostRuntime) -> Result<(), Fail> {
     let mut pool = UniqueIndexSet::new(rt.alloc(), 1)?;
@@ -33,6 +37,7 @@ fn pool(rt: HostRuntime) -> Result<(), Fail> {
     Ok(())
 }
 
+/// A pool whose indices have owners counts the one that is out.
 #[test]
 fn pool_with_owners(rt: HostRuntime) -> Result<(), Fail> {
     let owner = OwnerId::new(7)?;
@@ -42,6 +47,7 @@ fn pool_with_owners(rt: HostRuntime) -> Result<(), Fail> {
     Ok(())
 }
 
+/// A state of a container shows the value that was added.
 #[test]
 fn values_with_owners(rt: HostRuntime) -> Result<(), Fail> {
     let owner = OwnerId::new(7)?;
@@ -52,6 +58,7 @@ fn values_with_owners(rt: HostRuntime) -> Result<(), Fail> {
     Ok(())
 }
 
+/// A store of a value of two words raises the version by 1.
 #[test]
 fn value_of_two_words(rt: HostRuntime) -> Result<(), Fail> {
     let mut value = UnrestrictedAtomic::new(rt.alloc(), (7u64, 1u64))?;
@@ -60,6 +67,7 @@ fn value_of_two_words(rt: HostRuntime) -> Result<(), Fail> {
     Ok(())
 }
 
+/// A peek leaves the value in the queue, and a pop takes it out.
 #[test]
 fn queue_of_values(rt: HostRuntime) -> Result<(), Fail> {
     let mut queue = Queue::new(rt.alloc(), 2)?;
@@ -69,6 +77,7 @@ fn queue_of_values(rt: HostRuntime) -> Result<(), Fail> {
     Ok(())
 }
 
+/// A full queue of numbers refuses a push.
 #[test]
 fn queue_of_numbers(rt: HostRuntime) -> Result<(), Fail> {
     let mut queue = IndexQueue::new(rt.alloc(), 1)?;
@@ -77,6 +86,7 @@ fn queue_of_numbers(rt: HostRuntime) -> Result<(), Fail> {
     Ok(())
 }
 
+/// A push into a full overflowing queue answers the oldest number, which it pushed out.
 #[test]
 fn overflowing_queue(rt: HostRuntime) -> Result<(), Fail> {
     let mut queue = SafelyOverflowingIndexQueue::new(rt.alloc(), 1)?;

@@ -1,4 +1,5 @@
-//! A value whose type has a fact: each one that is popped or loaded has it too. Its `impl Words` is written by `bin/words`.
+//! A value whose type has a fact, which each value that is popped or loaded has too. `bin/words`
+//! writes its `impl Words`.
 ghost use Rattle.std.specs.Prelude.{◌≤◌, IfSome};
 
 use lock_free::spmc::unrestricted_atomic::{Handle, UnrestrictedAtomic};
@@ -69,6 +70,7 @@ fn load_percent(rt: &impl Wait, value: &mut Handle<'_, Percent>) -> u8
     value.load(rt).value
 }
 
+/// A number that went through a queue comes out as it went in, with the fact of its type.
 #[test]
 fn a_percent_through_a_queue(rt: HostRuntime) -> Result<(), Fail> {
     let (queue, pass) = Queue::<Percent, 2>::new(rt.alloc())?;
@@ -81,6 +83,7 @@ fn a_percent_through_a_queue(rt: HostRuntime) -> Result<(), Fail> {
     Ok(())
 }
 
+/// A number that was stored is loaded as it was, with the fact of its type.
 #[test]
 fn a_percent_that_is_stored(rt: HostRuntime) -> Result<(), Fail> {
     let (value, pass) = UnrestrictedAtomic::new(rt.alloc(), Percent { value: 40 })?;

@@ -1,4 +1,4 @@
-//! A number from one thread to another, and the single value.
+//! A number that goes from one thread to another, as README.md shows it, and the single value.
 
 use lock_free::spmc::unrestricted_atomic::UnrestrictedAtomic;
 use lock_free::spsc::index_queue::{Consumer, IndexQueue};
@@ -6,6 +6,7 @@ use std::sync::Wait;
 use std::test::Fail;
 use std::thread;
 
+/// Pops until a number comes.
 fn pop_one(rt: &impl Wait, consumer: &mut Consumer<'_>) -> Option<u64> {
     for _ in rt.forever() {
         if let Some(number) = consumer.pop() {

@@ -1,4 +1,4 @@
-//! A role that another may have.
+//! A caller that waits for the producer's role of a queue, with clauses about what its pass has seen.
 ghost use Rattle.std.specs.Prelude.{◌≡◌, IfOk};
 ghost use Rattle.lock_free.specs.Queues.Calls.{view, queue_of, IsPassOf, producer_view, producer_queue};
 ghost use Rattle.lock_free.specs.Queues.Sums.{HasDone};
@@ -8,8 +8,8 @@ use std::sync::Wait;
 use std::test::Fail;
 use std::thread;
 
-/// Waits for the producer's role: where another has it, the pass comes back, and has seen more. It neither pushes nor
-/// pops.
+/// Waits for the producer's role. Each time that another caller has it the pass comes back, and has seen
+/// more. No push and no pop is made by it.
 fn wait_for_producer<'a>(rt: &impl Wait, queue: &'a IndexQueue, pass: Pass) -> Producer<'a>
     requires { IsPassOf queue.now pass }
     ensures queue { producer_queue result ≡ queue_of pass }
@@ -27,6 +27,7 @@ fn wait_for_producer<'a>(rt: &impl Wait, queue: &'a IndexQueue, pass: Pass) -> P
     unreachable!()
 }
 
+/// A role that is free is got at once, and the producer can push.
 #[test]
 fn a_role_that_is_free(rt: HostRuntime) -> Result<(), Fail> {
     let (queue, pass) = IndexQueue::new(rt.alloc(), 2)?;

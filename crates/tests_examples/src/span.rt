@@ -63,6 +63,7 @@ fn pop_span(consumer: &mut queue::Consumer<'_, Span>) -> Option<(u64, u64)>
     Some((span.low, span.high))
 }
 
+/// A span that went through a queue comes out as it went in, with the fact of its type.
 #[test]
 fn a_span_through_a_queue(rt: HostRuntime) -> Result<(), Fail> {
     let (queue, pass) = Queue::<Span, 2>::new(rt.alloc())?;

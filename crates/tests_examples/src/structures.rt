@@ -1,4 +1,5 @@
-//! One thread uses each structure, by handles and guards: what CALLING.md shows.
+//! The structures of `lock_free`, used by one thread with handles and guards, as CALLING.md shows them. A
+//! failure says that a document or doc comment shows something wrong.
 
 use lock_free::mpmc::bit_set::BitSet;
 use lock_free::mpmc::container::Container;
@@ -13,6 +14,7 @@ use lock_free::spsc::queue::Queue;
 use lock_free::spsc::safely_overflowing_index_queue::SafelyOverflowingIndexQueue;
 use std::test::Fail;
 
+/// A flag is set once, and comes once.
 #[test]
 fn flags(rt: HostRuntime) -> Result<(), Fail> {
     let (set, pass) = BitSet::new(rt.alloc(), 64)?;
@@ -22,6 +24,7 @@ fn flags(rt: HostRuntime) -> Result<(), Fail> {
     Ok(())
 }
 
+/// A count of two comes by one call.
 #[test]
 fn counts(rt: HostRuntime) -> Result<(), Fail> {
     let (set, pass) = CountingBitSet::new(rt.alloc(), 8)?;
@@ -33,6 +36,7 @@ fn counts(rt: HostRuntime) -> Result<(), Fail> {
     Ok(())
 }
 
+/// An index of a pool is given back by its guard, and no index is out then.
 #[test]
 fn pool(rt: HostRuntime) -> Result<(), Fail> {
     let (set, pass) = UniqueIndexSet::new(rt.alloc(), 2)?;
@@ -44,6 +48,7 @@ fn pool(rt: HostRuntime) -> Result<(), Fail> {
     Ok(())
 }
 
+/// The index of an owner who died comes back by a recovery.
 #[test]
 fn pool_with_owners(rt: HostRuntime) -> Result<(), Fail> {
     let owner = OwnerId::new(7)?;
@@ -61,6 +66,7 @@ fn pool_with_owners(rt: HostRuntime) -> Result<(), Fail> {
     Ok(())
 }
 
+/// A state of a container shows the value that was added, until it is removed.
 #[test]
 fn values_with_owners(rt: HostRuntime) -> Result<(), Fail> {
     let owner = OwnerId::new(7)?;
@@ -73,6 +79,7 @@ fn values_with_owners(rt: HostRuntime) -> Result<(), Fail> {
     Ok(())
 }
 
+/// A handle loads the value that another handle's producer has stored, and sees its version.
 #[test]
 fn latest_value(rt: HostRuntime) -> Result<(), Fail> {
     let (value, pass) = UnrestrictedAtomic::new(rt.alloc(), (7u64, 1u64))?;
@@ -84,6 +91,7 @@ fn latest_value(rt: HostRuntime) -> Result<(), Fail> {
     Ok(())
 }
 
+/// A value that one handle's producer pushes comes out at the other handle's consumer.
 #[test]
 fn queue_of_values(rt: HostRuntime) -> Result<(), Fail> {
     let (queue, pass) = Queue::<u32, 2>::new(rt.alloc())?;
@@ -95,6 +103,7 @@ fn queue_of_values(rt: HostRuntime) -> Result<(), Fail> {
     Ok(())
 }
 
+/// A push into a full overflowing queue answers the oldest number, which it pushed out.
 #[test]
 fn overflowing_queue(rt: HostRuntime) -> Result<(), Fail> {
     let (queue, pass) = SafelyOverflowingIndexQueue::new(rt.alloc(), 1)?;
@@ -104,6 +113,7 @@ fn overflowing_queue(rt: HostRuntime) -> Result<(), Fail> {
     Ok(())
 }
 
+/// A slot is loaned, sent, received, given back and taken back.
 #[test]
 fn loan_channel(rt: HostRuntime) -> Result<(), Fail> {
     let (slots, pass) = UniqueIndexSet::new(rt.alloc(), 3)?;

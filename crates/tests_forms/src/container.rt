@@ -1,4 +1,5 @@
-//! Containers of values.
+//! Plays blocks of a script on containers of values, in each form, with three states of the
+//! container beside it.
 ghost use Rattle.lock_free.specs.Container.Names.{IsPassOf};
 
 use crate::lines::{Answer, Answers, Block, Call, Made, goes_on, is_yes, mode, owner, play_on};
@@ -13,6 +14,7 @@ use steps::indices::enums::ReleaseState;
 use tests_calls::long_values::{Greatest, Sixteen, Three};
 use tests_calls::numbered::Numbered;
 
+/// The handle that a call gives by its first three numbers: an index, an owner and the number of a container.
 fn handle(call: Call<'_>) -> ContainerHandle {
     ContainerHandle {
         index: (call.numbers[0] & 0xffff_ffff) as u32,
@@ -21,12 +23,14 @@ fn handle(call: Call<'_>) -> ContainerHandle {
     }
 }
 
+/// Adds the index, the owner and the container's number of a handle.
 fn say_handle(handle: ContainerHandle, answer: &mut Answer) {
     answer.number(handle.index as u64);
     answer.number(handle.owner.value());
     answer.number(handle.container);
 }
 
+/// Adds the handle of the value that was added, or the word for why it was refused.
 fn say_added(handle: Result<ContainerHandle, ContainerAddFailure>, answer: &mut Answer) {
     match handle {
         Ok(handle) => say_handle(handle, answer),
@@ -35,6 +39,7 @@ fn say_added(handle: Result<ContainerHandle, ContainerAddFailure>, answer: &mut 
     }
 }
 
+/// Adds whether a remove left the container locked. `not_owned` says that the owner does not have the index.
 fn say_removed(state: Result<ReleaseState, ContainerRemoveError>, answer: &mut Answer) {
     match state {
         Ok(state) => answer.ended(state),
@@ -42,6 +47,7 @@ fn say_removed(state: Result<ReleaseState, ContainerRemoveError>, answer: &mut A
     }
 }
 
+/// Adds whether a replace was done. `not_owned` says that the owner does not have the index.
 fn say_replaced(end: Result<(), ContainerRemoveError>, answer: &mut Answer) {
     answer.word(match end {
         Ok(()) => "done",
@@ -49,7 +55,8 @@ fn say_replaced(end: Result<(), ContainerRemoveError>, answer: &mut Answer) {
     });
 }
 
-/// Three states, which show nothing yet. Each call that is about one has its number.
+/// Three states of the container of the block, which show nothing yet. A call that is about a state gives its
+/// number, 0 to 2.
 fn states<T: Numbered>(block: &Block<'_>) -> Option<Vec<ContainerState<T>>> {
     let mut states = Vec::new(block.alloc);
     let capacity = u32::try_from(block.capacity).ok()?;
@@ -60,7 +67,8 @@ fn states<T: Numbered>(block: &Block<'_>) -> Option<Vec<ContainerState<T>>> {
     Some(states)
 }
 
-/// `for_each 2 9`: how many values the state 2 shows, and which at which index, up to the ninth.
+/// `for_each 2 9`: adds how many values the state 2 shows, and then each index with its value. The closure
+/// answers Stop at the ninth.
 fn show<T: Numbered>(state: &ContainerState<T>, call: Call<'_>, answer: &mut Answer) {
     let mut number = 0u64;
     answer.number(state.number() as u64);
@@ -72,7 +80,7 @@ fn show<T: Numbered>(state: &ContainerState<T>, call: Call<'_>, answer: &mut Ans
     });
 }
 
-/// `get 2 7`: what the state 2 has at the index 7.
+/// `get 2 7`: adds the value that the state 2 shows at the index 7, if any.
 fn get<T: Numbered>(state: &ContainerState<T>, call: Call<'_>, answer: &mut Answer) {
     match state.get(call.numbers[1] as usize) {
         Some(value) => answer.perhaps(Some(value.number())),
@@ -80,7 +88,8 @@ fn get<T: Numbered>(state: &ContainerState<T>, call: Call<'_>, answer: &mut Answ
     }
 }
 
-/// A call about a state: it is taken anew, brought up to date, or looked at.
+/// A call about a state, whose number it gives first: the state is taken anew, brought up to date, or looked
+/// at. `refused` where the state is not one of this container.
 macro_rules! use_state {
     ($self:ident, $call:ident, $answer:ident, $update_by:ident $(, $rt:ident)?) => {{
         let Some(state) = $self.states.get_mut($call.numbers[0] as usize) else {
@@ -102,7 +111,8 @@ macro_rules! use_state {
     }};
 }
 
-/// `find 7 2`: the values of the owner 7, up to the second.
+/// `find 7 2`: adds the handle and the value of each index of the owner 7, and how many there were. The
+/// closure answers Stop at the second.
 macro_rules! find {
     ($self:ident, $call:ident, $answer:ident) => {{
         let mut number = 0u64;
@@ -120,7 +130,9 @@ macro_rules! find {
     }};
 }
 
-/// `recover 7 1 5`: those of the owner 7, of which the first and the third are to be freed; the last one locks.
+/// `recover 7 1 5`: recovers the owner 7, and locks at the last index, since the second number is not 0. By
+/// the bits of 5 the first and the third question are answered with yes. Adds whether the container is
+/// locked, and the values that were asked about.
 macro_rules! recover {
     ($self:ident, $call:ident, $answer:ident $(, $rt:ident)?) => {{
         let mut asked = Answer::new($answer.alloc);
@@ -142,7 +154,8 @@ macro_rules! recover {
     }};
 }
 
-/// The other calls.
+/// Makes a call that is no `find` and no `recover`, for a container of one caller or by a handle, whose calls
+/// have the runtime.
 macro_rules! answer_of_container {
     ($self:ident, $call:ident, $answer:ident $(, $rt:ident)?) => {
         match $call.name {
@@ -167,7 +180,7 @@ macro_rules! answer_of_container {
     };
 }
 
-/// A container of one caller, and states.
+/// A container of one caller, and three states of it.
 #[derive(Drop)]
 struct Alone<T: Numbered> {
     container: plain::Container<T>,
@@ -188,7 +201,8 @@ impl<T: Numbered> Alone<T> {
     }
 }
 
-/// `update_state_by 2 4 6`: a new container of capacity 4 and number 6 is to bring the state 2 up to date.
+/// `update_state_by 2 4 6`: a new container of capacity 4 and number 6 has to bring the state 2 up to date.
+/// `refused` unless the state is of a container of that number and capacity.
 fn update_alone<T: Numbered>(state: &mut ContainerState<T>, call: Call<'_>, answer: &mut Answer) {
     let capacity = call.numbers[1] as usize;
     match plain::Container::<T>::new(answer.alloc, capacity, call.numbers[2]) {
@@ -209,7 +223,8 @@ impl<T: Numbered> Answers for Alone<T> {
     }
 }
 
-/// Who uses a container of threads: by two passes, of which one is made of two, and states.
+/// A user of a container between threads, and three states of it. It has two handles; the pass of one was
+/// made of two passes.
 #[derive(Drop)]
 struct User<'a, T: Numbered> {
     container: Handle<'a, T>,
@@ -218,6 +233,8 @@ struct User<'a, T: Numbered> {
 }
 
 impl<'a, T: Numbered> User<'a, T> {
+    /// The user with the whole share: `pass` is split in three, and two of the parts are joined for the
+    /// second handle. None where memory or a further pass is refused.
     fn new(block: &Block<'_>, container: &'a Container<T>, pass: Pass<T>) -> Option<User<'a, T>>
         requires { IsPassOf container.now pass }
     {
@@ -245,7 +262,7 @@ impl<'a, T: Numbered> User<'a, T> {
     }
 }
 
-/// As that by a container of one caller.
+/// `update_state_by 2 4 6` for a container between threads: what `update_alone` does for one of one caller.
 fn update_by<T: Numbered>(
     rt: &impl Wait,
     state: &mut ContainerState<T>,
@@ -271,11 +288,13 @@ impl<'a, T: Numbered> Answers for User<'a, T> {
     }
 }
 
-/// Plays the block on a container of its form, whose number is the next one.
+/// Plays the block on a container of its form, with values of its type. The second number of the block is the
+/// container's number.
 pub fn play_container(rt: &impl Wait, block: &mut Block<'_>) -> Made {
     of_values!(container_of, rt, block)
 }
 
+/// Plays the block on a container of values of one type, in the form that the block names.
 fn container_of<T: Numbered>(rt: &impl Wait, block: &mut Block<'_>) -> Made {
     match block.form {
         "plain" => play_alone::<T>(rt, block),
@@ -284,6 +303,7 @@ fn container_of<T: Numbered>(rt: &impl Wait, block: &mut Block<'_>) -> Made {
     }
 }
 
+/// Plays the block on a container of one caller.
 fn play_alone<T: Numbered>(rt: &impl Wait, block: &mut Block<'_>) -> Made {
     let container = plain::Container::<T>::new(block.alloc, block.capacity, block.numbers[1])?;
     let Some(states) = states(block) else {
@@ -292,12 +312,14 @@ fn play_alone<T: Numbered>(rt: &impl Wait, block: &mut Block<'_>) -> Made {
     play_on(rt, block, Some(Alone { container, states }))
 }
 
+/// Plays the block on a container between threads whose capacity the block gives.
 fn heap<T: Numbered>(rt: &impl Wait, block: &mut Block<'_>) -> Made {
     let (container, pass) = Container::<T>::new(block.alloc, block.capacity, block.numbers[1])?;
     let user = User::new(block, &container, pass);
     play_on(rt, block, user)
 }
 
+/// Plays the block on a container between threads whose type has the capacity `N`.
 fn fixed<T: Numbered, const N: usize>(rt: &impl Wait, block: &mut Block<'_>) -> Made {
     let (container, pass) = FixedSizeContainer::<T, N>::new(block.alloc, block.numbers[1])?;
     let user = User::new(block, &container, pass);

@@ -1,4 +1,5 @@
-//! What belongs to no structure: the head word of a unique index set, owners, the order of handles, failures and modes.
+//! Calls of a script that belong to no structure: the head word of a unique index set, owners, the order of
+//! handles, failures and modes.
 use crate::lines::{Answer, Answers, Call, owner};
 use std::cmp::Ordering;
 use std::sync::Wait;
@@ -8,6 +9,8 @@ use steps::enums::OwnerId;
 use steps::indices::enums::{ReleaseMode, UniqueIndexSetAcquireFailure};
 use steps::indices::head::{HeadDetails, LOCK_ACQUIRE};
 
+/// Adds the three parts of this head word: the first free index, the number against ABA, and how
+/// many indices are borrowed.
 fn say_head(word: u64, answer: &mut Answer) {
     let details = HeadDetails::from(word);
     answer.number(details.head as u64);
@@ -15,6 +18,7 @@ fn say_head(word: u64, answer: &mut Answer) {
     answer.number(details.borrowed_indices as u64);
 }
 
+/// Adds the number of the owner that this number makes, or why there is none.
 fn say_owner(number: u64, answer: &mut Answer) {
     match OwnerId::new(number) {
         Ok(owner) => answer.number(owner.value()),
@@ -22,7 +26,7 @@ fn say_owner(number: u64, answer: &mut Answer) {
     }
 }
 
-/// What an add answers where an acquire has failed so.
+/// Adds the failure of an `add` to a container whose set refused an index for this reason.
 fn say_failure(failure: UniqueIndexSetAcquireFailure, answer: &mut Answer) {
     answer.word(match ContainerAddFailure::from(failure) {
         ContainerAddFailure::OutOfSpace => "OutOfSpace",
@@ -30,6 +34,7 @@ fn say_failure(failure: UniqueIndexSetAcquireFailure, answer: &mut Answer) {
     });
 }
 
+/// A handle of this index, of the owner of this number, and of the container of this number.
 fn handle(index: u64, number: u64, container: u64) -> ContainerHandle {
     ContainerHandle {
         index: (index & 0xffff_ffff) as u32,
@@ -38,6 +43,7 @@ fn handle(index: u64, number: u64, container: u64) -> ContainerHandle {
     }
 }
 
+/// Adds how two handles compare, each given by three numbers of the call.
 fn say_order(call: Call<'_>, answer: &mut Answer) {
     let [index, owner, container, other_index, other_owner, other] = call.numbers;
     let one = handle(index, owner, container);
@@ -48,7 +54,7 @@ fn say_order(call: Call<'_>, answer: &mut Answer) {
     });
 }
 
-/// In place of a structure.
+/// What answers these calls in place of a structure.
 #[derive(Drop)]
 pub struct Facts;
 

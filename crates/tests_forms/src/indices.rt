@@ -1,4 +1,4 @@
-//! Unique index sets.
+//! Plays blocks of a script on unique index sets, in each form.
 ghost use Rattle.std.specs.Prelude.{◌≡◌};
 ghost use Rattle.lock_free.specs.HistoryHeld.{Holds};
 ghost use Rattle.lock_free.specs.Unique.Handles.{set_in};
@@ -14,7 +14,7 @@ use std::sync::Wait;
 use steps::enums::UniqueIndexCreationError;
 use steps::indices::enums::UniqueIndexSetAcquireFailure;
 
-/// Says which index was taken, or why none.
+/// Adds the index that was taken, or the word for why there was none.
 pub fn say_acquired(index: Result<u32, UniqueIndexSetAcquireFailure>, answer: &mut Answer) {
     match index {
         Ok(index) => answer.number(index as u64),
@@ -23,7 +23,7 @@ pub fn say_acquired(index: Result<u32, UniqueIndexSetAcquireFailure>, answer: &m
     }
 }
 
-/// Takes so many indices: how many come in order, from 0 on.
+/// Takes up to `number` indices for good. It returns how many came in order, from 0 on.
 fn keep(set: &mut plain::UniqueIndexSet, number: u64) -> u64 {
     for index in 0..number {
         if set.acquire_raw_index().unwrap_or(u32::MAX) as u64 != index {
@@ -52,7 +52,7 @@ impl Answers for plain::UniqueIndexSet {
     }
 }
 
-/// A raw index, with the pass that holds it.
+/// An index that is out, with the pass that holds it and no guard.
 #[derive(Drop)]
 struct Raw<'a> {
     set: &'a UniqueIndexSet,
@@ -63,7 +63,8 @@ struct Raw<'a> {
 }
 
 impl<'a> Raw<'a> {
-    /// Gives the index back, in mode `LockIfLastIndex` if so.
+    /// Gives the index back, in mode `LockIfLastIndex` if `locks` is true, and adds whether
+    /// the set is locked then.
     fn release(self, rt: &impl Wait, locks: bool, answer: &mut Answer) {
         let Raw {
             set,
@@ -78,14 +79,14 @@ impl<'a> Raw<'a> {
     }
 }
 
-/// An index that is out.
+/// An index that is out: a raw one with its pass, or one that a guard holds.
 #[derive(Drop)]
 enum Index<'a> {
     Raw(Raw<'a>),
     Held(UniqueIndex<'a>),
 }
 
-/// Gives back an index that a guard holds, as the name says.
+/// Gives back an index that a guard holds, by the call of this name, and adds whether the set is locked then.
 fn give_back(held: UniqueIndex<'_>, rt: &impl Wait, name: &str, answer: &mut Answer) {
     match name {
         "release" => {
@@ -103,20 +104,22 @@ fn give_back(held: UniqueIndex<'_>, rt: &impl Wait, name: &str, answer: &mut Ans
     }
 }
 
-/// A caller of a set between threads, by two passes in turn.
+/// A user of a set between threads, with two handles. The calls are made by `now`, and the call `other`
+/// exchanges the two.
 #[derive(Drop)]
 struct User<'a> {
     set: &'a UniqueIndexSet,
     now: Handle<'a>,
     other: Handle<'a>,
-    /// Those that are out, each at its place.
+    /// The indices that are out, each at the place of its number.
     out: Vec<Option<Index<'a>>>,
     ghost of: { set_in now ≡ set.now },
     ghost of_other: { set_in other ≡ set.now },
 }
 
 impl<'a> User<'a> {
-    /// With another pass, which is made of two.
+    /// The user of the set: `pass` is split in three, and two of the parts are joined for the handle `other`.
+    /// None where a further pass is refused.
     fn new(alloc: Global, set: &'a UniqueIndexSet, pass: Pass) -> Option<User<'a>>
         requires { IsPassOf set.now pass }
     {
@@ -131,7 +134,7 @@ impl<'a> User<'a> {
         })
     }
 
-    /// Puts the index at its place, and says which.
+    /// Keeps an index that was taken, at the place of its number `at`, and adds that number.
     fn put_at(&mut self, at: u32, index: Index<'a>, answer: &mut Answer) {
         for _ in self.out.len()..at as usize + 1 {
             answer.lost |= self.out.push(None).is_err();
@@ -142,7 +145,7 @@ impl<'a> User<'a> {
         }
     }
 
-    /// Takes a raw index by a further pass.
+    /// Takes a raw index by a further pass, and keeps it. Adds its number, or why there was none.
     fn acquire(&mut self, rt: &impl Wait, answer: &mut Answer) {
         let Some(further) = self.now.split() else {
             return answer.word("no_pass");
@@ -161,7 +164,8 @@ impl<'a> User<'a> {
         }
     }
 
-    /// Takes an index that a guard holds.
+    /// Takes an index that a guard holds, by a further handle, and keeps it. Adds its number,
+    /// or why there was none.
     fn hold(&mut self, rt: &impl Wait, answer: &mut Answer) {
         let Some(further) = self.now.split() else {
             return answer.word("no_pass");
@@ -172,13 +176,13 @@ impl<'a> User<'a> {
         }
     }
 
-    /// Takes an index for good, by a further pass.
+    /// Takes an index by a further pass, which is dropped, so the index stays out for good.
     fn keep_one(&mut self, rt: &impl Wait) -> Option<u32> {
         let mut pass = self.now.split()?.into_pass();
         self.set.acquire_raw_index(rt, &mut pass).ok()
     }
 
-    /// Takes so many indices for good: how many come in order, from 0 on.
+    /// Takes up to `number` indices for good. It returns how many came in order, from 0 on.
     fn keep(&mut self, rt: &impl Wait, number: u64) -> u64 {
         for index in 0..number {
             if self.keep_one(rt).unwrap_or(u32::MAX) as u64 != index {
@@ -188,7 +192,7 @@ impl<'a> User<'a> {
         number
     }
 
-    /// Gives the index at this place back, if one is there.
+    /// Gives the index of this number back, if it is out, by the call of this name. `refused` if it is not.
     fn release(&mut self, rt: &impl Wait, call: Call<'_>, answer: &mut Answer) {
         let index = match self.out.get_mut(call.numbers[0] as usize) {
             Some(place) => place.take(),
@@ -201,7 +205,7 @@ impl<'a> User<'a> {
         }
     }
 
-    /// Which index the guard at the place has.
+    /// Adds the index that the guard at this place has. `refused` where no guard is kept at that place.
     fn value(&self, at: u64, answer: &mut Answer) {
         match self.out.get(at as usize) {
             Some(Some(Index::Held(held))) => answer.number(held.value() as u64),
@@ -209,7 +213,7 @@ impl<'a> User<'a> {
         }
     }
 
-    /// Whether the set is locked, by a further pass.
+    /// Adds whether the set is locked, as a further handle says.
     fn is_locked_further(&mut self, answer: &mut Answer) {
         match self.now.split() {
             Some(mut further) => answer.truth(further.is_locked()),
@@ -236,7 +240,8 @@ impl<'a> Answers for User<'a> {
     }
 }
 
-/// Plays the block on a set of its form: reduced to the capacity, of a type of the next number.
+/// Plays the block on a set of its form. For `reduced` the second number is the capacity that the type has,
+/// which the set reduces to the block's capacity.
 pub fn play_indices(rt: &impl Wait, block: &mut Block<'_>) -> Made {
     match block.form {
         "plain" => {
@@ -253,12 +258,14 @@ pub fn play_indices(rt: &impl Wait, block: &mut Block<'_>) -> Made {
     }
 }
 
+/// Plays the block on a set between threads whose type has the capacity `N`.
 fn fixed<const N: usize>(rt: &impl Wait, block: &mut Block<'_>) -> Made {
     let (set, pass) = FixedSizeUniqueIndexSet::<N>::new(block.alloc)?;
     let user = User::new(block.alloc, &set, pass);
     play_on(rt, block, user)
 }
 
+/// Plays the block on a set whose type has the capacity `N`, which is reduced to that of the block.
 fn reduced<const N: usize>(rt: &impl Wait, block: &mut Block<'_>) -> Made {
     let (alloc, capacity) = (block.alloc, block.capacity);
     let (set, pass) = FixedSizeUniqueIndexSet::<N>::new_with_reduced_capacity(alloc, capacity)?;

@@ -1,4 +1,4 @@
-//! A script's lines: the head of a block, its calls, and what they answer.
+//! The lines of a script: the head of a block, its calls, and what they answer.
 use std::alloc::Global;
 use std::mem;
 use std::str::SplitWhitespace;
@@ -6,10 +6,10 @@ use std::sync::Wait;
 use steps::enums::{CallbackProgression, OwnerId, UniqueIndexCreationError};
 use steps::indices::enums::{ReleaseMode, ReleaseState};
 
-/// Whether a structure was made, or why it was refused.
+/// Whether a structure was made, or the reason why it was refused.
 pub type Made = Result<(), UniqueIndexCreationError>;
 
-/// The next six numbers, with 0 in the place of each that is missing or no number.
+/// The next six numbers of the line, with 0 in the place of each that is missing or is no number.
 fn numbers_of(words: &mut SplitWhitespace<'_>) -> [u64; 6] {
     let mut numbers = [0; 6];
     for number in numbers.iter_mut() {
@@ -18,13 +18,14 @@ fn numbers_of(words: &mut SplitWhitespace<'_>) -> [u64; 6] {
     numbers
 }
 
-/// A call, by its name and numbers.
+/// A call of a script, by its name and its numbers.
 #[derive(Clone, Copy)]
 pub struct Call<'a> {
     pub name: &'a str,
     pub numbers: [u64; 6],
 }
 
+/// The call that this line of a script makes.
 fn call_of(line: &str) -> Call<'_> {
     let mut words = line.split_whitespace();
     let name = words.next().unwrap_or("");
@@ -34,8 +35,9 @@ fn call_of(line: &str) -> Call<'_> {
     }
 }
 
-/// A block: which structure is made, in which form, of values of which type, with which numbers, the calls on it, and what
-/// they have answered so far.
+/// A block of a script, with the answers of its calls so far. Its head says which structure is made, in which
+/// form, with values of which type, and with which numbers, of which the first is the capacity. The lines are
+/// the calls on it.
 #[derive(Drop)]
 pub struct Block<'a> {
     pub alloc: Global,
@@ -49,6 +51,7 @@ pub struct Block<'a> {
 }
 
 impl<'a> Block<'a> {
+    /// The block of this text, whose first line is its head. No call has been made.
     pub fn new(alloc: Global, text: &'a str) -> Block<'a> {
         let (head, lines) = text.split_once('\n').unwrap_or((text, ""));
         let mut words = head.split_whitespace();
@@ -69,7 +72,7 @@ impl<'a> Block<'a> {
     }
 }
 
-/// Which owner has this number. The greatest number is that of none, and counts as 0.
+/// The owner of this number. The greatest number is that of no owner, and counts as 0.
 pub fn owner(number: u64) -> OwnerId {
     match OwnerId::new(number % u64::MAX) {
         Ok(owner) => owner,
@@ -77,6 +80,8 @@ pub fn owner(number: u64) -> OwnerId {
     }
 }
 
+/// The mode of a release or a recovery: 0 says that it never locks, another number that it
+/// locks at the last index.
 pub fn mode(number: u64) -> ReleaseMode {
     if number == 0 {
         ReleaseMode::Default
@@ -85,7 +90,7 @@ pub fn mode(number: u64) -> ReleaseMode {
     }
 }
 
-/// What a closure answers that says Stop at the call of this number, and is called for so many times.
+/// What a closure answers at its call of the number `calls`: Stop if that is `stop`, and Continue otherwise.
 pub fn goes_on(calls: u64, stop: u64) -> CallbackProgression {
     if calls == stop {
         CallbackProgression::Stop
@@ -94,21 +99,23 @@ pub fn goes_on(calls: u64, stop: u64) -> CallbackProgression {
     }
 }
 
-/// Whether the answer to the question of this number is yes: a bit of the mask says so, for each 62 questions anew.
+/// Whether the question of this number is answered with yes, as a bit of the mask says. After 62 questions
+/// the bits begin anew.
 pub fn is_yes(mask: u64, question: u64) -> bool {
     mask >> (question % 62) & 1 == 1
 }
 
-/// What calls answer: words and numbers, those of each call on a line.
+/// What calls answer, as text: words and numbers, with a line for each call.
 #[derive(Drop)]
 pub struct Answer {
     pub alloc: Global,
     pub text: String,
-    /// Memory was refused.
+    /// Whether memory was refused, so that a part of the text is missing.
     pub lost: bool,
 }
 
 impl Answer {
+    /// An answer without text.
     pub fn new(alloc: Global) -> Answer {
         Answer {
             alloc,
@@ -117,15 +124,18 @@ impl Answer {
         }
     }
 
+    /// Adds this text.
     pub fn put(&mut self, part: &str) {
         self.lost |= self.text.push_str(part).is_err();
     }
 
+    /// Adds this word and a space.
     pub fn word(&mut self, word: &str) {
         self.put(word);
         self.put(" ");
     }
 
+    /// Adds this number, in decimal digits, and a space.
     pub fn number(&mut self, number: u64) {
         match format!(in self.alloc; "{number} ") {
             Ok(digits) => self.put(digits.as_str()),
@@ -133,11 +143,12 @@ impl Answer {
         }
     }
 
+    /// Adds `true` or `false`.
     pub fn truth(&mut self, yes: bool) {
         self.word(if yes { "true" } else { "false" });
     }
 
-    /// `some 7` or `none`.
+    /// Adds `some` and the number, as in `some 7`, or `none`.
     pub fn perhaps(&mut self, number: Option<u64>) {
         match number {
             Some(number) => {
@@ -148,7 +159,7 @@ impl Answer {
         }
     }
 
-    /// How a release or a recovery ended.
+    /// Adds how a release or a recovery ended: whether the structure is locked.
     pub fn ended(&mut self, state: ReleaseState) {
         self.word(match state {
             ReleaseState::Unlocked => "unlocked",
@@ -156,7 +167,8 @@ impl Answer {
         });
     }
 
-    /// Whether the structure of the block was made.
+    /// Adds whether the structure of the block was made, or why not, and whether memory was refused to an
+    /// answer, and ends the line.
     pub fn made(&mut self, made: Made) {
         self.word(match made {
             Ok(()) => "made",
@@ -170,13 +182,14 @@ impl Answer {
     }
 }
 
-/// A structure that answers calls.
+/// A structure whose calls a script makes.
 pub trait Answers {
-    /// Makes the call. It says nothing where the structure has no such call, and `refused` where the call may not be made.
+    /// Makes the call, and adds what it answers. It adds nothing where the structure has no such call, and
+    /// `refused` where the call may not be made.
     fn answer(&mut self, rt: &impl Wait, call: Call<'_>, answer: &mut Answer);
 }
 
-/// Makes the calls of the lines.
+/// Makes the calls of the lines one after another on a structure, with a line of the answer for each.
 pub fn play<S: Answers>(rt: &impl Wait, lines: &str, answer: &mut Answer, structure: &mut S) {
     for line in lines.lines() {
         structure.answer(rt, call_of(line), answer);
@@ -184,7 +197,8 @@ pub fn play<S: Answers>(rt: &impl Wait, lines: &str, answer: &mut Answer, struct
     }
 }
 
-/// A structure by one of two passes.
+/// A structure with two passes or handles, by one of which the calls are made. The call
+/// `other` exchanges them.
 #[derive(Drop)]
 pub struct Two<H> {
     pub now: H,
@@ -201,7 +215,8 @@ impl<H: Answers + Drop> Answers for Two<H> {
     }
 }
 
-/// Plays the block on what was made for it. Where that is nothing, memory was refused.
+/// Plays the lines of the block on the structure that was made for it. None says that memory was refused as
+/// that was made.
 pub fn play_on<S: Answers + Drop>(rt: &impl Wait, block: &mut Block<'_>, made: Option<S>) -> Made {
     let Some(mut structure) = made else {
         return Err(UniqueIndexCreationError::NoMemory);

@@ -1,4 +1,4 @@
-//! The loan channel.
+//! Plays blocks of a script on the loan channel, with its sender and its receiver.
 ghost use Rattle.std.specs.Prelude.{◌≡◌, IfSome};
 ghost use Rattle.std.specs.Option.{ForSome};
 ghost use Rattle.lock_free.specs.Unique.Held.{HoldsNothing};
@@ -18,7 +18,8 @@ use lock_free::spsc::{index_queue, safely_overflowing_index_queue as overflow};
 use std::alloc::Global;
 use std::sync::Wait;
 
-/// Both who use a channel: one who sends, and one who receives.
+/// Both sides of a channel: the sender, and the receiver with its two queue ends. Beside them are a pass that
+/// asks how many slots are borrowed, and a handle of the completion queue for the time after the sender.
 #[derive(Drop)]
 struct User<'a> {
     set: &'a UniqueIndexSet,
@@ -32,7 +33,8 @@ struct User<'a> {
     ghost through: { ForSome sender (λ s. submission_of s ≡ ends.consumer_queue receives) },
 }
 
-/// A sender that is made of these.
+/// A sender that is made of a pass of the set, which holds no index, and of its end of each queue. None where
+/// memory is refused.
 fn sender<'a>(
     alloc: Global,
     set: &'a UniqueIndexSet,
@@ -49,7 +51,8 @@ fn sender<'a>(
     LoanSender::new(alloc, set, pass, submission, completion).ok()
 }
 
-/// A call of the sender.
+/// Makes a call of the sender, and adds what it answers. `refused` where the index of a `send` or a `give_up`
+/// is not on loan.
 fn make_call(sender: &mut LoanSender<'_>, rt: &impl Wait, call: Call<'_>, answer: &mut Answer)
     ensures set { set_of_sender sender.new ≡ set_of_sender sender.old }
     ensures submission { submission_of sender.new ≡ submission_of sender.old }
@@ -70,6 +73,8 @@ fn make_call(sender: &mut LoanSender<'_>, rt: &impl Wait, call: Call<'_>, answer
 }
 
 impl<'a> User<'a> {
+    /// Makes both sides of a channel of a set and two queues. None where memory, a role or a
+    /// further pass is refused.
     fn new(
         alloc: Global,
         set: &'a UniqueIndexSet,
@@ -79,7 +84,7 @@ impl<'a> User<'a> {
     ) -> Option<User<'a>>
         requires { IsPassOf set.now slots }
     {
-        // what is split off holds no index
+        // The pass that is split off holds no index, as `LoanSender::new` requires.
         let mut looks = slots;
         let slots = looks.split()?;
         let (producer, receives) = submission.ends()?;
@@ -96,7 +101,8 @@ impl<'a> User<'a> {
         })
     }
 
-    /// The receiver's guard of what is sent goes to the sender for it.
+    /// Reclaims for the sender, which needs the receiver's end of the submission queue for it: both queues
+    /// are emptied and each index that is sent is freed. Adds how many were freed.
     fn reclaim(&mut self, rt: &impl Wait, answer: &mut Answer) {
         match &mut self.sender {
             Some(sender) => answer.number(sender.reclaim(rt, &mut self.receives) as u64),
@@ -104,8 +110,8 @@ impl<'a> User<'a> {
         }
     }
 
-    /// The sender ends. The answer is how many indices are borrowed, by the pass that it had, and what waits to be taken
-    /// back.
+    /// Ends the sender. Adds how many indices are borrowed, as the pass that it had says, and then the oldest
+    /// index that waits to be taken back.
     fn finish(&mut self, answer: &mut Answer) {
         match self.sender.take() {
             Some(sender) => {
@@ -117,7 +123,8 @@ impl<'a> User<'a> {
         }
     }
 
-    /// What waits to be taken back, by one who comes after the sender.
+    /// Adds the oldest index that waits to be taken back, as a new consumer of the completion queue finds it
+    /// after the sender.
     fn left(&mut self, answer: &mut Answer) {
         let Some(handle) = self.last.split() else {
             return answer.word("no_pass");
@@ -128,6 +135,7 @@ impl<'a> User<'a> {
         }
     }
 
+    /// Makes a call of the sender. `refused` once the sender has ended.
     fn send(&mut self, rt: &impl Wait, call: Call<'_>, answer: &mut Answer) {
         match &mut self.sender {
             Some(sender) => make_call(sender, rt, call, answer),
@@ -151,7 +159,8 @@ impl<'a> Answers for User<'a> {
     }
 }
 
-/// Plays the block on a channel of its form: of so many slots, places for what is sent and places for what comes back.
+/// Plays the block on a channel of its form. The numbers of the block are its slots, the places of the
+/// submission queue and the places of the completion queue.
 pub fn play_loan(rt: &impl Wait, block: &mut Block<'_>) -> Made {
     let [slots, sends, returns, ..] = block.numbers;
     if block.form == "heap" {
@@ -165,6 +174,7 @@ pub fn play_loan(rt: &impl Wait, block: &mut Block<'_>) -> Made {
     }
 }
 
+/// Plays the block on a channel of these numbers of places, whose parts have their capacities from the run.
 fn heap(rt: &impl Wait, block: &mut Block<'_>, sends: usize, returns: usize) -> Made {
     let (set, slots) = UniqueIndexSet::new(block.alloc, block.capacity)?;
     let (sends, pass) = SafelyOverflowingIndexQueue::new(block.alloc, sends)?;
@@ -174,6 +184,7 @@ fn heap(rt: &impl Wait, block: &mut Block<'_>, sends: usize, returns: usize) -> 
     play_on(rt, block, user)
 }
 
+/// Plays the block on a channel whose parts have their capacities by their types.
 fn fixed<const SLOTS: usize, const SENDS: usize, const RETURNS: usize>(
     rt: &impl Wait,
     block: &mut Block<'_>,

@@ -1,12 +1,14 @@
 //! Makes the calls of a script, which it reads from standard input, and prints what they answer.
 //!
-//! A script has blocks, which empty lines part. The first line of a block names a structure, a form of it, the type of its
-//! values and numbers, of which the first is the capacity: `queue type u128 9 0`. Each other line is a call, with numbers:
-//! `push 17`. A line is printed for each call, and at the end of a block one that tells whether the structure was made.
-//! `tests/forms` draws scripts and judges what is printed.
+//! A script has blocks, which empty lines part. The first line of a block names a structure, a form of it,
+//! the type of its values and numbers, of which the first is the capacity: `queue type u128 9 0`. Each
+//! other line is a call, with numbers: `push 17`. A line is printed for each call, and at the end of a
+//! block one that tells whether the structure was made. The forms are that of one caller (`plain`), of a
+//! capacity chosen at run time (`heap`), and of one that the type has. `tests/forms` draws scripts and
+//! judges what is printed.
 #![tactic(auto)]
 
-/// Calls the function for the block's type of values.
+/// Calls the function with the Rust type of the block's values, which the block gives by name.
 macro_rules! of_values {
     ($play:ident, $rt:expr, $block:expr) => {
         match $block.values {
@@ -21,7 +23,8 @@ macro_rules! of_values {
     };
 }
 
-/// Calls the function for a capacity that types have.
+/// Calls the function with the block's capacity as a constant, for the capacities that are listed. Another
+/// one is answered as if memory was refused.
 macro_rules! of_capacity {
     ($play:ident, $capacity:expr, $rt:expr, $block:expr; $($is:literal)*) => {
         match $capacity {
@@ -52,7 +55,8 @@ use lines::{Block, Made, play};
 use std::io;
 use std::sync::Wait;
 
-/// Plays a block on its structure.
+/// Plays a block on a structure of its kind, and says whether that was made. A block of another name is
+/// played on no structure (`Facts`).
 fn play_block(rt: &impl Wait, block: &mut Block<'_>) -> Made {
     match block.structure {
         "atomic" => value::play_value(rt, block),
@@ -72,6 +76,8 @@ fn play_block(rt: &impl Wait, block: &mut Block<'_>) -> Made {
     }
 }
 
+/// Reads the script, plays one block after another, and prints what its calls answered and whether its
+/// structure was made.
 fn main(rt: HostRuntime) -> io::Result<()> {
     let text = io::read_to_string(rt.alloc(), rt.stdin())?;
     for part in text.split("\n\n") {

@@ -1,4 +1,4 @@
-//! Queues: of numbers, overflowing ones, and those of values.
+//! Plays blocks of a script on queues of numbers, overflowing queues and queues of values, in each form.
 ghost use Rattle.std.specs.Prelude.{◌≡◌};
 ghost use Rattle.lock_free.specs.Queues.Rings.{inner, IsPassOf};
 
@@ -16,7 +16,8 @@ use tests_calls::long_values::{Greatest, Sixteen, Three};
 use tests_calls::numbered::Numbered;
 use user::use_queue;
 
-/// What every queue answers: one of one caller, or one of threads, whose calls have the runtime and a pass.
+/// Makes a call that every queue has, of one caller or between threads. The calls of the latter have the
+/// runtime and a pass, which come as `$more`.
 macro_rules! answer_of_queue {
     ($queue:expr, $call:ident, $answer:ident $(, $more:expr)*) => {
         match $call.name {
@@ -31,7 +32,7 @@ macro_rules! answer_of_queue {
 
 mod user;
 
-/// The number of the value that came out.
+/// The number of the value that came out, if one did.
 pub fn number_of<T: Numbered>(value: Option<T>) -> Option<u64> {
     match value {
         Some(value) => Some(value.number()),
@@ -39,7 +40,7 @@ pub fn number_of<T: Numbered>(value: Option<T>) -> Option<u64> {
     }
 }
 
-/// What a bounded queue of one caller answers to a call that is no push.
+/// Makes a call that is no push on a bounded queue of one caller, and adds what it answers.
 fn answer_of_list<E: Copy, T: Numbered>(
     list: &mut List<E, T>,
     call: Call<'_>,
@@ -82,7 +83,8 @@ impl Answers for Overflowing {
     }
 }
 
-/// One of one caller, from the position that the block says, if that is not 0.
+/// An empty bounded queue of one caller. Its positions begin at the second number of the
+/// block, if that is not 0.
 fn list<E: Copy, T: Numbered>(block: &Block<'_>) -> Result<List<E, T>, UniqueIndexCreationError> {
     if block.numbers[1] == 0 {
         List::new(block.alloc, block.capacity)
@@ -91,7 +93,8 @@ fn list<E: Copy, T: Numbered>(block: &Block<'_>) -> Result<List<E, T>, UniqueInd
     }
 }
 
-/// The same of an overflowing queue.
+/// An empty overflowing queue of one caller. Its positions begin at the second number of the block, if that
+/// is not 0.
 fn overflowing(block: &Block<'_>) -> Result<Overflowing, UniqueIndexCreationError> {
     if block.numbers[1] == 0 {
         Overflowing::new(block.alloc, block.capacity)
@@ -100,12 +103,14 @@ fn overflowing(block: &Block<'_>) -> Result<Overflowing, UniqueIndexCreationErro
     }
 }
 
-/// The lines before `close`, and those behind it, which are played on what the closed queue leaves.
+/// The lines of the block before the line `close`, and those after it. The latter are played on the queue of
+/// one caller that the closed queue leaves.
 fn parts(lines: &str) -> (&str, &str) {
     lines.split_once("close\n").unwrap_or((lines, ""))
 }
 
-/// Plays the block on a queue of threads, by a further pass, and what follows `close` on what is left of it.
+/// Plays the lines before `close` on a queue between threads, by a further pass. Then it closes the queue,
+/// and plays the rest on the queue of one caller that is left.
 macro_rules! use_and_close {
     ($rt:ident, $block:ident, $queue:ident, $pass:ident) => {{
         let mut pass = $pass;
@@ -128,17 +133,20 @@ pub fn play_index(rt: &impl Wait, block: &mut Block<'_>) -> Made {
     }
 }
 
+/// Plays the block on an index queue between threads with the capacity and the first position
+/// that the block gives.
 fn index_heap(rt: &impl Wait, block: &mut Block<'_>) -> Made {
     let (queue, pass) = IndexQueue::new_at(block.alloc, block.capacity, block.numbers[1])?;
     use_and_close!(rt, block, queue, pass)
 }
 
+/// Plays the block on an index queue between threads whose type has the capacity `N`.
 fn index_fixed<const N: usize>(rt: &impl Wait, block: &mut Block<'_>) -> Made {
     let (queue, pass) = FixedSizeIndexQueue::<N>::new(block.alloc)?;
     use_and_close!(rt, block, queue, pass)
 }
 
-/// The same of an overflowing queue.
+/// Plays the block on an overflowing queue of its form.
 pub fn play_overflowing(rt: &impl Wait, block: &mut Block<'_>) -> Made {
     match block.form {
         "plain" => {
@@ -150,22 +158,26 @@ pub fn play_overflowing(rt: &impl Wait, block: &mut Block<'_>) -> Made {
     }
 }
 
+/// Plays the block on an overflowing queue between threads with the capacity and the first
+/// position that the block gives.
 fn overflowing_heap(rt: &impl Wait, block: &mut Block<'_>) -> Made {
     let position = block.numbers[1];
     let (queue, pass) = SafelyOverflowingIndexQueue::new_at(block.alloc, block.capacity, position)?;
     use_and_close!(rt, block, queue, pass)
 }
 
+/// Plays the block on an overflowing queue between threads whose type has the capacity `N`.
 fn overflowing_fixed<const N: usize>(rt: &impl Wait, block: &mut Block<'_>) -> Made {
     let (queue, pass) = FixedSizeSafelyOverflowingIndexQueue::<N>::new(block.alloc)?;
     use_and_close!(rt, block, queue, pass)
 }
 
-/// The same of a queue of values.
+/// Plays the block on a queue of values of its type, in its form.
 pub fn play_values(rt: &impl Wait, block: &mut Block<'_>) -> Made {
     of_values!(values_of, rt, block)
 }
 
+/// Plays the block on a queue of values of one type, in the form that the block names.
 fn values_of<T: Numbered>(rt: &impl Wait, block: &mut Block<'_>) -> Made {
     if block.form == "plain" {
         let list: plain::Queue<T> = list(block)?;
@@ -174,6 +186,8 @@ fn values_of<T: Numbered>(rt: &impl Wait, block: &mut Block<'_>) -> Made {
     of_capacity!(typed::<T>, block.capacity, rt, block; 0 1 2 3 5 9 63 64 65 130 1000 5000 4_294_967_296)
 }
 
+/// Plays the block on a queue of values between threads whose type has the capacity `N`. Its positions begin
+/// at the second number of the block.
 fn typed<T: Numbered, const N: usize>(rt: &impl Wait, block: &mut Block<'_>) -> Made {
     if block.numbers[1] == 0 {
         let (queue, pass) = Queue::<T, N>::new(block.alloc)?;
@@ -183,6 +197,7 @@ fn typed<T: Numbered, const N: usize>(rt: &impl Wait, block: &mut Block<'_>) -> 
     use_values(rt, block, queue, pass)
 }
 
+/// Plays the block on this queue of values, by its pass.
 fn use_values<T: Numbered, const N: usize>(
     rt: &impl Wait,
     block: &mut Block<'_>,

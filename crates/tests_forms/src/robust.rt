@@ -1,4 +1,4 @@
-//! Sets of indices of owners.
+//! Plays blocks of a script on robust unique index sets, whose indices have owners, in each form.
 ghost use Rattle.lock_free.specs.RobustUniqueIndexSet.{IsPassOf};
 
 use crate::lines::{
@@ -13,6 +13,7 @@ use steps::indices::enums::{
     ReleaseState, RobustUniqueIndexSetReleaseError, UniqueIndexSetAcquireFailure,
 };
 
+/// Adds the index that was taken, or the word for why there was none.
 fn say_acquired(index: Result<usize, UniqueIndexSetAcquireFailure>, answer: &mut Answer) {
     match index {
         Ok(index) => answer.number(index as u64),
@@ -21,6 +22,7 @@ fn say_acquired(index: Result<usize, UniqueIndexSetAcquireFailure>, answer: &mut
     }
 }
 
+/// Adds whether the set is locked after a release. `not_owned` says that the owner does not have the index.
 fn say_released(
     state: Result<ReleaseState, RobustUniqueIndexSetReleaseError>,
     answer: &mut Answer,
@@ -31,7 +33,8 @@ fn say_released(
     }
 }
 
-/// Whether the answer to the question of this number is yes: by the mask, or where the owner is the one of the call.
+/// Whether the question of this number of a recovery is answered with yes. `recover` answers by the bits of a
+/// mask, `recover_of` by whether the index is of the owner that the call gives.
 fn is_freed(call: Call<'_>, owner: OwnerId, question: u64) -> bool {
     if call.name == "recover_of" {
         owner.value() == call.numbers[1]
@@ -40,12 +43,13 @@ fn is_freed(call: Call<'_>, owner: OwnerId, question: u64) -> bool {
     }
 }
 
+/// Adds the owner and the index of which a recovery asks or tells.
 fn hear(owner: OwnerId, index: usize, answer: &mut Answer) {
     answer.number(owner.value());
     answer.number(index as u64);
 }
 
-/// A find, of one caller or by a handle.
+/// Makes a `find` for an owner, of one caller or by a handle. Adds each index, and how many the call says.
 macro_rules! say_found {
     ($set:ident, $call:ident, $answer:ident) => {{
         let mut number = 0u64;
@@ -62,7 +66,8 @@ macro_rules! say_found {
     }};
 }
 
-/// A recovery, of one caller or by a handle with the runtime.
+/// Makes a recovery, of one caller or by a handle with the runtime. Adds whether the set is locked, what it
+/// asked about and what it told of.
 macro_rules! say_recovered {
     ($set:ident, $call:ident, $answer:ident $(, $rt:ident)?) => {{
         let mut question = 0u64;
@@ -87,7 +92,8 @@ macro_rules! say_recovered {
     }};
 }
 
-/// The other calls: `release 3 7 1` is of the index 3 and the owner 7, and locks the set if it was the last one.
+/// Makes a call that is no `find` and no recovery. `release 3 7 1` is of the index 3 and the owner 7, and
+/// locks the set if that was the last index.
 macro_rules! answer_of_robust {
     ($set:ident, $call:ident, $answer:ident $(, $rt:ident)?) => {
         match $call.name {
@@ -109,10 +115,12 @@ macro_rules! answer_of_robust {
     };
 }
 
+/// A `find` of one caller.
 fn find_alone(set: &mut plain::RobustUniqueIndexSet, call: Call<'_>, answer: &mut Answer) {
     say_found!(set, call, answer);
 }
 
+/// A recovery by the form of one caller.
 fn recover_alone(set: &mut plain::RobustUniqueIndexSet, call: Call<'_>, answer: &mut Answer) {
     say_recovered!(set, call, answer);
 }
@@ -127,15 +135,17 @@ impl Answers for plain::RobustUniqueIndexSet {
     }
 }
 
+/// A `find` by a handle.
 fn find(set: &mut Handle<'_>, call: Call<'_>, answer: &mut Answer) {
     say_found!(set, call, answer);
 }
 
+/// A recovery by a handle.
 fn recover(rt: &impl Wait, set: &mut Handle<'_>, call: Call<'_>, answer: &mut Answer) {
     say_recovered!(set, call, answer, rt);
 }
 
-/// Whether the set is locked, by a further handle.
+/// Adds whether the set is locked, as a further handle says.
 fn is_locked_further(set: &mut Handle<'_>, answer: &mut Answer) {
     match set.split() {
         Some(mut further) => answer.truth(further.is_locked()),
@@ -154,7 +164,8 @@ impl<'a> Answers for Handle<'a> {
     }
 }
 
-/// The set by two passes, of which one is made of two.
+/// Two handles of the set, by which calls are made in turn (`other`): `pass` is split in three, and two of
+/// the parts are joined for the second one. None where a further pass is refused.
 fn two<'a>(set: &'a RobustUniqueIndexSet, pass: Pass) -> Option<Two<Handle<'a>>>
     requires { IsPassOf set.now pass }
 {
@@ -167,8 +178,8 @@ fn two<'a>(set: &'a RobustUniqueIndexSet, pass: Pass) -> Option<Two<Handle<'a>>>
     })
 }
 
-/// Plays the block on a set of its form: of one caller from a generation on, which is the next number, or reduced to the
-/// capacity, of a type of that number.
+/// Plays the block on a set of its form. The second number of the block is the first generation for
+/// `plain_at`. For `reduced` it is the capacity of the type, which is reduced to that of the block.
 pub fn play_robust(rt: &impl Wait, block: &mut Block<'_>) -> Made {
     let (alloc, capacity, number) = (block.alloc, block.capacity, block.numbers[1]);
     match block.form {
@@ -189,11 +200,13 @@ pub fn play_robust(rt: &impl Wait, block: &mut Block<'_>) -> Made {
     }
 }
 
+/// Plays the block on a set between threads whose type has the capacity `N`.
 fn fixed<const N: usize>(rt: &impl Wait, block: &mut Block<'_>) -> Made {
     let (set, pass) = StaticRobustUniqueIndexSet::<N>::new(block.alloc)?;
     play_on(rt, block, two(&set, pass))
 }
 
+/// Plays the block on a set whose type has the capacity `N`, which is reduced to that of the block.
 fn reduced<const N: usize>(rt: &impl Wait, block: &mut Block<'_>) -> Made {
     let (alloc, capacity) = (block.alloc, block.capacity);
     let (set, pass) = StaticRobustUniqueIndexSet::<N>::new_with_reduced_capacity(alloc, capacity)?;

@@ -1,4 +1,4 @@
-//! Bit sets, and counting bit sets.
+//! Plays blocks of a script on bit sets and counting bit sets, in each form.
 ghost use Rattle.lock_free.specs.Sets.Calls.{IsPassOf};
 
 use crate::lines::{Answer, Answers, Block, Call, Made, Two, play_on};
@@ -9,7 +9,8 @@ use std::sync::Wait;
 use steps::bits::counting_bit_set::BitState;
 use steps::enums::UniqueIndexCreationError;
 
-/// A call on a bit set: of one caller, or by a handle, whose calls have the runtime.
+/// Makes a call on a bit set, of one caller or by a handle, whose calls have the runtime. `refused` where the
+/// place is not below the capacity.
 macro_rules! answer_of_bits {
     ($set:ident, $call:ident, $answer:ident $(, $rt:ident)?) => {{
         let place = $call.numbers[0] as usize;
@@ -24,7 +25,8 @@ macro_rules! answer_of_bits {
     }};
 }
 
-/// The same of a counting bit set.
+/// Makes a call on a counting bit set, of one caller or by a handle. `refused` where the place is
+/// not below the capacity.
 macro_rules! answer_of_counts {
     ($set:ident, $call:ident, $answer:ident) => {{
         let place = $call.numbers[0] as usize;
@@ -38,6 +40,7 @@ macro_rules! answer_of_counts {
     }};
 }
 
+/// The place as a number of the script.
 fn number_of(place: Option<usize>) -> Option<u64> {
     match place {
         Some(place) => Some(place as u64),
@@ -45,18 +48,20 @@ fn number_of(place: Option<usize>) -> Option<u64> {
     }
 }
 
-/// A place with its count.
+/// Adds a place and its count.
 fn say(state: BitState, answer: &mut Answer) {
     answer.number(state.bit() as u64);
     answer.number(state.count());
 }
 
+/// Clears a bit set of one caller, and adds the places that were set.
 #[tactic(auto, using(plain::proofs::Visits::takes_any))]
 fn empty_bits(set: &mut plain::BitSet, answer: &mut Answer) {
     answer.word("done");
     set.reset_all(&mut |place| answer.number(place as u64));
 }
 
+/// Clears a counting bit set of one caller, and adds each place that had a count, with it.
 #[tactic(auto, using(plain::proofs::Visits::takes_any))]
 fn empty_counts(set: &mut plain::CountingBitSet, answer: &mut Answer) {
     answer.word("done");
@@ -83,8 +88,9 @@ impl Answers for plain::CountingBitSet {
     }
 }
 
-/// A kind of sets between threads.
+/// The two kinds of sets between threads, flags and counts, whose calls a script makes.
 trait Places: Kind + Sized {
+    /// Makes the call, and adds what it answers.
     fn answer(set: &mut Handle<'_, Self>, rt: &impl Wait, call: Call<'_>, answer: &mut Answer);
 }
 
@@ -118,7 +124,8 @@ impl<'a, E: Places> Answers for Handle<'a, E> {
     }
 }
 
-/// The set by two passes, of which one is made of two.
+/// Two handles of the set, by which calls are made in turn (`other`): `pass` is split in three, and two of
+/// the parts are joined for the second one. None where a further pass is refused.
 fn two<'a, E: Places>(set: &'a Set<E>, pass: Pass<E>) -> Option<Two<Handle<'a, E>>>
     requires { IsPassOf set.now pass }
 {
@@ -131,12 +138,13 @@ fn two<'a, E: Places>(set: &'a Set<E>, pass: Pass<E>) -> Option<Two<Handle<'a, E
     })
 }
 
+/// Plays the block on a set between threads whose type has the capacity `N`.
 fn fixed<E: Places, const N: usize>(rt: &impl Wait, block: &mut Block<'_>) -> Made {
     let (set, pass) = FixedSize::<E, N>::new(block.alloc)?;
     play_on(rt, block, two(&set, pass))
 }
 
-/// A form of threads: of this capacity, or of a type that has it.
+/// Plays the block on a set between threads, whose capacity is that of the block (`heap`) or of its type.
 fn threaded<E: Places>(rt: &impl Wait, block: &mut Block<'_>) -> Made {
     if block.form != "heap" {
         return of_capacity!(fixed::<E>, block.capacity, rt, block; 0 1 2 5 9 64 123 128 4_294_967_296);
@@ -154,7 +162,7 @@ pub fn play_bits(rt: &impl Wait, block: &mut Block<'_>) -> Made {
     play_on(rt, block, Some(set))
 }
 
-/// The same of a counting bit set.
+/// Plays the block on a counting bit set of its form.
 pub fn play_counts(rt: &impl Wait, block: &mut Block<'_>) -> Made {
     if block.form != "plain" {
         return threaded::<Counts>(rt, block);

@@ -1,4 +1,4 @@
-//! The single value.
+//! Plays blocks of a script on the single value, in each form.
 ghost use Rattle.std.specs.Prelude.{◌≡◌, ◌≤◌};
 ghost use Rattle.std.specs.Option.{ForSome};
 ghost use Rattle.lock_free.specs.Value.Calls.{IsPassOf, value_id, value_of_producer};
@@ -23,7 +23,7 @@ impl<T: Numbered> Answers for plain::UnrestrictedAtomic<T> {
     }
 }
 
-/// Who stores and loads a value of threads: a pass, and the producer where the role is taken.
+/// A user of the value between threads: a pass, and the producer's guard while it has that role.
 #[derive(Drop)]
 struct User<'a, T: Words> {
     value: &'a UnrestrictedAtomic<T>,
@@ -34,6 +34,8 @@ struct User<'a, T: Words> {
 }
 
 impl<'a, T: Numbered> User<'a, T> {
+    /// Stores the value of this number by the producer's guard. `refused` where the user does
+    /// not have that role.
     fn store(&mut self, number: u64, answer: &mut Answer) {
         match &mut self.producer {
             Some(producer) => answer.truth(producer.store(T::of_number(number))),
@@ -41,7 +43,8 @@ impl<'a, T: Numbered> User<'a, T> {
         }
     }
 
-    /// Whether a new pass gets the producer's role.
+    /// Asks for the producer's role with a pass that is split off. True if it was free; otherwise the
+    /// pass is joined again.
     fn take(&mut self) -> bool {
         let Some(pass) = self.pass.split() else {
             return false;
@@ -58,7 +61,8 @@ impl<'a, T: Numbered> User<'a, T> {
         }
     }
 
-    /// The producer gives its role back. Its pass loads, and goes to the pass that is kept.
+    /// Gives the producer's role back. Its pass loads the value, which is added, and is joined to the pass
+    /// that the user keeps.
     fn release(&mut self, rt: &impl Wait, answer: &mut Answer) {
         let Some(producer) = self.producer.take() else {
             return answer.word("refused");
@@ -68,7 +72,8 @@ impl<'a, T: Numbered> User<'a, T> {
         self.pass.join(pass);
     }
 
-    /// The producer takes in the pass that is kept, and a new one is kept.
+    /// Splits a new pass off the one that the user keeps, joins that one to the producer, and keeps the new
+    /// one. False where no pass can be split off, or the user does not have the producer's role.
     fn join(&mut self) -> bool {
         let Some(new) = self.pass.split() else {
             return false;
@@ -100,11 +105,13 @@ impl<'a, T: Numbered> Answers for User<'a, T> {
     }
 }
 
-/// Plays the block on a value of its form: one that is first this number, of this version, if that is not 0.
+/// Plays the block on a value of its type, in its form. The block gives the number of the first value, and
+/// its version, if that is not 0.
 pub fn play_value(rt: &impl Wait, block: &mut Block<'_>) -> Made {
     of_values!(value_of, rt, block)
 }
 
+/// Plays the block on a value of one type, in the form that the block names.
 fn value_of<T: Numbered>(rt: &impl Wait, block: &mut Block<'_>) -> Made {
     let (first, version) = (T::of_number(block.numbers[0]), block.numbers[1]);
     if block.form == "plain" {
@@ -123,6 +130,7 @@ fn value_of<T: Numbered>(rt: &impl Wait, block: &mut Block<'_>) -> Made {
     use_value(rt, block, &value, pass)
 }
 
+/// Plays the block on this value, by its pass.
 fn use_value<T: Numbered>(
     rt: &impl Wait,
     block: &mut Block<'_>,

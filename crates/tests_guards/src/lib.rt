@@ -1,4 +1,5 @@
-//! Guards of indices for owners, the recovery of one owner, and acquires that wait: in one thread and between two.
+//! Tests of `lock_free_guards` for what no clause says, in one thread and between two. They are about guards
+//! of indices with owners, the recovery of one owner, acquires that wait, and splits in many.
 #![tactic(auto)]
 
 #[cfg(test)]

@@ -1,5 +1,5 @@
-//! What no clause says of a robust set in one thread: that calls succeed where an index is free, what a dropped guard leaves, and
-//! that a wait ends at a lock. Four capacities are tried.
+//! Robust sets with guards, in one thread. No clause says that a call succeeds where an index is free, what a
+//! dropped guard leaves, and that a wait ends at a lock.
 ghost use Rattle.lock_free_owners.specs.RobustUniqueIndexSet.{IsPassOf};
 
 use crate::user::User;
@@ -12,7 +12,7 @@ use steps::indices::enums::{
     ReleaseMode, ReleaseState, RobustUniqueIndexSetReleaseError, UniqueIndexSetAcquireFailure,
 };
 
-/// Takes so many indices.
+/// Takes `number` indices for the owner. None where one is refused, or the list gets no memory.
 fn take_many<'a, R: Wait>(
     rt: &'a R,
     alloc: Global,
@@ -27,8 +27,9 @@ fn take_many<'a, R: Wait>(
     Some(held)
 }
 
-/// Takes all indices and asks for more, and gives one back by a call and the rest by drops. Whether all were out, the set
-/// was full, the call said so, and none is out at the end.
+/// Takes all indices and asks for one more, and gives one back by a call and the rest by drops. It says
+/// whether all were out; whether the set was full, and the guard's index and owner are right; whether the
+/// call said that the set is not locked; and whether no index is out in the end.
 fn take_all<'a, R: Wait>(
     rt: &'a R,
     alloc: Global,
@@ -51,8 +52,10 @@ fn take_all<'a, R: Wait>(
     Some([all, full & below & his, given, user.out(rt) == 0])
 }
 
-/// Of so many indices each second one is of an owner who dies. How many come back, and again, and how many are out then;
-/// and whether the last recovery locks the set, which then each call sees.
+/// Takes all indices, each second one for another owner. All users stop without a release. Recovers the one owner
+/// twice, which has to answer `Unlocked`, and then the other. It returns how many came back each time and how many
+/// were out then. Then the last recovery, which finds just one index
+/// out, has to lock the set, and each later acquire has to be refused. None where an index is refused.
 fn recover_each_second<'a, R: Wait>(
     rt: &'a R,
     set: &'a RobustUniqueIndexSet,
@@ -86,7 +89,8 @@ fn recover_each_second<'a, R: Wait>(
     ))
 }
 
-/// Takes the only index, and has it recovered: what its guard answers then.
+/// Takes the only index, recovers its owner, and then releases the guard. It returns what the release
+/// answers. None where the index was not taken or not recovered.
 fn release_late<'a, R: Wait>(
     rt: &'a R,
     set: &'a RobustUniqueIndexSet,
@@ -105,7 +109,8 @@ fn release_late<'a, R: Wait>(
     Some(answer)
 }
 
-/// Takes the only index, and locks the set as it gives it back. What is answered, and to the next one.
+/// Takes the only index, and gives it back so that the set is locked. It says whether tries were refused
+/// before and the release locked, and why the next acquire is refused.
 fn lock_by_release<'a, R: Wait>(
     rt: &'a R,
     set: &'a RobustUniqueIndexSet,
@@ -123,6 +128,8 @@ fn lock_by_release<'a, R: Wait>(
     Some((full & locked, user.refusal(rt, owner)))
 }
 
+/// Guards give their indices back, by a call and by a drop, at four capacities. If one did not, an index
+/// would be out in the end.
 #[test]
 fn guards_give_back(rt: HostRuntime) -> Result<(), Fail> {
     let alloc = rt.alloc();
@@ -136,6 +143,8 @@ fn guards_give_back(rt: HostRuntime) -> Result<(), Fail> {
     Ok(())
 }
 
+/// The recovery of one owner frees that owner's indices once, and no other one's, at four capacities. The
+/// columns are the capacity, how many the dead owner had, and how many were out after both recoveries.
 #[test]
 fn one_owner_is_recovered(rt: HostRuntime) -> Result<(), Fail> {
     for (capacity, his, left) in [(1, 1, 0), (5, 3, 2), (64, 32, 32), (1000, 500, 500)] {
@@ -149,6 +158,8 @@ fn one_owner_is_recovered(rt: HostRuntime) -> Result<(), Fail> {
     Ok(())
 }
 
+/// A guard whose owner was recovered gives nothing back. If it did, it could free an index that somebody else
+/// has by then.
 #[test]
 fn a_guard_of_a_recovered_owner_gives_nothing_back(rt: HostRuntime) -> Result<(), Fail> {
     let (set, pass) = RobustUniqueIndexSet::new(rt.alloc(), 1)?;
@@ -157,6 +168,8 @@ fn a_guard_of_a_recovered_owner_gives_nothing_back(rt: HostRuntime) -> Result<()
     Ok(())
 }
 
+/// A guard that gives the last index back in mode `LockIfLastIndex` locks the set, and the next acquire is
+/// told of it.
 #[test]
 fn the_last_guard_locks(rt: HostRuntime) -> Result<(), Fail> {
     let (set, pass) = RobustUniqueIndexSet::new(rt.alloc(), 1)?;

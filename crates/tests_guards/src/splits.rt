@@ -1,4 +1,4 @@
-//! That each handle and each pass that can be split in many is split.
+//! Splits in many (`split_many`) of each type of handle and of pass that has them.
 use lock_free_guards::splits::split_many;
 use lock_free_owners::mpmc::container::Container;
 use lock_free_owners::mpmc::robust_unique_index_set::RobustUniqueIndexSet;
@@ -9,7 +9,8 @@ use lock_free_sets::mpmc::{bit_set, unique_index_set as unique};
 use std::alloc::Global;
 use std::test::Fail;
 
-/// Whether a handle or a pass of this type can be split in one, that is not at all, and then what is left of it in three, in four and in nine.
+/// Splits a handle or a pass of this type by 0, 2, 3 and 8 splits, one after another, each of what the last
+/// one left. True if all succeed.
 macro_rules! is_split {
     ($alloc:expr, $whole:expr, $kind:ty) => {
         split_many::<0, $kind>($alloc, $whole).is_some()
@@ -19,7 +20,8 @@ macro_rules! is_split {
     };
 }
 
-/// Splits a pass of each index set: whether both can be.
+/// Splits a pass of a unique index set and one of a robust set, and says for each whether it
+/// can be split in many.
 fn split_passes(alloc: Global) -> Option<[bool; 2]> {
     let (_set, mut pass) = UniqueIndexSet::new(alloc, 2).ok()?;
     let of_unique = is_split!(alloc, &mut pass, unique::Pass);
@@ -28,7 +30,8 @@ fn split_passes(alloc: Global) -> Option<[bool; 2]> {
     Some([of_unique, of_robust])
 }
 
-/// The same of a handle of each.
+/// Splits a handle of a unique index set and one of a robust set, and says for each whether it
+/// can be split in many.
 fn split_handles(alloc: Global) -> Option<[bool; 2]> {
     let (set, pass) = UniqueIndexSet::new(alloc, 2).ok()?;
     let mut handle = set.handle(pass);
@@ -39,7 +42,7 @@ fn split_handles(alloc: Global) -> Option<[bool; 2]> {
     Some([of_unique, of_robust])
 }
 
-/// The same of a handle of a bit set and of a container.
+/// Splits a handle of a bit set and one of a container, and says for each whether it can be split in many.
 fn split_of_others(alloc: Global) -> Option<[bool; 2]> {
     let (set, pass) = BitSet::new(alloc, 9).ok()?;
     let mut handle = set.handle(pass);
@@ -50,6 +53,8 @@ fn split_of_others(alloc: Global) -> Option<[bool; 2]> {
     Some([of_set, of_container])
 }
 
+/// Each type can be split in one, three, four and nine. A refusal would say that a split
+/// was lost or not made.
 #[test]
 fn each_is_split_in_many(rt: HostRuntime) -> Result<(), Fail> {
     assert!(rt; split_passes(rt.alloc()) == Some([true; 2]));

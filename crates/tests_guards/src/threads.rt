@@ -1,4 +1,5 @@
-//! Two threads that take indices of one set, and wait for them. Who waits gets what the other one gives back.
+//! Two threads that take indices of one set, and wait for them. A thread that waits gets what the
+//! other one gives back.
 ghost use Rattle.lock_free_owners.specs.RobustUniqueIndexSet as robust;
 ghost use Rattle.lock_free_sets.specs.UniqueIndexSet as unique;
 
@@ -16,10 +17,11 @@ use std::thread;
 use std::thread::Threads;
 use steps::indices::enums::ReleaseMode;
 
-/// How often a thread takes an index.
+/// How often each thread takes an index.
 const TIMES: u64 = 1000;
 
-/// Whether nobody has the index in between.
+/// Notes that a thread has the index, and then that it has it no more. False if another thread
+/// has it between the two.
 fn is_alone(flags: &[AtomicU64], index: usize) -> bool {
     match flags.get(index) {
         Some(flag) => { flag.swap(1, Ordering::SeqCst) == 0 && flag.swap(0, Ordering::SeqCst) == 1 }
@@ -27,6 +29,7 @@ fn is_alone(flags: &[AtomicU64], index: usize) -> bool {
     }
 }
 
+/// A flag for each of `number` indices, none of which anybody has.
 fn make_flags(alloc: Global, number: usize) -> Option<Vec<AtomicU64>> {
     let mut flags = Vec::new(alloc);
     for _ in 0..number {
@@ -35,7 +38,8 @@ fn make_flags(alloc: Global, number: usize) -> Option<Vec<AtomicU64>> {
     Some(flags)
 }
 
-/// Takes an index as soon as there is one, and gives it back, `TIMES` times. How often it was alone with it.
+/// Takes an index of a robust set as soon as there is one, and gives it back, `TIMES` times. It returns how
+/// often no other thread had that index; the thread stops early where a wait ends without an index.
 fn use_robust<R: Wait>(
     rt: &R,
     set: &RobustUniqueIndexSet,
@@ -59,7 +63,8 @@ fn use_robust<R: Wait>(
     alone
 }
 
-/// The same of a unique index set.
+/// Takes an index of a unique index set as soon as there is one, and gives it back, `TIMES` times. It returns
+/// how often no other thread had that index; the thread stops early where a wait ends without an index.
 fn use_unique(
     rt: &impl Wait,
     set: &UniqueIndexSet,
@@ -81,7 +86,8 @@ fn use_unique(
     alone
 }
 
-/// Two threads take indices of one robust set: how often each was alone with what it took.
+/// Two threads take indices of one robust set. It returns for each how often no other thread had what it
+/// took. None where memory or a pass is refused.
 fn use_robust_by_two<R: Threads + Wait + Sync>(
     rt: &R,
     alloc: Global,
@@ -100,6 +106,8 @@ fn use_robust_by_two<R: Threads + Wait + Sync>(
     ))
 }
 
+/// Two threads take indices of one unique index set. It returns for each how often no other thread had what
+/// it took. None where memory or a pass is refused.
 fn use_unique_by_two<R: Threads + Wait + Sync>(
     rt: &R,
     alloc: Global,
@@ -117,7 +125,8 @@ fn use_unique_by_two<R: Threads + Wait + Sync>(
     ))
 }
 
-/// One thread waits for the only index, which another holds and then drops: what it gets.
+/// One thread waits for the only index, which another thread holds and then drops. It returns the index that
+/// the first one got.
 fn wait_for_other<'a, R: Threads + Wait + Sync>(
     rt: &'a R,
     set: &'a RobustUniqueIndexSet,
@@ -133,6 +142,8 @@ fn wait_for_other<'a, R: Threads + Wait + Sync>(
     got
 }
 
+/// Two threads share sets of four capacities, and no index has two holders. A wait that misses
+/// an index would not end.
 #[test]
 fn two_threads_share_a_set(rt: HostRuntime) -> Result<(), Fail> {
     let alloc = rt.alloc();
@@ -150,6 +161,8 @@ fn two_threads_share_a_set(rt: HostRuntime) -> Result<(), Fail> {
     Ok(())
 }
 
+/// A thread that waits gets the index that another one drops. If a dropped guard did not give its index back,
+/// the wait would not end.
 #[test]
 fn who_waits_gets_what_another_drops(rt: HostRuntime) -> Result<(), Fail> {
     let (set, pass) = RobustUniqueIndexSet::new(rt.alloc(), 1)?;

@@ -1,5 +1,6 @@
-//! Calls of `lock_free_guards` once more, each with the clauses that the tests have no use for, so that none can go out of a call
-//! unnoticed. What a wrong body would leave, and a clause refuses, stands in its `proofs/WrongBodies.antt`.
+//! Calls of `lock_free_guards`, each with those of its clauses that no test uses, so that no clause can go
+//! out of a call unnoticed. What a wrong body would leave, and a clause refuses, stands in
+//! `proofs/WrongBodies.antt` of that crate.
 ghost use Rattle.std.specs.Prelude.{◌≡◌, ◌≢◌, ◌<◌, ◌+◌, ℕ, true, false, IfOk, IfErr, IfSome, OnOk, IsErrAnd};
 ghost use Rattle.steps.specs.declared.indices.enums.UniqueIndexSetAcquireFailure.TheVariants.{IsLocked as Locked, OutOfIndices as Out};
 ghost use Rattle.model.specs.declared.event.Start.TheVariants.{Indices, Robust};
@@ -39,7 +40,9 @@ use steps::indices::enums::{ReleaseMode, ReleaseState, UniqueIndexSetAcquireFail
 
 pub mod cuts;
 
-/// A guard is of this set, for this owner, and owns the pass. Else the pass comes back.
+/// An acquire answers a guard of this set, for this owner, which owns the pass; otherwise the pass
+/// comes back with the failure. At a locked set it fails by the lock. In both cases the steps are those
+/// of `acquire` of the set.
 pub fn acquire<'a, R: Wait>(
     rt: &'a R,
     set: &'a RobustUniqueIndexSet,
@@ -61,7 +64,7 @@ pub fn acquire<'a, R: Wait>(
     RobustIndex::acquire(rt, set, pass, owner)
 }
 
-/// The index of a guard is one of its set.
+/// The index of a guard is the one that its value says, and is below the capacity of its set.
 pub fn value<R: Wait>(index: &RobustIndex<'_, R>) -> usize
     ensures value { result ≡ value_of index.now }
     ensures below { result < (index_set index.now).capacity }
@@ -69,14 +72,14 @@ pub fn value<R: Wait>(index: &RobustIndex<'_, R>) -> usize
     index.value()
 }
 
-/// A guard tells its owner.
+/// The owner that a guard tells is the one that it was made for.
 pub fn owner<R: Wait>(index: &RobustIndex<'_, R>) -> OwnerId
     ensures { result ≡ owner_of index.now }
 {
     index.owner()
 }
 
-/// A guard's index is held for its owner, by a run that its pass knows.
+/// The index of a guard is held for its owner, and the guard's pass knows a run of the set.
 pub fn tell_history<R: Wait>(index: &RobustIndex<'_, R>)
     ensures run { Knows one_word kinds.Robust (index_set index.now).capacity (index_view index.now) }
     ensures held { HoldsFor (owner_of index.now) (value_of index.now) (made (index_pass index.now)) }
@@ -84,7 +87,8 @@ pub fn tell_history<R: Wait>(index: &RobustIndex<'_, R>)
     index.history();
 }
 
-/// What a guard gives back is its own index, for its owner.
+/// What a guard gives back is its own index, for its owner. The answer, the lock and the steps are those of
+/// `release` of the set.
 pub fn release<R: Wait>(
     index: RobustIndex<'_, R>,
     mode: ReleaseMode,
@@ -102,7 +106,8 @@ pub fn release<R: Wait>(
     index.release(mode)
 }
 
-/// A wait ends with an index, or at a lock.
+/// A wait ends with a guard of this set and owner, at the end of an acquire that succeeded, or at
+/// a lock with the pass.
 pub fn acquire_waiting<'a, R: Wait>(
     rt: &'a R,
     set: &'a RobustUniqueIndexSet,
@@ -122,7 +127,8 @@ pub fn acquire_waiting<'a, R: Wait>(
     RobustIndex::acquire_waiting(rt, set, pass, owner)
 }
 
-/// Tries end with an index, at a lock, or after so many.
+/// Tries end with a guard of this set and owner, at a lock, or after `tries` tries that found each index out.
+/// In the last case the set was not locked before.
 pub fn acquire_within<'a, R: Wait>(
     rt: &'a R,
     tries: u64,
@@ -146,7 +152,8 @@ pub fn acquire_within<'a, R: Wait>(
     RobustIndex::acquire_within(rt, tries, set, pass, owner)
 }
 
-/// A recovery is told of one owner, and counts what it freed.
+/// A recovery of one owner counts what it freed of that owner, and frees no index of another one. Its answer,
+/// the lock and its steps are right.
 pub fn recover(
     rt: &impl Wait,
     set: &RobustUniqueIndexSet,
@@ -165,7 +172,8 @@ pub fn recover(
     recover_owner(rt, set, pass, owner, mode)
 }
 
-/// A wait at a unique index set ends so, too.
+/// A wait at a unique index set ends with an index of this set, which the pass then holds besides, or at a
+/// lock with the pass.
 pub fn acquire_unique_waiting<'a>(
     rt: &impl Wait,
     set: &'a UniqueIndexSet,
@@ -184,7 +192,8 @@ pub fn acquire_unique_waiting<'a>(
     unique_index::acquire_waiting(rt, set, pass)
 }
 
-/// So do tries.
+/// Tries at a unique index set end with an index of this set, at a lock, or after `tries` tries that found
+/// each index out. In the last case the pass holds what it held.
 pub fn acquire_unique_within<'a>(
     rt: &impl Wait,
     tries: u64,
@@ -208,7 +217,8 @@ pub fn acquire_unique_within<'a>(
     unique_index::acquire_within(rt, tries, set, pass)
 }
 
-/// Each of three is of the same set, and was split off what the split before had left.
+/// Each of the three handles that are split off is of the same set, and was split off what the split before
+/// had left (`AreCut`).
 pub fn split_many<'a>(alloc: Global, handle: &mut Handle<'a>) -> Option<[Handle<'a>; 3]>
     ensures { IfSome result (λ halves. AreCut (λ old new half. (set_in new ≡ set_in old) × (set_in half ≡ set_in old)
         × HasSplit (knows old) (knows new) (knows half)) halves handle.old handle.new) }

@@ -1,4 +1,4 @@
-//! The tries of a unique index set in one thread: at a free index, at a full set and at a locked one.
+//! Tries and waits at a unique index set in one thread: at a free index, at a full set and at a locked one.
 ghost use Rattle.lock_free_sets.specs.UniqueIndexSet.{IsPassOf};
 
 use lock_free_guards::splits::split_many;
@@ -9,7 +9,8 @@ use std::sync::Wait;
 use std::test::Fail;
 use steps::indices::enums::{ReleaseState, UniqueIndexSetAcquireFailure};
 
-/// Takes all indices. Whether the first try got one, and tries at the full set are refused.
+/// Takes all indices. It says whether the first try got one, and whether three tries at the full set are
+/// refused for want of an index. None where a call is refused before.
 fn try_full(rt: &impl Wait, alloc: Global, capacity: usize) -> Option<[bool; 2]> {
     let (set, pass) = UniqueIndexSet::new(alloc, capacity).ok()?;
     let mut mine = pass;
@@ -31,7 +32,7 @@ fn try_full(rt: &impl Wait, alloc: Global, capacity: usize) -> Option<[bool; 2]>
     Some([below, full])
 }
 
-/// Takes an index, and locks the set as it gives it back. Whether it is locked.
+/// Takes an index, and locks the set as it gives it back. True if the set is locked.
 fn lock(rt: &impl Wait, set: &UniqueIndexSet, pass: Pass) -> bool
     requires { IsPassOf set.now pass }
 {
@@ -42,7 +43,8 @@ fn lock(rt: &impl Wait, set: &UniqueIndexSet, pass: Pass) -> bool
     state == ReleaseState::Locked
 }
 
-/// Whether tries at a locked set are refused.
+/// Whether three tries at a locked set are refused because of the lock. None where the set could not be made
+/// or locked, or no further pass can be counted.
 fn try_locked(rt: &impl Wait, alloc: Global, capacity: usize) -> Option<bool> {
     let (set, pass) = UniqueIndexSet::new(alloc, capacity).ok()?;
     let mut mine = pass;
@@ -56,7 +58,8 @@ fn try_locked(rt: &impl Wait, alloc: Global, capacity: usize) -> Option<bool> {
     }
 }
 
-/// Whether a wait at a locked set ends, without an index.
+/// Whether a wait at a locked set ends without an index. None where the set could not be made or locked, or
+/// no further pass can be counted.
 fn wait_locked(rt: &impl Wait, alloc: Global, capacity: usize) -> Option<bool> {
     let (set, pass) = UniqueIndexSet::new(alloc, capacity).ok()?;
     let mut mine = pass;
@@ -70,7 +73,8 @@ fn wait_locked(rt: &impl Wait, alloc: Global, capacity: usize) -> Option<bool> {
     }
 }
 
-/// Splits a handle in four: whether three of them take the three indices, and the fourth finds none.
+/// Splits a handle in four. True if three of the parts take the three indices of the set, and the fourth
+/// finds none. None where a split or an index is refused.
 fn split_in_four(rt: &impl Wait, alloc: Global) -> Option<bool> {
     let (set, pass) = UniqueIndexSet::new(alloc, 3).ok()?;
     let mut mine = set.handle(pass);
@@ -82,12 +86,15 @@ fn split_in_four(rt: &impl Wait, alloc: Global) -> Option<bool> {
     Some(taken.len() == 3 && mine.acquire(rt).is_err())
 }
 
+/// The parts of a handle can each take an index. If two of them were one, an index would be missing.
 #[test]
 fn a_handle_is_split_in_four(rt: HostRuntime) -> Result<(), Fail> {
     assert!(rt; split_in_four(&rt, rt.alloc()) == Some(true));
     Ok(())
 }
 
+/// Tries end where they have to, at four capacities: with an index, at a full set and at a locked set. A wait
+/// that did not end at the lock would never end.
 #[test]
 fn a_unique_set_is_tried(rt: HostRuntime) -> Result<(), Fail> {
     let alloc = rt.alloc();

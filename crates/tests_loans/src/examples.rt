@@ -1,3 +1,3 @@
-//! The loan channel and the pool of BUS.md.
+//! The programs with a loan channel and with a pool that BUS.md shows.
 mod channel;
 mod pool;

@@ -1,4 +1,5 @@
-//! The slots of `zero_copy_slots`, and the typed loan channel and the pool of `zero_copy_loans`, by turns in one thread and between two.
+//! Tests of `zero_copy_slots` and of the typed loan channel and the pool of `zero_copy_loans`, for what no
+//! clause says. They are rows of steps in one thread, many sizes, and runs of two threads.
 #![tactic(auto)]
 
 #[cfg(test)]

@@ -1,4 +1,4 @@
-//! Both ends of a channel in one thread, and the steps of a row, each with what it has to come to.
+//! The steps of the rows that `turns` plays on both ends of a channel, and what each step has to come to.
 use std::alloc::Global;
 use std::mem::forget;
 use std::sync::Wait;
@@ -7,55 +7,57 @@ use zero_copy_loans::error::LoanFailure;
 use zero_copy_loans::receiver::{Receiver, Sample};
 use zero_copy_loans::sender::{Loan, Sender};
 
-/// How many wait at most.
+/// How many places wait for the receiver at most, before the oldest is pushed out.
 const QUEUE: usize = 2;
 
-/// A step, and what has to come of it.
+/// A step of a row, with what it has to come to. A step that comes to something else is the
+/// wrong one of its row.
 #[derive(Clone, Copy)]
 pub enum Step {
-    /// A value is sent, and this place comes back, if any.
+    /// A value is sent. The place that was pushed out of the queue comes back, if any.
     Sends(u64, Option<u64>),
-    /// The value that comes next, after its number. It is given back.
+    /// The next value has this number and is this value. It is given back.
     Reads(u64, u64),
-    /// The same of a value whose number is that of the round.
+    /// The next value has the number of the round and is this value. It is given back.
     ReadsOfRound(u64),
-    /// The same of a value with its number, and a reading of it is forgotten before.
+    /// The next value has this number and is this value. A reading of it is forgotten, and
+    /// then it is given back.
     Forgets(u64, u64),
-    /// Nothing waits to be received.
+    /// No value waits to be received.
     FindsNone,
-    /// This place is taken back, if any.
+    /// The sender takes back the oldest place that was given back, if any, and it is this one.
     TakesBack(Option<u64>),
-    /// The next value has this number.
+    /// The next value that is sent gets this number.
     IsNext(u64),
-    /// A first loan is kept.
+    /// A first loan comes, and is kept.
     LoansOne,
-    /// A second loan is kept.
+    /// A second loan comes, and is kept.
     LoansOther,
-    /// A loan is refused: there is no place.
+    /// A loan is refused, since there is no place.
     HasNoPlace,
-    /// A loan is refused: there is no value.
+    /// A loan is refused, since there is no value to write.
     HasNoValue,
-    /// A loan is refused: this place is still read.
+    /// A loan is refused, since this place is still read.
     IsStillRead(u32),
-    /// The place of the first loan cannot be regained.
+    /// The place of the first loan, which is in hand, cannot be regained.
     KeepsOne,
     /// The first loan is given up.
     GivesUpOne,
-    /// The second one is dropped.
+    /// The second loan is dropped; its place is noted.
     DropsOther,
-    /// Whether the place of the second loan can be regained.
+    /// Whether the place of the second loan, which was dropped, can be regained.
     RegainsOther(bool),
     /// Whether this place can be regained.
     Regains(u32, bool),
 }
 
-/// Both ends, and two loans that are kept.
+/// Both ends of a channel in one thread, and up to two loans that are kept.
 pub struct Room<'a> {
     pub sender: Sender<'a, u64>,
     pub receiver: Receiver<'a, u64>,
     one: Option<Loan<'a, u64>>,
     other: Option<Loan<'a, u64>>,
-    /// The place of the second loan.
+    /// The place of the second loan, noted as it is dropped.
     place: u32,
 }
 
@@ -71,12 +73,12 @@ impl<'a> Drop for Room<'a> {
     }
 }
 
-/// Makes a channel of so many places. None where there is no memory.
+/// A channel of this many places, of which `QUEUE` wait at most. None where there is no memory.
 pub fn channel(alloc: Global, places: usize) -> Option<Channel<u64>> {
     Channel::new(alloc, places, QUEUE).ok()
 }
 
-/// Sends a value: the answer of the channel. None where there is no place.
+/// Sends a value, and returns the place that comes back, if any. None where there is no loan.
 fn send(rt: &impl Wait, sender: &mut Sender<'_, u64>, value: u64) -> Option<Option<u64>> {
     let mut loan = sender.loan(rt).ok()?;
     loan.value = value;
@@ -86,7 +88,7 @@ fn send(rt: &impl Wait, sender: &mut Sender<'_, u64>, value: u64) -> Option<Opti
     }
 }
 
-/// Whether a sample is this value, with this number.
+/// Whether a sample has this number, and its reading shows this number and this value.
 fn is_value(receiver: &Receiver<'_, u64>, sample: &Sample, number: u64, value: u64) -> bool {
     match receiver.read(sample) {
         Ok(reading) => {
@@ -96,7 +98,8 @@ fn is_value(receiver: &Receiver<'_, u64>, sample: &Sample, number: u64, value: u
     }
 }
 
-/// Whether a reading of a sample was to be had. It is forgotten.
+/// Reads a sample and forgets the reading, which then holds the place for good. False
+/// where it cannot be read.
 fn forget_reading(receiver: &Receiver<'_, u64>, sample: &Sample) -> bool {
     match receiver.read(sample) {
         Ok(reading) => {
@@ -107,8 +110,8 @@ fn forget_reading(receiver: &Receiver<'_, u64>, sample: &Sample) -> bool {
     }
 }
 
-/// Whether the value that comes next is this one, with this number. A reading of it is forgotten before, if that is asked. It is
-/// given back.
+/// Receives the next value, and gives it back. True if it has this number and is this value. With `forgets` a
+/// reading of it is forgotten before.
 fn read(
     rt: &impl Wait,
     receiver: &mut Receiver<'_, u64>,
@@ -124,7 +127,7 @@ fn read(
     is_right & receiver.give_back(sample)
 }
 
-/// Whether there is no loan, for the reason of this step.
+/// Whether a loan is refused for the reason that this step names.
 pub fn is_refused(rt: &impl Wait, sender: &mut Sender<'_, u64>, step: Step) -> bool {
     let Err(failure) = sender.loan(rt) else {
         return false;
@@ -140,7 +143,7 @@ pub fn is_refused(rt: &impl Wait, sender: &mut Sender<'_, u64>, step: Step) -> b
     }
 }
 
-/// Whether a place can be regained, and its own slot was left empty.
+/// Whether a place can be regained, and the slot that was left empty is the one of this place.
 fn regain(sender: &mut Sender<'_, u64>, place: u32) -> bool {
     match sender.regain(place) {
         Some(emptied) => emptied.slot() == place,
@@ -149,7 +152,7 @@ fn regain(sender: &mut Sender<'_, u64>, place: u32) -> bool {
 }
 
 impl<'a> Room<'a> {
-    /// Both ends of a channel, with so many values to write. None where they are not to be had.
+    /// Both ends of a channel, with `number` values to write. None where memory or an end is refused.
     pub fn new(alloc: Global, channel: &'a mut Channel<u64>, number: usize) -> Option<Room<'a>> {
         let values = vec![in alloc; 0u64; number].ok()?;
         let (sender, receiver) = channel.ends(alloc, values)?;
@@ -162,7 +165,7 @@ impl<'a> Room<'a> {
         })
     }
 
-    /// Does a step of loans that are kept: whether it comes to what it has to.
+    /// Takes a step about a loan that is kept, and says whether it came to what the step has to.
     fn take_step_with_loans(&mut self, rt: &impl Wait, step: Step) -> bool {
         match step {
             Step::LoansOne => {
@@ -196,7 +199,7 @@ impl<'a> Room<'a> {
         }
     }
 
-    /// Does a step of a round: whether it comes to what it has to.
+    /// Takes a step of the round of this number, and says whether it came to what the step has to.
     fn take_step(&mut self, rt: &impl Wait, step: Step, round: u64) -> bool {
         match step {
             Step::Sends(value, back) => send(rt, &mut self.sender, value) == Some(back),
@@ -216,7 +219,8 @@ impl<'a> Room<'a> {
         }
     }
 
-    /// Does the steps in so many rounds, from 0: the first that does not come to what it has to, if any.
+    /// Takes these steps in order, in rounds from 0 on. It returns the place of the first step that came to
+    /// something else than its row says; None where none did.
     pub fn first_wrong(&mut self, rt: &impl Wait, steps: &[Step], rounds: usize) -> Option<usize> {
         for round in 0..rounds {
             for at in 0..steps.len() {
@@ -228,7 +232,7 @@ impl<'a> Room<'a> {
         None
     }
 
-    /// How many values are left, besides those that lie in a place.
+    /// How many values the sender hands out as it finishes. These are the values that lie in no place.
     pub fn left(self) -> usize {
         let Self {
             sender,

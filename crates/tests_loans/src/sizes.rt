@@ -1,4 +1,5 @@
-//! Slots, channels and pools of more places than fit into one word of bits.
+//! Slots, channels and pools with up to thousands of places: more than fit into one byte or word of bits, so
+//! that places of all words are used.
 ghost use Rattle.lock_free_loans.specs.Loan.Sender.{IsSame};
 ghost use Rattle.zero_copy_loans.specs.Ends.{sender_of, IsSameReceiver};
 
@@ -15,12 +16,13 @@ use zero_copy_slots::{Anything, Slots};
 
 // ---- slots
 
-/// What is laid into a slot.
+/// The value of this slot, which another slot does not have.
 fn of_slot(slot: u32) -> u64 {
     slot as u64 * 3 + 1
 }
 
-/// Lays a value into a slot in which nothing lies, and then its own, by which the first one comes out.
+/// Puts the value 70 with the number 7 into an empty slot, and then the slot's own value, by which the first
+/// one comes out. False where the slot was not empty, could not be taken, or something else came out.
 fn lay(slots: &Slots<u64>, slot: u32) -> bool {
     let mut right = matches!(&slots.read(slot), Err(ReadFailure::NotThere(_)));
     let Ok(writing) = slots.take(slot) else {
@@ -36,7 +38,7 @@ fn lay(slots: &Slots<u64>, slot: u32) -> bool {
     right && laid.slot() == slot && laid.number() == slot as u64
 }
 
-/// Whether its own value lies in a slot.
+/// Whether the slot's own value lies in it, with its number.
 fn has_own(slots: &Slots<u64>, slot: u32) -> bool {
     let Ok(reading) = slots.read(slot) else {
         return false;
@@ -44,7 +46,7 @@ fn has_own(slots: &Slots<u64>, slot: u32) -> bool {
     reading.number() == slot as u64 && *reading.get() == of_slot(slot)
 }
 
-/// Whether its own value comes out of a slot, in which nothing lies then.
+/// Takes the slot's own value out. True if that is what came out, and the slot is empty then.
 fn take_own(slots: &Slots<u64>, slot: u32) -> bool {
     let Ok(writing) = slots.take(slot) else {
         return false;
@@ -53,13 +55,14 @@ fn take_own(slots: &Slots<u64>, slot: u32) -> bool {
         && matches!(&slots.read(slot), Err(ReadFailure::NotThere(_)))
 }
 
-/// Whether a slot past the last is neither read nor written.
+/// Whether a slot past the last one is neither read nor taken.
 fn is_past(slots: &Slots<u64>, slot: u32) -> bool {
     matches!(&slots.read(slot), Err(ReadFailure::NoSlot))
         && matches!(&slots.take(slot), Err(TakeFailure::NoSlot))
 }
 
-/// Whether each slot of so many keeps its own value.
+/// Fills `number` slots, each with its own value, reads all of them, and then empties them. True if each slot
+/// kept its own value.
 fn keep_all(slots: &Slots<u64>, number: u32) -> bool {
     let mut right = is_past(slots, number);
     for slot in 0..number {
@@ -74,6 +77,8 @@ fn keep_all(slots: &Slots<u64>, number: u32) -> bool {
     right
 }
 
+/// Slots of five numbers keep their values apart. A slot that shares a word of state or a place with another
+/// one would show that one's value.
 #[test]
 fn each_slot_keeps_its_value(rt: HostRuntime) -> Result<(), Fail> {
     for number in [2, 64, 65, 300, 5_000] {
@@ -85,7 +90,7 @@ fn each_slot_keeps_its_value(rt: HostRuntime) -> Result<(), Fail> {
 
 // ---- channels
 
-/// Sends a value of the next number. False where it comes back.
+/// Sends three times the next number. False where there is no loan, or a place comes back.
 fn send_next(rt: &impl Wait, sender: &mut Sender<'_, u64>) -> bool
     ensures { IsSame (sender_of sender.old) (sender_of sender.new) }
 {
@@ -97,7 +102,8 @@ fn send_next(rt: &impl Wait, sender: &mut Sender<'_, u64>) -> bool
     sender.send(loan).is_none()
 }
 
-/// The next sample, if it has this number and can be read.
+/// The next sample. None where none waits, where its number is another one, or where its value is not three
+/// times that number.
 fn receive_next(rt: &impl Wait, receiver: &mut Receiver<'_, u64>, number: u64) -> Option<Sample>
     ensures { IsSameReceiver receiver.old receiver.new }
 {
@@ -113,7 +119,9 @@ fn receive_next(rt: &impl Wait, receiver: &mut Receiver<'_, u64>, number: u64) -
     }
 }
 
-/// Fills all places with values from this number on, receives them all while none is given back, and then gives them back.
+/// Sends a value by each place, with the numbers from `first` on, and receives all of them before it gives
+/// one back. True if no further loan comes while all places are out, the values come in order, and each place
+/// is taken back. None where a value did not come or memory was refused.
 fn go_round(
     rt: &impl Wait,
     alloc: Global,
@@ -143,7 +151,7 @@ fn go_round(
     Some(right & sender.take_back().is_none())
 }
 
-/// Writes three times the number that a value is sent with.
+/// Writes three times the number with which the value is sent.
 #[derive(Drop)]
 struct Triples;
 
@@ -154,7 +162,7 @@ impl Writes<u64, Anything> for Triples {
     }
 }
 
-/// Reads what was written.
+/// Tells the value that it reads.
 #[derive(Drop)]
 struct Plain;
 
@@ -166,7 +174,7 @@ impl Reads<u64, Anything, u64> for Plain {
     }
 }
 
-/// Whether there are so many numbers, of which each is by so much more than the one before.
+/// Whether there are `many` numbers, from `first` on, each by `by` greater than the one before it.
 fn rise(numbers: &[u64], many: usize, first: u64, by: u64) -> bool {
     let mut next = first;
     for number in numbers {
@@ -178,7 +186,9 @@ fn rise(numbers: &[u64], many: usize, first: u64, by: u64) -> bool {
     numbers.len() == many
 }
 
-/// Sends a value in the place that is free, and two more in places that come back between the tries, of so many that wait to come back.
+/// Sends one value in the place that is free, and two more in places that are taken back between the
+/// tries, of the `back` places that wait to come back. True if the rest of these can be taken back
+/// then, and no further one.
 fn send_on(rt: &impl Wait, alloc: Global, sender: &mut Sender<'_, u64>, back: u32) -> bool {
     let mut right = sender.send_each(rt, alloc, 1, 1, &mut Triples).is_some();
     right &= sender.send_each(rt, alloc, 2, 2, &mut Triples).is_some();
@@ -188,8 +198,9 @@ fn send_on(rt: &impl Wait, alloc: Global, sender: &mut Sender<'_, u64>, back: u3
     right & sender.take_back().is_none()
 }
 
-/// Fills the queue of a channel, which has room for all places but one, and sends three more, so that the three oldest come back.
-/// Then all the others are read.
+/// Sends `room` values and three more on a channel whose queue has room for all places but one. True if just
+/// the three oldest come back, all others are read in order, and no further one, and places go on being used
+/// (`send_on`). None where a value could not be sent or read.
 fn receive_each(
     rt: &impl Wait,
     alloc: Global,
@@ -207,8 +218,9 @@ fn receive_each(
     Some(right & send_on(rt, alloc, sender, room))
 }
 
-/// Two rounds through a channel of so many places, of which so many wait. Where they are fewer than there are places, each that is sent
-/// comes.
+/// Makes a channel of this many places with a queue of `room`. With room for all it plays two rounds in which
+/// each value is read (`go_round`). With less room than places the oldest values are pushed out
+/// (`receive_each`). None where memory or an end is refused.
 fn through(rt: &impl Wait, alloc: Global, places: u32, room: u32) -> Option<bool> {
     let mut channel: Channel<u64> = Channel::new(alloc, places as usize, room as usize).ok()?;
     let spares = vec![in alloc; 0u64; places as usize + 1].ok()?;
@@ -222,6 +234,8 @@ fn through(rt: &impl Wait, alloc: Global, places: u32, room: u32) -> Option<bool
     Some(one & other)
 }
 
+/// Channels of eight sizes use all their places, twice. A place that is never used, or used while its value
+/// is still read, would show in a refusal or a wrong value.
 #[test]
 fn all_places_are_used(rt: HostRuntime) -> Result<(), Fail> {
     for places in [1, 5, 9, 64, 65, 100, 300, 1_000] {
@@ -230,6 +244,8 @@ fn all_places_are_used(rt: HostRuntime) -> Result<(), Fail> {
     Ok(())
 }
 
+/// Channels with one place more than the queue has room push the oldest values out and lose no other one. A
+/// place that does not come back would be missing in `send_on`.
 #[test]
 fn each_is_sent_and_read(rt: HostRuntime) -> Result<(), Fail> {
     for room in [4u32, 8, 63, 64, 99, 299, 999] {
@@ -239,7 +255,8 @@ fn each_is_sent_and_read(rt: HostRuntime) -> Result<(), Fail> {
     Ok(())
 }
 
-/// Whether the value of this number comes, and is given back. None where none comes.
+/// Receives the value of this number and gives it back. True if it could be given back; None where this value
+/// did not come.
 fn give_back_next(rt: &impl Wait, receiver: &mut Receiver<'_, u64>, number: u64) -> Option<bool>
     ensures { IsSameReceiver receiver.old receiver.new }
 {
@@ -247,7 +264,8 @@ fn give_back_next(rt: &impl Wait, receiver: &mut Receiver<'_, u64>, number: u64)
     Some(receiver.give_back(sample))
 }
 
-/// The same of the second value of the ends before these, if there were any.
+/// Receives and gives back the second value that the ends before these sent, whose number is `first` - 1.
+/// Without earlier ends (`first` is 0) it does nothing.
 fn give_back_earlier(rt: &impl Wait, receiver: &mut Receiver<'_, u64>, first: u64) -> Option<bool>
     ensures { IsSameReceiver receiver.old receiver.new }
 {
@@ -257,8 +275,9 @@ fn give_back_earlier(rt: &impl Wait, receiver: &mut Receiver<'_, u64>, first: u6
     give_back_next(rt, receiver, first.wrapping_sub(1))
 }
 
-/// Sends two values by new ends of a channel, of which one is received behind the one that waits, and hands their parts in: whether
-/// all came, and the numbers went on from this one.
+/// Makes new ends of the channel, sends two values by them, and hands the parts of both ends in. The value
+/// that waited from the ends before is received, and then the first of the two. True if the numbers go on
+/// from `first`, and all of that came. None where a part is refused or a value did not come.
 fn in_turn(rt: &impl Wait, alloc: Global, channel: &mut Channel<u64>, first: u64) -> Option<bool> {
     let (sends_of, receives_of) = channel.open()?;
     let spares = vec![in alloc; 0u64; 10].ok()?;
@@ -274,7 +293,9 @@ fn in_turn(rt: &impl Wait, alloc: Global, channel: &mut Channel<u64>, first: u64
     Some(right)
 }
 
-/// Numbers go on with the next ends of a channel, and what waited comes with its own.
+/// Four pairs of ends, one after another, send two values each, and each pair receives what the one before
+/// left. At the end the last value comes with its number 7, and no other one. None where memory or a part is
+/// refused, or a value did not come.
 fn go_on(rt: &impl Wait, alloc: Global) -> Option<bool> {
     let mut channel: Channel<u64> = Channel::new(alloc, 9, 9).ok()?;
     let mut right = true;
@@ -287,6 +308,8 @@ fn go_on(rt: &impl Wait, alloc: Global) -> Option<bool> {
     Some(right & receiver.receive(rt).is_none())
 }
 
+/// Numbers go on with the next ends of a channel, and a value that waited comes with its own number. If they
+/// began anew, two values would have one number.
 #[test]
 fn numbers_go_on(rt: HostRuntime) -> Result<(), Fail> {
     assert!(rt; go_on(&rt, rt.alloc()) == Some(true));
@@ -295,12 +318,12 @@ fn numbers_go_on(rt: HostRuntime) -> Result<(), Fail> {
 
 // ---- pools
 
-/// Whether no place is left.
+/// Whether an `acquire` is refused since no place is free.
 fn has_none(rt: &impl Wait, lender: &mut Lender<'_, u64>) -> bool {
     matches!(&lender.acquire(rt), Err(PoolFailure::NoPlace(_)))
 }
 
-/// All places, so many.
+/// The buffers of all `places` places of the pool. None where one is refused.
 fn take_all<'a>(
     rt: &impl Wait,
     alloc: Global,
@@ -314,7 +337,8 @@ fn take_all<'a>(
     Some(buffers)
 }
 
-/// Lays in a place what `of_slot` says of it: whether it could be given back so.
+/// Puts the value of its place (`of_slot`) into a buffer, and gives it back. True if it was laid into the
+/// slot of that place.
 fn lay_own(mut buffer: Buffer<'_, u64>) -> bool {
     let place = buffer.place();
     buffer.number = place as u64;
@@ -322,7 +346,8 @@ fn lay_own(mut buffer: Buffer<'_, u64>) -> bool {
     matches!(&buffer.give_back(), Ok(Some(laid)) if laid.slot() == place && laid.number() == place as u64)
 }
 
-/// Whether a buffer has what `of_slot` says of its place, or nothing. At an even place it can be given back.
+/// Whether a buffer has the value of its place, or none if `is_empty`. One at an even place is given back;
+/// one at an odd place is dropped.
 fn is_own(buffer: Buffer<'_, u64>, is_empty: bool) -> bool {
     let place = buffer.place();
     let is_right = if is_empty {
@@ -336,8 +361,8 @@ fn is_own(buffer: Buffer<'_, u64>, is_empty: bool) -> bool {
     is_right & buffer.give_back().is_ok()
 }
 
-/// Lays its own value in each place in the first round, and looks for it in the later ones. Each odd place is dropped in the second,
-/// and comes empty in the third.
+/// Puts its own value into each buffer in the first round, and looks for it in the two later ones. The
+/// buffers at odd places are dropped in the second round, and come without a value in the third.
 fn use_all(buffers: Vec<Buffer<'_, u64>>, round: u32) -> bool {
     let mut right = true;
     for buffer in buffers {
@@ -351,7 +376,8 @@ fn use_all(buffers: Vec<Buffer<'_, u64>>, round: u32) -> bool {
     right
 }
 
-/// Whether each place of a pool of so many keeps its own value until it is dropped, and no further place is to be had.
+/// Takes all buffers of a pool in three rounds. True if each place keeps its own value until its buffer is
+/// dropped, and no further buffer comes while all are out. None where memory or a buffer is refused.
 fn keep_own(rt: &impl Wait, alloc: Global, places: u32) -> Option<bool> {
     let mut pool: Pool<u64> = Pool::new(alloc, places as usize).ok()?;
     let mut lender = pool.lender()?;
@@ -364,8 +390,9 @@ fn keep_own(rt: &impl Wait, alloc: Global, places: u32) -> Option<bool> {
     Some(right)
 }
 
-/// Each place is taken by one at a time, and what was laid back lies there with its number. After a drop the place is free, and
-/// nothing lies there.
+/// Each place of a pool is taken by one at a time, and what was given back lies there with its number.
+/// After a drop the place is free, and nothing lies there. A failure says that two places share a
+/// slot, or a place was lost.
 #[test]
 fn each_place_of_a_pool_keeps_its_value(rt: HostRuntime) -> Result<(), Fail> {
     for places in [2, 5, 9, 64, 65, 100, 300, 1_000] {

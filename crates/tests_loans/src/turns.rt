@@ -1,4 +1,5 @@
-//! By turns in one thread.
+//! Rows of steps on a loan channel, taken by one thread (`rooms::Step`). A number in a row is a value, the
+//! number of a value, or a place.
 use crate::rooms::Step::{
     DropsOther, FindsNone, Forgets, GivesUpOne, HasNoPlace, HasNoValue, IsNext, IsStillRead,
     KeepsOne, LoansOne, LoansOther, Reads, ReadsOfRound, Regains, RegainsOther, Sends, TakesBack,
@@ -8,11 +9,11 @@ use std::alloc::Global;
 use std::sync::Wait;
 use std::test::Fail;
 
-/// How many places there are.
+/// How many places most channels of these rows have.
 const PLACES: usize = 4;
 
-/// Three values go into a queue of two, of which the first comes back. The others are read, and all places are free in the
-/// end.
+/// Three values go into a queue of two, and the place of the first comes back. The other two are read, and
+/// all places are free in the end.
 const VALUES: [Step; 10] = [
     Sends(11, None),
     Sends(22, None),
@@ -26,8 +27,8 @@ const VALUES: [Step; 10] = [
     IsNext(3),
 ];
 
-/// A place is loaned until no place is left, and then until no value is left. What was dropped can be regained, and what is
-/// in hand cannot.
+/// Loans on a channel of two places with three values. They come until no place is left, and later until no
+/// value is left. A place whose loan was dropped can be regained once, and one whose loan is in hand cannot.
 const LOANS: [Step; 12] = [
     LoansOne,
     LoansOther,
@@ -43,7 +44,7 @@ const LOANS: [Step; 12] = [
     HasNoValue,
 ];
 
-/// While a value waits in the first place, the second one is regained. The value still comes.
+/// While a value waits in the first place, the second place is regained. The value still comes.
 const BESIDE: [Step; 6] = [
     Sends(11, None),
     LoansOther,
@@ -53,7 +54,8 @@ const BESIDE: [Step; 6] = [
     TakesBack(Some(0)),
 ];
 
-/// A value goes through, and is given up when its place is loaned again.
+/// A value is sent and read. Then its place is loaned again, and the loan is given up, by which the value in
+/// the place is kept to be written again.
 const KEPT: [Step; 5] = [
     Sends(11, None),
     ReadsOfRound(11),
@@ -62,12 +64,12 @@ const KEPT: [Step; 5] = [
     GivesUpOne,
 ];
 
-/// A loan that is dropped.
+/// A loan is dropped, and its value with it. Its place can be regained.
 const DROPPED: [Step; 3] = [LoansOther, DropsOther, Regains(0, true)];
 
-/// Does the steps so often on a new channel of so many places, with so many values to write, and then those of the end once. It
-/// answers the first step that does not come to what it has to, if any, and how many values are left. None where the channel or its ends are not
-/// to be had.
+/// Plays `steps` in this many rounds, and `end` once, on a new channel. `sizes` are the numbers of its places
+/// and of the values to write. It returns the first wrong step of both, if any, and how many values are left.
+/// None where the channel or its ends are refused.
 fn on_new(
     rt: &impl Wait,
     alloc: Global,
@@ -84,7 +86,9 @@ fn on_new(
     Some((wrong, last, room.left()))
 }
 
-/// What is given up, or lay where a loan was given up, is written again (`KEPT`). What was dropped with its loan is gone.
+/// Each row on a new channel: no step is wrong, and the last number says how many values are left in the end.
+/// What was given up, or lay where a loan was given up, is written again (`KEPT`); what was dropped with its
+/// loan is gone.
 #[test]
 fn rows(rt: HostRuntime) -> Result<(), Fail> {
     let alloc = rt.alloc();
@@ -102,10 +106,11 @@ fn rows(rt: HostRuntime) -> Result<(), Fail> {
 /// A value is sent and read, and its place comes back.
 const READ: [Step; 3] = [Sends(11, None), Reads(0, 11), TakesBack(Some(0))];
 
-/// What another channel sends, so that its receiver has a sample of the same place.
+/// A value that another channel sends, so that its receiver has a sample of the same place.
 const FOREIGN: [Step; 1] = [Sends(12, None)];
 
-/// Once nobody reads the place any more it can be regained. A reading that is forgotten keeps it for good.
+/// Once nobody reads the place any more it can be regained. A reading that is forgotten keeps it for good,
+/// and another place is used then.
 const FORGOTTEN: [Step; 8] = [
     Regains(0, true),
     Sends(13, None),
@@ -117,7 +122,9 @@ const FORGOTTEN: [Step; 8] = [
     Reads(2, 14),
 ];
 
-/// Whether the first place of a room stays loaned as long as it is read by a sample of another room, and the value stands.
+/// A sample of `another` reads the first place of `room`. True if a loan of `room` is refused
+/// meanwhile, the place cannot be regained, and the value stands. None of this is checked where the
+/// sample cannot be read (false).
 fn is_kept_by_another(rt: &impl Wait, room: &mut Room<'_>, another: &mut Room<'_>) -> bool {
     let Some(sample) = another.receiver.receive(rt) else {
         return false;
@@ -131,8 +138,9 @@ fn is_kept_by_another(rt: &impl Wait, room: &mut Room<'_>, another: &mut Room<'_
     right & room.sender.regain(0).is_none()
 }
 
-/// Whether all steps of two new channels come to what they have to, and the place is kept between them. None where they or their ends
-/// are not to be had.
+/// Plays `READ` on one channel and `FOREIGN` on another, reads a place of the first by the other's sample,
+/// and then plays `FORGOTTEN`. True if all steps come to what their rows say. None where a channel or its
+/// ends are refused.
 fn of_two_channels(rt: &impl Wait, alloc: Global) -> Option<bool> {
     let (mut channel, mut another) = (channel(alloc, PLACES)?, channel(alloc, PLACES)?);
     let mut one = Room::new(alloc, &mut channel, PLACES + 1)?;
@@ -143,8 +151,9 @@ fn of_two_channels(rt: &impl Wait, alloc: Global) -> Option<bool> {
     Some(right & one.first_wrong(rt, &FORGOTTEN, 1).is_none())
 }
 
-/// A place that is read while it is loaned again stays loaned, and can be regained once the reading ends. A reading that is
-/// forgotten keeps its place for good.
+/// A place that is still read when its loan is tried stays out, and can be regained once the reading
+/// ends. A reading that is forgotten keeps its place for good. If such a place was loaned, its reader
+/// would see another value.
 #[test]
 fn a_place_is_still_read(rt: HostRuntime) -> Result<(), Fail> {
     assert!(rt; of_two_channels(&rt, rt.alloc()) == Some(true));

@@ -1,4 +1,5 @@
-//! Words, what a family keeps beside them, and calls on them.
+//! The player of bare lines: the words of a structure, what its family keeps beside them, the calls of
+//! parties, and the lines that change or show them. Unlike a machine it lets a line write any word.
 use machine::event::{Event, Start};
 use machine::families::Registry;
 use machine::party::Progress;
@@ -11,9 +12,10 @@ use steps::enums::OwnerId;
 use steps::indices::head::HeadDetails;
 use turns::families;
 
-/// The latest call of each party, for those who do not name the calls of all families.
+/// The latest call of each party. `Seats` has the calls; this trait keeps their types, of all families, away
+/// from the functions of this file, whose proofs are smaller so.
 pub trait Calls {
-    /// The party begins the call, if it may.
+    /// Begins this call of the party `number`, or says why it may not begin.
     fn begin(
         &mut self,
         kind: Kind,
@@ -23,18 +25,23 @@ pub trait Calls {
         start: Start<u128>,
     ) -> Result<(), Refusal>;
 
-    /// The party's call takes its step, or is handed a decision.
+    /// Lets the party's call take its step, or hands it the decision `said`. The answer says why the machine
+    /// would refuse this turn.
     fn go_on(&mut self, number: u32, said: Option<bool>, world: &mut World) -> Result<(), Refusal>;
 
+    /// How far the latest call of the party has come. None where it has made none.
     fn progress(&self, party: u32) -> Option<Progress>;
 
+    /// Whether a call of the party is under way and asks for no decision, so that a further turn is a step.
     fn is_going(&self, party: u32) -> bool;
 
-    /// What a call under way says of itself. None where there is none, or it says no such thing.
+    /// Prints what a call that is under way says of itself, as `word` asks. None where no call is under way,
+    /// or it says no such thing.
     fn tell(&self, party: u32, word: &str, rest: &str, pen: &mut Pen) -> Option<()>;
 }
 
-/// The words, what a family keeps beside them, and what happened.
+/// What the parties share: the words of the structure, what its family keeps beside them (`kept`), and the
+/// events that happened.
 pub struct World {
     pub words: Vec<u64>,
     pub kept: Registry<u128>,
@@ -51,6 +58,7 @@ impl Drop for World {
     }
 }
 
+/// A structure with its parties: its kind and capacity, the world, and the latest calls.
 struct Bare<C> {
     alloc: Global,
     kind: Kind,
@@ -71,7 +79,8 @@ impl<C: Drop> Drop for Bare<C> {
     }
 }
 
-// (of any values: of these alone the checker has a bug)
+// Writes down that this owner has died. False where there is no memory. It is a function of all types of
+// values, since the checker has a bug for this one type alone.
 fn write_death<T: Copy>(events: &mut Vec<Event<T>>, owner: OwnerId) -> bool {
     let Ok(()) = events.reserve(1) else {
         return false;
@@ -80,6 +89,7 @@ fn write_death<T: Copy>(events: &mut Vec<Event<T>>, owner: OwnerId) -> bool {
     true
 }
 
+/// Adds the numbers of a text, which spaces part. None where one is no number, or there is no memory.
 fn put_numbers(numbers: &mut Vec<u64>, text: &str) -> Option<()> {
     for word in text.split(' ') {
         numbers.push(word.parse().ok()?).ok()?;
@@ -88,6 +98,7 @@ fn put_numbers(numbers: &mut Vec<u64>, text: &str) -> Option<()> {
 }
 
 impl World {
+    /// The world of a new structure of this shape, without events. None where the shape or memory is refused.
     fn opened(alloc: Global, shape: Shape) -> Option<World> {
         let capacity = u32::try_from(shape.capacity()).ok()?;
         let queue = u32::try_from(shape.queue()).ok()?;
@@ -99,6 +110,7 @@ impl World {
         })
     }
 
+    /// Marks this owner as dead and writes the event down, or says why the family refuses it.
     fn die(&mut self, owner: OwnerId) -> Result<(), Refusal> {
         if let Some(refusal) = families::death_refusal(&self.kept, owner) {
             return Err(refusal);
@@ -110,6 +122,7 @@ impl World {
         }
     }
 
+    /// Writes down that the party `number` has begun this call. Refused where there is no memory.
     fn write_begun(&mut self, number: u32, start: Start<u128>) -> Result<(), Refusal> {
         let Ok(()) = self.events.reserve(1) else {
             return Err(Refusal::NoMemory);
@@ -118,19 +131,22 @@ impl World {
         Ok(())
     }
 
+    /// Writes a word at this place. None where there is no such place.
     fn put(&mut self, at: usize, word: u64) -> Option<()> {
         let old = self.words.get_mut(at)?;
         *old = word;
         Some(())
     }
 
-    /// `3 7`: another party writes this word.
+    /// `3 7`: another party writes 7 into the word 3. None where the line is malformed or
+    /// there is no such word.
     fn write(&mut self, rest: &str) -> Option<()> {
         let (at, word) = rest.split_once(' ')?;
         self.put(at.parse().ok()?, word.parse().ok()?)
     }
 
-    /// `0 65535 2`: it writes the head of a unique index set.
+    /// `0 65535 2`: another party writes the head word of a unique index set, given by its first free index,
+    /// its number against ABA and the count of borrowed indices.
     fn write_head(&mut self, rest: &str) -> Option<()> {
         let (head, rest) = rest.split_once(' ')?;
         let (aba, borrowed) = rest.split_once(' ')?;
@@ -142,7 +158,8 @@ impl World {
         self.put(0, details.value())
     }
 
-    /// The party holds this index from now on.
+    /// Notes that the party holds this index from now on. None where the family is not that
+    /// of unique index sets.
     fn hold(&mut self, party: u32, index: u32) -> Option<()> {
         match &mut self.kept {
             Registry::Indices(holders) => {
@@ -153,6 +170,7 @@ impl World {
         }
     }
 
+    /// Prints the events from the place `before` on, a line for each.
     fn tell_events(&self, before: usize, pen: &mut Pen) {
         for at in before..self.events.len() {
             if let Some(event) = self.events.get(at) {
@@ -163,6 +181,7 @@ impl World {
         }
     }
 
+    /// Prints all words on a line.
     fn tell_words(&self, pen: &mut Pen) {
         pen.put("words");
         for word in self.words.iter() {
@@ -171,7 +190,8 @@ impl World {
         pen.put("\n");
     }
 
-    /// What the party's state shows at an index.
+    /// The value that the party's state of a container shows at an index, if there is such a
+    /// state, and it shows one.
     fn value(&self, party: u32, index: u32) -> Option<u128> {
         match &self.kept {
             Registry::Container(_, states) => states.get(party)?.get(index as usize).copied(),
@@ -179,6 +199,7 @@ impl World {
         }
     }
 
+    /// Prints each index and value that the party's state of a container shows, a line for each.
     fn tell_state(&self, party: u32, capacity: u32, pen: &mut Pen) {
         for index in 0..capacity {
             if let Some(value) = self.value(party, index) {
@@ -191,12 +212,15 @@ impl World {
     }
 }
 
+/// Prints the line of a refusal.
 fn tell_refusal(refusal: Refusal, pen: &mut Pen) {
     let line = line_of_refusal(refusal);
     pen.put(text_of(&line));
     pen.put("\n");
 }
 
+/// Prints how far the party's call has come: its steps, how often it went back, the steps of others
+/// meanwhile, and whether it has ended.
 fn tell_progress(party: u32, progress: Progress, pen: &mut Pen) {
     pen.large("call ", u128::from(party));
     pen.large(" ", u128::from(progress.steps));
@@ -206,6 +230,8 @@ fn tell_progress(party: u32, progress: Progress, pen: &mut Pen) {
 }
 
 impl<C: Calls> Bare<C> {
+    /// Begins a call of the party `number`: the calls admit it, the family keeps what it says, and the event
+    /// is written down.
     fn begin(&mut self, number: u32, start: Start<u128>) -> Result<(), Refusal> {
         self.calls
             .begin(self.kind, self.capacity, &self.world.kept, number, start)?;
@@ -215,6 +241,7 @@ impl<C: Calls> Bare<C> {
         self.world.write_begun(number, start)
     }
 
+    /// Takes this turn of a schedule, or says why it is refused.
     fn step(&mut self, turn: Turn<u128>) -> Result<(), Refusal> {
         match turn {
             Turn::Begin(number, start) => self.begin(number, start),
@@ -224,7 +251,8 @@ impl<C: Calls> Bare<C> {
         }
     }
 
-    /// Takes a turn, and prints what it did below the number of its line. Whether it was taken.
+    /// Takes a turn, and prints the number of its line, the events of the turn, and its refusal, if any.
+    /// False where it was refused.
     fn take(&mut self, number: u64, turn: Turn<u128>, pen: &mut Pen) -> bool {
         let before = self.world.events.len();
         let went = self.step(turn);
@@ -240,6 +268,8 @@ impl<C: Calls> Bare<C> {
         }
     }
 
+    /// Takes the turns of one line. A line `next M` ends early at a refusal, at the end of the call, or at a
+    /// decision that it asks for.
     fn take_all(&mut self, number: u64, command: Command, pen: &mut Pen) {
         match command {
             Command::Once(turn) => {
@@ -255,7 +285,7 @@ impl<C: Calls> Bare<C> {
         }
     }
 
-    /// The words are these from now on.
+    /// `words 1 2 3`: replaces all words by these numbers.
     fn set(&mut self, rest: &str) -> Option<()> {
         let mut words = Vec::new(self.alloc);
         put_numbers(&mut words, rest)?;
@@ -263,6 +293,8 @@ impl<C: Calls> Bare<C> {
         Some(())
     }
 
+    /// `0 shows`: prints the words, how far the party's latest call has come, and what its state of a
+    /// container shows.
     fn show(&self, party: u32, pen: &mut Pen) {
         self.world.tell_words(pen);
         if let Some(progress) = self.calls.progress(party) {
@@ -271,6 +303,8 @@ impl<C: Calls> Bare<C> {
         self.world.tell_state(party, self.capacity, pen);
     }
 
+    /// Does what a line says that begins with a party and is no turn: `shows`, `holds`, or a question to the
+    /// party's call. None where it can not be done.
     fn do_for(&mut self, party: u32, rest: &str, pen: &mut Pen) -> Option<()> {
         let (word, rest) = rest.split_once(' ').unwrap_or((rest, ""));
         match word {
@@ -283,7 +317,8 @@ impl<C: Calls> Bare<C> {
         }
     }
 
-    /// What is no turn of a schedule.
+    /// Does what a line says that is no turn of a schedule: it changes words, or is about a party. None where
+    /// it can not be done.
     fn do_other(&mut self, line: &str, pen: &mut Pen) -> Option<()> {
         let (word, rest) = line.split_once(' ')?;
         match word {
@@ -294,6 +329,8 @@ impl<C: Calls> Bare<C> {
         }
     }
 
+    /// Does what the line of this number says, and prints what comes of it. A line that is no turn and can
+    /// not be done is answered by `refused Unread`.
     fn do_line(&mut self, number: u64, line: &str, pen: &mut Pen) {
         if let Ok(command) = read_command(self.kind, line.as_bytes()) {
             return self.take_all(number, command, pen);
@@ -306,7 +343,8 @@ impl<C: Calls> Bare<C> {
     }
 }
 
-/// Opens what the first line names, with these calls, and does what the other lines say. None where nothing is opened.
+/// Opens the structure that the first line names, and does what each other line says with these calls. Lines
+/// are numbered from 2 on. None where no structure is opened.
 pub fn play<C: Calls + Drop>(alloc: Global, calls: C, text: &str, pen: &mut Pen) -> Option<()> {
     let (first, rest) = text.split_once('\n')?;
     let shape = read_words(first.as_bytes()).ok()?.shape;

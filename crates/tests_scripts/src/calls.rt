@@ -1,4 +1,4 @@
-//! What a call that is stopped would do next.
+//! What a call that is stopped would do next, as the questions of bare lines ask (`tell`).
 use machine::families::Flight;
 use machine::families::bits::calls::BitsFlight;
 use machine::families::indices::calls::IndexFlight;
@@ -9,7 +9,7 @@ use steps::ask::{Ask, Op, Question, Want};
 use steps::indices::unique::AcquireStage;
 use turns::families::{atomic, bits, container, going, indices, loan, queues};
 
-/// Whether it begins a turn of its loop again once it is handed this.
+/// Whether the call would begin a turn of its loop again if the next step answered `answer`.
 fn goes_back(call: &Flight<u128>, answer: u64) -> bool {
     match call {
         Flight::Queues(call) => queues::calls::goes_back(call, answer),
@@ -22,7 +22,7 @@ fn goes_back(call: &Flight<u128>, answer: u64) -> bool {
     }
 }
 
-/// The index at which an acquire scans the claim flags.
+/// The index at which an acquire of a unique index set scans the claim flags. None for another call or stage.
 fn scanned(call: &Flight<u128>) -> Option<u32> {
     let Flight::Indices(IndexFlight::Acquire(run)) = call else {
         return None;
@@ -33,7 +33,8 @@ fn scanned(call: &Flight<u128>) -> Option<u32> {
     }
 }
 
-/// Whose index a recovery frees where it is handed this, and which.
+/// The owner and the index that a recovery of a robust set would free if the next step answered `answer`.
+/// None for another call, or where it would free none.
 fn freed(call: &Flight<u128>, answer: u64) -> Option<(u64, u32)> {
     let Flight::Robust(RobustFlight::Recover(run)) = call else {
         return None;
@@ -42,7 +43,7 @@ fn freed(call: &Flight<u128>, answer: u64) -> Option<(u64, u32)> {
     Some((owner.value(), index))
 }
 
-/// The word in the room of a call that has one.
+/// The word in the room of a call that keeps one: a pop of an overflowing queue or a `TakeAll` of a bit set.
 fn room(call: &Flight<u128>) -> Option<u64> {
     match call {
         Flight::Queues(QueueFlight::Overflow(OverflowCall::Pop(run))) => Some(run.room.0),
@@ -51,6 +52,7 @@ fn room(call: &Flight<u128>) -> Option<u64> {
     }
 }
 
+/// Prints the owner and the index that would be freed, or `none`.
 fn tell_freed(freed: Option<(u64, u32)>, pen: &mut Pen) {
     match freed {
         Some((owner, index)) => {
@@ -61,6 +63,7 @@ fn tell_freed(freed: Option<(u64, u32)>, pen: &mut Pen) {
     }
 }
 
+/// Prints the question that a call asks: about which index, and of which owner, if it says so.
 fn tell_question(question: Question<()>, pen: &mut Pen) {
     match question {
         Question::Index(at) => pen.number("asks ", at),
@@ -72,7 +75,8 @@ fn tell_question(question: Question<()>, pen: &mut Pen) {
     }
 }
 
-/// An operation of those that are asked about, and the word: of an exchange what it has to be and what it becomes.
+/// Prints the operation and the number of its word. An exchange also has the number that it expects and the
+/// one that it stores. None for an operation that no test asks about.
 fn tell_operation(ask: Ask, pen: &mut Pen) -> Option<()> {
     match ask.op {
         Op::Load => pen.number("load ", ask.word),
@@ -86,7 +90,7 @@ fn tell_operation(ask: Ask, pen: &mut Pen) -> Option<()> {
     Some(())
 }
 
-/// What the call wants next: an operation, a decision, or nothing.
+/// Prints what the call wants next: an operation, a decision, or nothing.
 fn tell_wanted(want: Want<()>, pen: &mut Pen) -> Option<()> {
     match want {
         Want::Ask(ask) => tell_operation(ask, pen),
@@ -101,7 +105,9 @@ fn tell_wanted(want: Want<()>, pen: &mut Pen) -> Option<()> {
     }
 }
 
-/// `back 7`: whether it begins a turn of its loop again where it is handed 7, and so on.
+/// Answers a question about the call. `back 7` asks whether it begins a turn of its loop again if it is
+/// handed 7, `scans` where it scans, `frees 7` what it frees, `room` what it keeps, and `wants` what it wants
+/// next. None for another question, or where the call has no such thing.
 pub fn tell(call: &Flight<u128>, word: &str, rest: &str, pen: &mut Pen) -> Option<()> {
     pen.put("said ");
     match word {

@@ -1,18 +1,21 @@
-//! Reads and writes that are interrupted or fail at each call, and what is told of them.
+//! Runs of `schedule` whose reads or writes fail or are interrupted at each call, and what is
+//! told of how a run ended.
 use schedule::bare::{ran_in, told};
 use schedule::error::{Cause, ScheduleError};
 use std::alloc::{AllocError, Global};
 use std::io;
 use std::io::{ErrorKind, Read, Write};
 
-/// A push that is stopped before it publishes, and what it prints.
+/// A schedule in which a push stops before it publishes while a pop finds nothing: 132 bytes.
 const STOPPED_PUSH: &[u8] =
     b"index_queue 1 2\n0 begin acquire_producer\n0 next\n1 begin acquire_consumer\n1 next\n0 begin push 5\n0 next 3\n1 begin pop\n1 next 4\n0 next\n";
 
+/// What the run of `STOPPED_PUSH` prints if nothing fails.
 const STOPPED_PUSH_OUTPUT: &[u8] =
     b"0 begun acquire_producer\n0 finished acquire_producer -> true\n1 begun acquire_consumer\n1 finished acquire_consumer -> true\n0 begun push 5\n1 begun pop\n1 acted pop -> none\n1 finished pop -> none\n0 published 5\n0 acted push 5 -> true\n0 finished push 5 -> true\n";
 
-/// A reader or a writer that does a few bytes at a call, and fails from some call on.
+/// A reader or writer that handles at most `at_most` bytes in a call, and fails with `kind` once `calls_left`
+/// calls have succeeded.
 #[derive(Drop)]
 struct Faulty {
     bytes: Vec<u8>,
@@ -23,6 +26,7 @@ struct Faulty {
 }
 
 impl Faulty {
+    /// A reader of these bytes, or a writer that adds to them.
     fn new(bytes: Vec<u8>, at_most: usize, calls_left: usize, kind: ErrorKind) -> Faulty {
         Faulty {
             bytes,
@@ -33,7 +37,8 @@ impl Faulty {
         }
     }
 
-    /// Whether the call may go on. An interruption comes once, and any other failure again and again.
+    /// Whether this call succeeds, and counts it. An interruption comes once, and any other
+    /// failure at each later call.
     fn is_sound(&mut self) -> bool {
         if self.calls_left == 0 {
             if self.kind == ErrorKind::Interrupted {
@@ -74,7 +79,7 @@ impl Write for Faulty {
     }
 }
 
-/// A writer that keeps back what it is given, and cannot let go of it.
+/// A writer that accepts all bytes and fails when it is flushed.
 #[derive(Drop)]
 struct Stuck;
 
@@ -88,7 +93,8 @@ impl Write for Stuck {
     }
 }
 
-/// How a run ends whose reads fail so, and whether it has written what it must.
+/// Runs `STOPPED_PUSH` with reads that fail with `kind` after `calls` calls. With `whole` it has to print
+/// everything and succeed, and otherwise to print nothing and to say that a read failed.
 fn ends_reading(
     alloc: Global,
     calls: usize,
@@ -106,10 +112,11 @@ fn ends_reading(
     })
 }
 
-/// Whether all ends right where the reads fail from each call on, or one of them is interrupted.
+/// Whether runs end right whose reads fail from some call on, and runs in which one read is interrupted, for
+/// each of the first 40 calls.
 pub fn reads_end_right(alloc: Global) -> Result<bool, AllocError> {
     for calls in 0..40 {
-        // 132 bytes by 7 are 19 reads, and one more finds the end.
+        // 132 bytes by 7 take 19 reads, and the 20th read finds the end.
         if !ends_reading(alloc, calls, ErrorKind::Other, calls >= 20)?
             || !ends_reading(alloc, calls, ErrorKind::Interrupted, true)?
         {
@@ -119,7 +126,8 @@ pub fn reads_end_right(alloc: Global) -> Result<bool, AllocError> {
     Ok(true)
 }
 
-/// How a run ends whose writes fail from this call on, and what it has written then.
+/// Runs `STOPPED_PUSH` with writes of at most `at_most` bytes that fail with `kind` after `calls` calls. It
+/// returns how the run ended, and what was written by then.
 fn ends_writing(
     alloc: Global,
     at_most: usize,
@@ -132,7 +140,8 @@ fn ends_writing(
     (ended, writer.bytes)
 }
 
-/// Whether a run has ended as it must from what it has written: a beginning, or all.
+/// Whether a run ended as it has to by what it has written: with `WriteFailed` after a beginning of the
+/// output, and with success after all of it.
 fn has_ended_right(ended: Result<(), ScheduleError>, written: &[u8]) -> bool {
     if written.len() < STOPPED_PUSH_OUTPUT.len() {
         ended == Err(ScheduleError::WriteFailed) && STOPPED_PUSH_OUTPUT.starts_with(written)
@@ -141,7 +150,8 @@ fn has_ended_right(ended: Result<(), ScheduleError>, written: &[u8]) -> bool {
     }
 }
 
-/// Whether all ends right where the writes fail from this call on, after each before it has written, or where it is interrupted.
+/// Whether a run ends right whose writes fail after `calls` calls, and has written something by then, and a
+/// run whose write is interrupted at that call writes all.
 fn ends_right(alloc: Global, calls: usize) -> bool {
     let (ended, written) = ends_writing(alloc, 5, calls, ErrorKind::Other);
     let (went_on, all) = ends_writing(alloc, 5, calls, ErrorKind::Interrupted);
@@ -151,7 +161,8 @@ fn ends_right(alloc: Global, calls: usize) -> bool {
         && all.as_slice() == STOPPED_PUSH_OUTPUT
 }
 
-/// Whether that is so of each call, of a writer that takes nothing, and of one that cannot let go of what it has.
+/// Whether runs end right whose writes fail after 0 to 89 calls, or whose writer accepts no byte, never
+/// fails, or fails when it is flushed.
 pub fn writes_end_right(alloc: Global) -> bool {
     for calls in 0..90 {
         if !ends_right(alloc, calls) {
@@ -163,6 +174,8 @@ pub fn writes_end_right(alloc: Global) -> bool {
     none == Err(ScheduleError::WriteFailed) && all == Ok(()) && flushes_end_right(alloc)
 }
 
+/// Whether a run says that a write failed if its writer fails when it is flushed. One input is a right
+/// schedule, the other is malformed in its second line.
 fn flushes_end_right(alloc: Global) -> bool {
     for input in [STOPPED_PUSH, b"index_queue 1 1\n0 jump"] {
         let mut reader = input;
@@ -173,9 +186,10 @@ fn flushes_end_right(alloc: Global) -> bool {
     true
 }
 
-/// How a run ended, what is told of it and the exit status.
+/// How a run ended, the line that is told of it, and the exit status.
 type Told = (Result<(), ScheduleError>, &'static [u8], u8);
 
+/// Each way to end. A line number may be any number of 64 bits.
 const TOLD: [Told; 6] = [
     (Ok(()), b"", 0),
     (
@@ -193,10 +207,12 @@ const TOLD: [Told; 6] = [
     (Err(ScheduleError::NoMemory), b"no memory\n", 1),
 ];
 
+/// Whether the right line is told of this end and the right exit status is returned. The status stays the
+/// same if the line cannot be written.
 fn is_told(alloc: Global, ran: &Result<(), ScheduleError>, wanted: &[u8], exit: u8) -> bool {
     let mut errors = Vec::new(alloc);
     let answer = told(ran, &mut errors);
-    // What is told may fail, and the answer stays.
+    // The write of the line may fail; the exit status has to be the same.
     let mut broken = Faulty::new(Vec::new(alloc), 5, 1, ErrorKind::Other);
     let same = told(ran, &mut broken);
     answer == exit
@@ -205,7 +221,7 @@ fn is_told(alloc: Global, ran: &Result<(), ScheduleError>, wanted: &[u8], exit: 
         && wanted.starts_with(broken.bytes.as_slice())
 }
 
-/// Whether all is told so.
+/// Whether the right line and status are told of each way to end (`TOLD`).
 pub fn are_told(alloc: Global) -> bool {
     for (ran, wanted, exit) in &TOLD {
         if !is_told(alloc, ran, wanted, *exit) {

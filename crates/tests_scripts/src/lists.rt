@@ -1,4 +1,5 @@
-//! Lists of turns that a machine takes by one run.
+//! Lists of thousands of turns that a machine takes in one run, and a run that stops at a
+//! turn that is refused.
 use machine::event::{Event, Start};
 use machine::families::queues::QueueStart;
 use machine::turn::{Kind, Refusal, Shape, Turn};
@@ -6,11 +7,14 @@ use machine::{Machine, Stopped};
 use schedule::bare::{made_of, run, run_all};
 use std::alloc::Global;
 
+/// How often a number goes through the queue.
 const ROUNDS: u64 = 1000;
 
+/// The call that takes a number out of the queue.
 const POP: Start<u128> = Start::Queues(QueueStart::Pop);
 
-/// A call of a party, with so many turns of it behind.
+/// Adds the begin of a call of the party, and `turns` turns of it, to the list. None
+/// where there is no memory.
 fn add(list: &mut Vec<Turn<u128>>, party: u32, call: QueueStart<u128>, turns: u64) -> Option<()> {
     list.push(Turn::Begin(party, Start::Queues(call))).ok()?;
     for _ in 0..turns {
@@ -19,7 +23,8 @@ fn add(list: &mut Vec<Turn<u128>>, party: u32, call: QueueStart<u128>, turns: u6
     Some(())
 }
 
-/// Both roles of a queue, and then so often a push and a pop: ten turns each, after four.
+/// A list in which parties take both roles of a queue, by four turns, and then push and pop `ROUNDS` numbers,
+/// by ten turns each.
 fn rounds(alloc: Global) -> Option<Vec<Turn<u128>>> {
     let mut list = Vec::new(alloc);
     add(&mut list, 0, QueueStart::AcquireProducer, 1)?;
@@ -31,14 +36,16 @@ fn rounds(alloc: Global) -> Option<Vec<Turn<u128>>> {
     Some(list)
 }
 
-/// Whether all turns of the list are taken by one run, and the words and the number of events then are right.
+/// Whether the machine takes all turns of the list in one run. In the end 1,000 numbers have gone through,
+/// the cells hold the last three, and 8,004 events were written down.
 fn take_all(machine: &mut Machine<u128>, list: &[Turn<u128>]) -> bool {
     run(machine, list) == list.len()
         && machine.words() == [ROUNDS, ROUNDS, 0, 0, 999, 997, 998].as_slice()
         && machine.events().len() == 8004
 }
 
-/// Whether a run stops at a turn that is refused, with those before it taken, and says why.
+/// Whether a run stops at the first turn that is refused, keeps the turns before it, and says why: a party
+/// that is busy, and one that is idle.
 fn stop_right(machine: &mut Machine<u128>) -> bool {
     let busy = [Turn::Begin(1, POP), Turn::Begin(1, POP)];
     let idle = [Turn::Next(1), Turn::Next(1), Turn::Next(1)];
@@ -51,6 +58,7 @@ fn stop_right(machine: &mut Machine<u128>) -> bool {
         && run_all(machine, &[]).is_ok()
 }
 
+/// Whether the list stops after `taken` turns by this refusal.
 fn stops(machine: &mut Machine<u128>, list: &[Turn<u128>], taken: usize, refusal: Refusal) -> bool {
     match run_all(machine, list) {
         Ok(()) => false,
@@ -58,11 +66,13 @@ fn stops(machine: &mut Machine<u128>, list: &[Turn<u128>], taken: usize, refusal
     }
 }
 
+/// Whether a run was stopped after `taken` turns by this refusal.
 fn is_so(stopped: Stopped, taken: usize, refusal: Refusal) -> bool {
     stopped.taken as usize == taken && stopped.refusal == refusal
 }
 
-/// Whether a list of ten thousand turns is taken, and one that is refused stops another.
+/// Whether a new machine takes a list of ten thousand turns, and then stops lists at the
+/// turns that it refuses.
 pub fn are_taken(alloc: Global) -> bool {
     let Some(list) = rounds(alloc) else {
         return false;

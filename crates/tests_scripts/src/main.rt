@@ -1,7 +1,8 @@
-//! Plays calls over written words: the calls of a machine without its rules. The first line of standard input is that of a
-//! schedule, and each later one is a turn of it, or writes words, or asks what a call that is stopped would do next. What
-//! comes of each line is printed below its number. `tests/rows` makes the lines of blocks with the head `bare`, and says
-//! what has to come. After the argument `checks` it prints whether runs and machines are right where no text says so.
+//! Plays calls over written words: the calls of a machine without its rules. The first line of standard input
+//! is that of a schedule. Each later line is a turn of a schedule, or writes words, or asks what a call that
+//! is stopped would do next. What comes of each line is printed below its number. `tests/rows` makes the
+//! lines of blocks with the head `bare`, and says what has to come. After the argument `checks` it prints
+//! whether runs and machines are right where no text says so.
 #![tactic(auto)]
 
 mod bare;
@@ -23,7 +24,7 @@ use std::io::{Read, Write};
 use std::process::ExitCode;
 use std::{env, io, str};
 
-/// What comes of the checks, a line for each.
+/// Makes the checks that no text can say, and prints a line for each, with `true` where it holds.
 fn check(rt: &impl Print, alloc: Global) -> io::Result<()> {
     let reads = failures::reads_end_right(alloc).unwrap_or(false);
     println!(rt; "reads that fail or are interrupted: {reads}")?;
@@ -42,7 +43,8 @@ fn check(rt: &impl Print, alloc: Global) -> io::Result<()> {
     )
 }
 
-/// Reads all lines, and prints what comes of them. The exit status.
+/// Reads all lines, plays them, and prints what comes of them. It returns the exit status: 0, 1 where
+/// reading, writing or memory failed, and 2 where the first line opens nothing.
 fn run<R: Read, W: Write>(alloc: Global, reader: &mut R, writer: &mut W) -> u8 {
     let Ok(input) = whole_input(alloc, reader) else {
         return 1;
@@ -61,6 +63,7 @@ fn run<R: Read, W: Write>(alloc: Global, reader: &mut R, writer: &mut W) -> u8 {
     if is_read { 0 } else { 2 }
 }
 
+/// With an argument it makes the checks, and otherwise it plays the lines of standard input.
 fn main(rt: HostRuntime) -> io::Result<ExitCode> {
     if env::args(&rt)?.len() > 1 {
         check(&rt, rt.alloc())?;

@@ -1,5 +1,5 @@
-//! Where the latest call of each party is. The functions here name the calls of all families, and are proved with the
-//! types of all of them.
+//! The latest call of each party, for the player of bare lines. The functions of this file name the calls of
+//! all families, so their proofs contain the types of all of them.
 use crate::bare::{Calls, World};
 use crate::calls::tell;
 use machine::event::{Event, Start};
@@ -14,6 +14,7 @@ use turns::families::{self, is_asking};
 use turns::party::{flight_of, progress_of};
 use turns::words;
 
+/// The latest call of each party that has made one.
 pub struct Seats {
     alloc: Global,
     latest: Latest<u128>,
@@ -28,6 +29,7 @@ impl Drop for Seats {
     }
 }
 
+/// Seats of parties that have made no call.
 impl Seats {
     pub fn new(alloc: Global) -> Seats {
         Seats {
@@ -37,7 +39,8 @@ impl Seats {
     }
 }
 
-/// The operation that a step does, and none with a decision.
+/// The operation of the call's next step, or None for a decision or where the call wants nothing. Refused
+/// where a decision is missing, or one comes that was not asked for.
 fn asked(want: Want<()>, said: Option<bool>) -> Result<Option<Ask>, Refusal> {
     match (want, said) {
         (Want::Ask(ask), None) => Ok(Some(ask)),
@@ -46,13 +49,15 @@ fn asked(want: Want<()>, said: Option<bool>) -> Result<Option<Ask>, Refusal> {
     }
 }
 
-/// Marks the party's call as done. It is a function of its own since the call's flight is dropped here, which has many
-/// cases.
+/// Marks the party's call as ended. This is a function of its own, since the flight is dropped by it, and a
+/// flight has many cases.
 fn finish(party: &mut Party<u128>) {
     party.doing = Doing::Over(0);
 }
 
-/// Lets a call take its step, or hands it a decision: as a machine does.
+/// Lets a party's call take its step, or hands it a decision, as a machine does it. It writes the word, the
+/// events, and how many steps and turns back the call has taken. Refused where no call is under way, the
+/// decision does not fit, the family refuses it, or there is no memory.
 fn advance(
     party: &mut Party<u128>,
     number: u32,

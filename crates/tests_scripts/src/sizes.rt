@@ -1,4 +1,4 @@
-//! Containers of values of one word, of two and of 128.
+//! Machines of a container, over values of one word, of two and of 128.
 use machine::Machine;
 use machine::event::{Answer, Event, Start};
 use machine::families::container::ContainerStart;
@@ -9,7 +9,7 @@ use steps::enums::OwnerId;
 use steps::words::Words;
 use tests_calls::long_values::Greatest;
 
-/// Whether the call takes so many turns, of which the last gives this answer.
+/// Whether the call takes `turns` turns after its begin, and the last event is its end with this answer.
 fn answers<T: Words + PartialEq>(
     machine: &mut Machine<T>,
     start: ContainerStart<T>,
@@ -24,7 +24,7 @@ fn answers<T: Words + PartialEq>(
     taken && machine.events().last() == Some(&last)
 }
 
-/// Whether the state shows these two.
+/// Whether the state of party 0 shows these two values at the indices 0 and 1.
 fn shows<T: Words + PartialEq>(machine: &Machine<T>, first: &T, second: &T) -> bool {
     match state(machine, 0) {
         Some(state) => state.get(0) == Some(first) && state.get(1) == Some(second),
@@ -32,7 +32,9 @@ fn shows<T: Words + PartialEq>(machine: &Machine<T>, first: &T, second: &T) -> b
     }
 }
 
-/// Whether two values are added, shown, and the first of them replaced. Each call takes a step more for each word.
+/// Whether two values are added, shown by a state, and the first of them is replaced. Each call takes
+/// one step more for each further word of a value that it copies. A state shows the replaced value
+/// only after its update.
 fn goes_on<T: Words + PartialEq>(
     machine: &mut Machine<T>,
     first: T,
@@ -74,7 +76,7 @@ fn goes_on<T: Words + PartialEq>(
         && machine.words().len() == size.saturating_mul(2).saturating_add(6)
 }
 
-/// Whether they do so on a container for two.
+/// Plays `goes_on` on a new machine of a container for two values, and says whether it went well.
 fn holds<T: Words + PartialEq>(alloc: Global, first: T, second: T) -> bool {
     let Ok(owner) = OwnerId::new(7) else {
         return false;
@@ -85,7 +87,8 @@ fn holds<T: Words + PartialEq>(alloc: Global, first: T, second: T) -> bool {
     goes_on(&mut machine, first, second, owner)
 }
 
-/// Whether they do so at values of one word, of two and of 128.
+/// Whether `goes_on` goes well at values of one word, of two and of 128. Numbers of a value lie
+/// on both sides of 2^64.
 pub fn of_three_sizes(alloc: Global) -> bool {
     holds::<u64>(alloc, u64::MAX, 5)
         && holds::<u128>(alloc, 18446744073709551618, 36893488147419103233)

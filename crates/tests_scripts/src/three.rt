@@ -1,4 +1,4 @@
-//! Machines over a type of three words: its queue of values, and its single value.
+//! Machines over a type of three words: the queue of values, and the single value.
 use machine::Machine;
 use machine::event::{Answer, Event, Item, Start};
 use machine::families::atomic::AtomicStart;
@@ -8,27 +8,39 @@ use schedule::bare::{is_going, made_of, step};
 use std::alloc::Global;
 use tests_calls::long_values::Three;
 
+/// The call for the producer's role.
 const ACQUIRE_PRODUCER: Start<Three> = Start::Queues(QueueStart::AcquireProducer);
 
+/// The call for the consumer's role.
 const ACQUIRE_CONSUMER: Start<Three> = Start::Queues(QueueStart::AcquireConsumer);
 
+/// The call that takes the oldest value out.
 const POP: Start<Three> = Start::Queues(QueueStart::Pop);
 
+/// The call that looks at the oldest value.
 const PEEK: Start<Three> = Start::Queues(QueueStart::Peek);
 
+/// The call that asks how many values wait.
 const LEN: Start<Three> = Start::Queues(QueueStart::Len);
 
+/// The value that goes through the queue. Its second word is the greatest number.
 const FIRST: Three = Three(1, u64::MAX, 3);
 
+/// The value that the full queue refuses.
 const SECOND: Three = Three(4, 5, 6);
 
+/// The push of `FIRST`.
 const PUSH_FIRST: QueueStart<Three> = QueueStart::Push(FIRST);
 
+/// The push of `SECOND`.
 const PUSH_SECOND: QueueStart<Three> = QueueStart::Push(SECOND);
 
-/// The party, its call, the turns that it takes of it, and the last event and the words then.
+/// A party, its call, how many turns it takes, and the last event and the words after them. The words of the
+/// queue of capacity 1 are its two positions, the two roles, and the cell.
 type Row = (u32, QueueStart<Three>, u64, Event<Three>, [u64; 7]);
 
+/// Turns of two parties, in order. A push of party 0 stops before its last step while party 1 pops nothing,
+/// and goes on later.
 const ROWS: [Row; 10] = [
     (
         0,
@@ -44,7 +56,7 @@ const ROWS: [Row; 10] = [
         Event::Finished(1, ACQUIRE_CONSUMER, Answer::Truth(true)),
         [0, 0, 0, 0, 0, 0, 0],
     ),
-    // All but the last step of a push: its words stand in the cell, and nothing waits.
+    // The first five steps of a push: its words stand in the cell, and no value waits yet.
     (
         0,
         PUSH_FIRST,
@@ -103,6 +115,7 @@ const ROWS: [Row; 10] = [
     ),
 ];
 
+/// The events of the last call, a pop of `FIRST`, which are the last events of all.
 const TOLD: [Event<Three>; 4] = [
     Event::Begun(1, POP),
     Event::HandedOut(1, Item::Value(FIRST)),
@@ -110,7 +123,7 @@ const TOLD: [Event<Three>; 4] = [
     Event::Finished(1, POP, Answer::Popped(FIRST)),
 ];
 
-/// Whether so many turns of the party's call are taken.
+/// Whether this many turns of the party's call are taken.
 fn go(machine: &mut Machine<Three>, party: u32, turns: u64) -> bool {
     let mut taken = true;
     for _ in 0..turns {
@@ -119,7 +132,7 @@ fn go(machine: &mut Machine<Three>, party: u32, turns: u64) -> bool {
     taken
 }
 
-/// Whether the row comes out as it says. A call that is under way goes on.
+/// Whether the row comes out as it says. A call that is under way goes on; otherwise the row's call begins.
 fn come_out(machine: &mut Machine<Three>, row: &Row) -> bool {
     let (party, start, turns, last, words) = row;
     let begins = is_going(machine, *party)
@@ -130,7 +143,7 @@ fn come_out(machine: &mut Machine<Three>, row: &Row) -> bool {
         & (machine.words() == words.as_slice())
 }
 
-/// The first row that comes out otherwise.
+/// The place of the first row that does not come out as it says, if any.
 fn wrong_row(machine: &mut Machine<Three>) -> Option<usize> {
     for (at, row) in ROWS.iter().enumerate() {
         if !come_out(machine, row) {
@@ -140,7 +153,8 @@ fn wrong_row(machine: &mut Machine<Three>) -> Option<usize> {
     None
 }
 
-/// Likewise, or behind them all whether the last events are others.
+/// The place of the first row that does not come out as it says. It is the number of rows if only the last
+/// events are wrong, and None if all is right.
 fn wrong_of_queue(machine: &mut Machine<Three>) -> Option<usize> {
     match wrong_row(machine) {
         Some(at) => Some(at),
@@ -149,11 +163,13 @@ fn wrong_of_queue(machine: &mut Machine<Three>) -> Option<usize> {
     }
 }
 
+/// The value that a single value of three words opens with.
 const ZEROS: Three = Three(0, 0, 0);
 
+/// The value that is stored.
 const VALUE: Three = Three(7, u64::MAX, 9);
 
-/// A party, its call, the turns that it takes, and its answer.
+/// A party, its call, how many turns it takes, and its answer.
 const THREE_WORDS: [(u32, AtomicStart<Three>, u64, Answer<Three>); 6] = [
     (0, AtomicStart::AcquireProducer, 1, Answer::Truth(true)),
     (1, AtomicStart::Load, 5, Answer::Loaded(ZEROS)),
@@ -163,7 +179,7 @@ const THREE_WORDS: [(u32, AtomicStart<Three>, u64, Answer<Three>); 6] = [
     (1, AtomicStart::HasProducer, 1, Answer::Truth(true)),
 ];
 
-/// Whether the call takes so many turns, of which the last gives this answer.
+/// Whether the call takes this many turns after its begin, and the last event is its end with this answer.
 fn answers(
     machine: &mut Machine<Three>,
     party: u32,
@@ -177,7 +193,7 @@ fn answers(
         & (machine.events().last() == Some(&last))
 }
 
-/// The first of them that comes out otherwise.
+/// The place of the first call of `THREE_WORDS` that does not come out as it says, if any.
 fn wrong_answer(machine: &mut Machine<Three>) -> Option<usize> {
     for (at, (party, start, turns, answer)) in THREE_WORDS.iter().enumerate() {
         if !answers(machine, *party, *start, *turns, *answer) {
@@ -187,7 +203,8 @@ fn wrong_answer(machine: &mut Machine<Three>) -> Option<usize> {
     None
 }
 
-/// Likewise, or behind them all whether the words are others.
+/// The place of the first call that does not come out as it says. It is the number of calls if only the words
+/// are wrong, and None if all is right.
 fn wrong_of_value(machine: &mut Machine<Three>) -> Option<usize> {
     match wrong_answer(machine) {
         Some(at) => Some(at),
@@ -196,6 +213,7 @@ fn wrong_of_value(machine: &mut Machine<Three>) -> Option<usize> {
     }
 }
 
+/// What is wrong on the machine of this kind, the queue of values or the single value.
 fn wrong_of(machine: &mut Machine<Three>, kind: Kind) -> Option<usize> {
     match kind {
         Kind::Queue => wrong_of_queue(machine),
@@ -203,8 +221,8 @@ fn wrong_of(machine: &mut Machine<Three>, kind: Kind) -> Option<usize> {
     }
 }
 
-/// What comes out otherwise on a new machine. It is made apart from what it does: each way out of a body that holds one
-/// has a proof that it is let go there.
+/// What is wrong on a new machine of this kind, if anything. The machine is made in a function of its own,
+/// since a function has a proof, for each of its ends, that the machine is dropped.
 fn wrong(alloc: Global, kind: Kind) -> Option<usize> {
     match made_of(alloc, Shape::Of(kind, 1), 2) {
         Ok(mut machine) => wrong_of(&mut machine, kind),
@@ -212,7 +230,7 @@ fn wrong(alloc: Global, kind: Kind) -> Option<usize> {
     }
 }
 
-/// Whether all comes out right at values of three words, in a queue and alone.
+/// Whether a queue of values and the single value come out right at values of three words.
 pub fn of_three_words(alloc: Global) -> bool {
     wrong(alloc, Kind::Queue).is_none() && wrong(alloc, Kind::Atomic).is_none()
 }

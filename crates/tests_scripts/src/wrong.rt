@@ -1,4 +1,4 @@
-//! Calls that a machine of another kind does not have, and the numbers of refusals.
+//! Calls that a machine of another kind does not have, which it has to refuse, and the numbers of refusals.
 use machine::event::Start;
 use machine::families::atomic::AtomicStart;
 use machine::families::bits::BitsStart;
@@ -10,14 +10,19 @@ use schedule::bare::{made_of, step};
 use std::alloc::Global;
 use steps::enums::OwnerId;
 
+/// A pop of any queue.
 const POP: Start<u128> = Start::Queues(QueueStart::Pop);
 
+/// A peek of a bounded queue.
 const PEEK: Start<u128> = Start::Queues(QueueStart::Peek);
 
+/// A question for the length of any queue.
 const LEN: Start<u128> = Start::Queues(QueueStart::Len);
 
+/// A push of a value, which only the queue of values has.
 const PUSH: Start<u128> = Start::Queues(QueueStart::Push(1));
 
+/// A kind, and a call that this kind does not have.
 const WRONG: [(Kind, Start<u128>); 17] = [
     (Kind::IndexQueue, PUSH),
     (Kind::Atomic, PUSH),
@@ -38,7 +43,7 @@ const WRONG: [(Kind, Start<u128>); 17] = [
     (Kind::IndexQueue, Start::Robust(RobustStart::IsLocked)),
 ];
 
-/// Whether the call is refused so on a new machine, and nothing is written down.
+/// Whether this call is refused as `WrongCall` on a new machine of this kind, and no event is written down.
 fn is_wrong(alloc: Global, kind: Kind, start: Start<u128>) -> bool {
     match made_of(alloc, Shape::Of(kind, 1), 2) {
         Ok(mut machine) => {
@@ -49,7 +54,7 @@ fn is_wrong(alloc: Global, kind: Kind, start: Start<u128>) -> bool {
     }
 }
 
-/// Whether a call that the kind does not have is refused as one of a party that has a call under way.
+/// Whether a call that the kind does not have is refused as `Busy` if the party has another call under way.
 fn is_busy(alloc: Global) -> bool {
     match made_of(alloc, Shape::Of(Kind::IndexQueue, 1), 2) {
         Ok(mut machine) => {
@@ -60,14 +65,14 @@ fn is_busy(alloc: Global) -> bool {
     }
 }
 
-/// Whether each is refused so.
+/// Whether each call of `WRONG` is refused, and one more.
 pub fn are_refused(alloc: Global) -> bool {
     for (kind, start) in &WRONG {
         if !is_wrong(alloc, *kind, *start) {
             return false;
         }
     }
-    // One with an owner, which no constant can hold.
+    // This call has an owner, which no constant can hold.
     let Ok(owner) = OwnerId::new(2) else {
         return false;
     };
@@ -79,6 +84,8 @@ pub fn are_refused(alloc: Global) -> bool {
         )
 }
 
+/// Each refusal with its number, `as u8`. A refusal that is put between others must not change
+/// the numbers of the rest.
 const NUMBERS: [(Refusal, u8); 12] = [
     (Refusal::NoParty, 1),
     (Refusal::Busy, 2),
@@ -94,7 +101,7 @@ const NUMBERS: [(Refusal, u8); 12] = [
     (Refusal::AtEnd, 12),
 ];
 
-/// Whether the refusals have these numbers.
+/// Whether the refusals have the numbers of `NUMBERS`.
 pub fn have_numbers() -> bool {
     for (refusal, number) in &NUMBERS {
         if *refusal as u8 != *number {

@@ -1,4 +1,6 @@
-//! The container: handles, errors and states alone, and values of one word and of 128.
+//! Calls of the container: handles, errors and states alone, and then values of one word and of 128. The
+//! words of a container are the set's counter, a cell with the owner of each index, the number of changes,
+//! the number of each element, and the values (`steps::container::layout`).
 use crate::drive::end_with;
 use std::test::Fail;
 use steps::ask::{After, Want};
@@ -15,6 +17,7 @@ use steps::routine::{Routine, Running};
 use steps::words::Words;
 use tests_calls::long_values::Greatest;
 
+/// An `add` that has taken no step, of this value for this owner, to a container of this capacity.
 fn add<T: Words + Drop>(capacity: u32, value: T, owner: OwnerId) -> Running<Add<T>, Owned<T>, ()> {
     Running {
         call: Add::new(capacity),
@@ -23,6 +26,7 @@ fn add<T: Words + Drop>(capacity: u32, value: T, owner: OwnerId) -> Running<Add<
     }
 }
 
+/// A `replace` that has taken no step: it puts this value at the index, which this owner holds.
 fn replace<T: Words + Drop>(
     capacity: u32,
     index: u32,
@@ -40,7 +44,8 @@ fn replace<T: Words + Drop>(
     }
 }
 
-/// Takes at most so many steps of a look of the state. Where it has ended, these are what it answers and its steps.
+/// Takes at most `most` steps of a look, which brings this state up to date from these words. Where the look
+/// ends, it returns whether the container had changed, and how many steps that took; otherwise None.
 fn look<T: Words>(
     state: &mut ContainerState<T>,
     most: u64,
@@ -67,6 +72,8 @@ fn look<T: Words>(
     None
 }
 
+/// Two handles of one index and one owner, of different containers, are not equal, and the container's number
+/// orders them. If they were equal, a handle could be used at a container that it is not of.
 #[test]
 fn handles(rt: HostRuntime) -> Result<(), Fail> {
     let owner = OwnerId::new(7)?;
@@ -84,6 +91,7 @@ fn handles(rt: HostRuntime) -> Result<(), Fail> {
     Ok(())
 }
 
+/// Each reason why the set gives no index becomes its own reason why the container adds nothing.
 #[test]
 fn add_failures(rt: HostRuntime) {
     let rows = [
@@ -101,6 +109,8 @@ fn add_failures(rt: HostRuntime) {
     }
 }
 
+/// A state belongs to a container of its number and capacity only. If another number or capacity were
+/// accepted, a container could update the state of another one.
 #[test]
 fn whose_state_it_is(rt: HostRuntime) -> Result<(), Fail> {
     let state: Result<ContainerState<u64>, ContainerStateError> = ContainerState::new(
@@ -115,6 +125,9 @@ fn whose_state_it_is(rt: HostRuntime) -> Result<(), Fail> {
     Ok(())
 }
 
+/// A look copies the elements whose number is odd (1 and 5, at the indices 0 and 2), and not the one of
+/// number 2. `for_each` then visits these two in order, and no further one after `Stop`. The words: counter
+/// 3, owners 1, 2 and 1, change 3, numbers 1, 2 and 5, and three pairs.
 #[test]
 fn visits_of_a_state(rt: HostRuntime) -> Result<(), Fail> {
     let mut words = [3, 1, 2, 1, 3, 1, 2, 5, 10, 11, 20, 21, 30, 31];
@@ -140,6 +153,8 @@ fn visits_of_a_state(rt: HostRuntime) -> Result<(), Fail> {
     Ok(())
 }
 
+/// An `add` takes 8 steps and a `replace` 6 at a value of one word. In the end the counter is 1, the owner 7,
+/// two changes are counted, the element's number is 3, and the value is the second one.
 #[test]
 fn values_of_one_word(rt: HostRuntime) -> Result<(), Fail> {
     let owner = OwnerId::new(7)?;
@@ -150,6 +165,8 @@ fn values_of_one_word(rt: HostRuntime) -> Result<(), Fail> {
     Ok(())
 }
 
+/// At values of 128 words `add`, look and `replace` take 127 steps more than at one word, and the look copies
+/// all 128 words. A word at a wrong place would change the value that the state shows.
 #[test]
 fn values_of_128_words(rt: HostRuntime) -> Result<(), Fail> {
     let owner = OwnerId::new(7)?;

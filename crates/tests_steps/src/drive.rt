@@ -1,8 +1,9 @@
-//! Calls driven alone over a list of words, in both of their forms.
+//! Drives one call alone over a list of words, by value (`Call::take`) and in place (`Running::go_on`), and
+//! compares both. Nobody else changes the words, so the answer and the number of steps are always the same.
 use steps::ask::{After, Ask, Call, Want};
 use steps::routine::{Routine, Running};
 
-/// A call that is given nothing and reads no value.
+/// The call with nothing given and no room, for calls that store no value and read none.
 pub fn bare<C: Routine<Given = (), Room = ()>>(call: C) -> Running<C, (), ()> {
     Running {
         call,
@@ -11,7 +12,7 @@ pub fn bare<C: Routine<Given = (), Room = ()>>(call: C) -> Running<C, (), ()> {
     }
 }
 
-/// The operation that is wanted.
+/// The operation that a call wants next. None where it asks a question or wants nothing.
 pub(crate) fn asked<V>(want: &Want<V>) -> Option<Ask> {
     match want {
         Want::Ask(ask) => Some(*ask),
@@ -20,7 +21,8 @@ pub(crate) fn asked<V>(want: &Want<V>) -> Option<Ask> {
     }
 }
 
-/// Does the operation on these words: what the call is handed.
+/// Applies the operation to its word, and returns the old value of the word, which is the call's answer. It
+/// is 0 where nothing is asked or the word lies outside the list.
 pub(crate) fn answer_to(asked: Option<Ask>, words: &mut [u64]) -> u64 {
     match asked {
         Some(ask) if ask.word < words.len() => {
@@ -32,8 +34,8 @@ pub(crate) fn answer_to(asked: Option<Ask>, words: &mut [u64]) -> u64 {
     }
 }
 
-/// Takes at most so many steps of the call by value. It returns the call's answer and steps, or the call where it has
-/// not ended.
+/// Takes at most `most` steps of the call by value. Where it ends, this is its answer with the number of its
+/// steps; otherwise the call as it stands is the error.
 fn by_value<C: Call + Drop>(
     mut call: C,
     most: u64,
@@ -52,7 +54,8 @@ where
     Err(call)
 }
 
-/// Takes at most so many steps of the call in place: its answer and its steps, where it has ended.
+/// Takes at most `most` steps of the call in place. Where it ends, this is its answer with the number of its
+/// steps; otherwise None.
 fn in_place<C: Routine>(
     call: &mut Running<C, C::Given, C::Room>,
     most: u64,
@@ -70,8 +73,9 @@ where
     None
 }
 
-/// Takes at most so many steps of the call in both ways, each over words of its own. It returns the call's answer and
-/// steps, or the call where it has not ended, and None where the two ways part.
+/// Takes at most `most` steps of the call both by value and in place, over two copies of the words. Both have
+/// to leave the same words, and to end with the same answer and steps or to ask for the same next operation.
+/// If not, it is None. The list `words` ends as the call by value left it.
 fn run<C: Routine + Drop, const N: usize>(
     call: Running<C, C::Given, C::Room>,
     most: u64,
@@ -105,8 +109,8 @@ where
     }
 }
 
-/// Runs the call to its end, of at most 300 steps: its answer and its steps. None where it has not ended, and where its
-/// two ways part, here and in what follows.
+/// Runs the call to its end, of at most 300 steps, and returns its answer and its steps. None where it has
+/// not ended by then, or where the call by value and the call in place differ.
 pub fn whole<C: Routine + Drop, const N: usize>(
     call: Running<C, C::Given, C::Room>,
     words: &mut [u64; N],
@@ -119,7 +123,8 @@ where
     run(call, 300, words)?.ok()
 }
 
-/// Takes so many steps of the call, which does not end by them.
+/// Takes `steps` steps of the call, and returns it as it stands. None where it ends by them, or where the
+/// call by value and the call in place differ.
 pub fn partly<C: Routine + Drop, const N: usize>(
     call: Running<C, C::Given, C::Room>,
     steps: u64,
@@ -133,7 +138,7 @@ where
     run(call, steps, words)?.err()
 }
 
-/// Whether the call ends with this answer after so many steps.
+/// Whether the call ends with exactly this answer after exactly `steps` steps, by value and in place alike.
 pub fn end_with<C: Routine + Drop, const N: usize>(
     call: Running<C, C::Given, C::Room>,
     words: &mut [u64; N],
@@ -151,7 +156,7 @@ where
     }
 }
 
-/// These words, with others at some places.
+/// The list `words` with other words at these places, each given as a place and its word.
 pub fn with<const N: usize>(mut words: [u64; N], places: &[(usize, u64)]) -> [u64; N] {
     for (at, word) in places {
         if *at < N {

@@ -1,4 +1,5 @@
-//! The calls of queues and of the single value, each with what it is given.
+//! Makes calls of queues and of the single value that have taken no step, each with the value that it stores
+//! and the room that it reads into.
 use steps::atomic::{Load, Store};
 use steps::copied::{Copied, OneWord};
 use steps::queues::overflow;
@@ -7,6 +8,7 @@ use steps::queues::ring::{Pop, Push};
 use steps::routine::Running;
 use steps::words::Words;
 
+/// A push of this value to a queue of this capacity.
 pub fn push<T: Words + Drop>(capacity: u32, value: T) -> Running<Push<T>, T, ()> {
     Running {
         call: Push::new(capacity),
@@ -15,6 +17,7 @@ pub fn push<T: Words + Drop>(capacity: u32, value: T) -> Running<Push<T>, T, ()>
     }
 }
 
+/// A pop from a queue of this capacity, into a room that holds a value of any number of words.
 pub fn pop<T: Words>(capacity: u32) -> Running<Pop<T, Copied>, (), Copied> {
     Running {
         call: Pop::new(capacity),
@@ -23,6 +26,8 @@ pub fn pop<T: Words>(capacity: u32) -> Running<Pop<T, Copied>, (), Copied> {
     }
 }
 
+/// A peek at the oldest value of a queue of this capacity, into a room that holds a value of
+/// any number of words.
 pub fn peek<T: Words>(capacity: u32) -> Running<Peek<T, Copied>, (), Copied> {
     Running {
         call: Peek::new(capacity),
@@ -31,7 +36,7 @@ pub fn peek<T: Words>(capacity: u32) -> Running<Peek<T, Copied>, (), Copied> {
     }
 }
 
-/// A peek at a value of one word, into a room of one word.
+/// A peek at a value of one word, into the room `OneWord`, which holds one word only.
 pub fn peek_one(capacity: u32) -> Running<Peek<u64, OneWord>, (), OneWord> {
     Running {
         call: Peek::new(capacity),
@@ -40,7 +45,7 @@ pub fn peek_one(capacity: u32) -> Running<Peek<u64, OneWord>, (), OneWord> {
     }
 }
 
-/// A pop of a value of one word, into a room of one word.
+/// A pop of a value of one word, into the room `OneWord`.
 pub fn pop_one(capacity: u32) -> Running<Pop<u64, OneWord>, (), OneWord> {
     Running {
         call: Pop::new(capacity),
@@ -49,6 +54,7 @@ pub fn pop_one(capacity: u32) -> Running<Pop<u64, OneWord>, (), OneWord> {
     }
 }
 
+/// A push of this number to an overflowing queue, with room for the number that it may push out.
 pub fn overflow_push(capacity: u32, value: u64) -> Running<overflow::Push, u64, OneWord> {
     Running {
         call: overflow::Push::new(capacity),
@@ -57,6 +63,7 @@ pub fn overflow_push(capacity: u32, value: u64) -> Running<overflow::Push, u64, 
     }
 }
 
+/// A pop from an overflowing queue of this capacity.
 pub fn overflow_pop(capacity: u32) -> Running<overflow::Pop, (), OneWord> {
     Running {
         call: overflow::Pop::new(capacity),
@@ -65,6 +72,7 @@ pub fn overflow_pop(capacity: u32) -> Running<overflow::Pop, (), OneWord> {
     }
 }
 
+/// A store of this value as the single value.
 pub fn store<T: Words + Drop>(value: T) -> Running<Store<T>, T, ()> {
     Running {
         call: Store::new(),
@@ -73,6 +81,7 @@ pub fn store<T: Words + Drop>(value: T) -> Running<Store<T>, T, ()> {
     }
 }
 
+/// A load of the single value, into a room that holds a value of any number of words.
 pub fn load<T: Words>() -> Running<Load<T, Copied>, (), Copied> {
     Running {
         call: Load::new(),
@@ -81,7 +90,7 @@ pub fn load<T: Words>() -> Running<Load<T, Copied>, (), Copied> {
     }
 }
 
-/// A load of a value of one word, into a room of one word.
+/// A load of a value of one word, into the room `OneWord`.
 pub fn load_one() -> Running<Load<u64, OneWord>, (), OneWord> {
     Running {
         call: Load::new(),

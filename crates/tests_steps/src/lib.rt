@@ -1,5 +1,7 @@
-//! Calls of `steps`, of which no text of `tests_scripts` can say this: driven alone over a list of words, by value and in
-//! place, at values of one, two, three and 128 words, and the small items.
+//! Calls of `steps`, driven alone over a list of words, and the small items of that crate. The texts of
+//! `tests_scripts` play calls of whole machines. Only these tests compare a call taken by value with
+//! the same call taken in place, count steps at values of one, two, three and 128 words, and look into
+//! a call that is stopped.
 #![tactic(auto)]
 
 #[cfg(test)]

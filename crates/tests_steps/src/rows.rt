@@ -1,4 +1,5 @@
-//! Rows of calls on one list of words, each with what it must answer and the steps that it must take.
+//! Rows of calls that are made one after another on one list of words, each with the answer and the number of
+//! steps that it has to come to.
 use crate::drive::{bare, end_with};
 use crate::driven::{load, peek, pop, push, store};
 use std::process::Abort;
@@ -6,18 +7,27 @@ use steps::atomic::version::Version;
 use steps::queues::lengths::Len;
 use steps::words::Words;
 
-/// A call, what it answers and its steps.
+/// A call with what it has to come to. The last number is that of its steps; a `Version` has one step, and
+/// its number is the version that it answers.
 #[derive(Drop)]
 pub enum Row<T> {
+    /// A push of this value, and whether it is taken.
     Push(T, bool, u64),
+    /// A pop, and the value that it answers, if any.
     Pop(Option<T>, u64),
+    /// A peek, and the value that it answers, if any.
     Peek(Option<T>, u64),
+    /// A store of this value, and whether it is taken.
     Store(T, bool, u64),
+    /// A load, and the value that it answers.
     Load(T, u64),
+    /// A question for the version of the single value, and the version that it answers.
     Version(u64),
+    /// A question for the number of values that wait, and the number that it answers.
     Len(u64, u64),
 }
 
+/// Makes the call of the row on these words, and says whether it came to the row's answer and steps.
 fn make_call<T: Words + PartialEq + Drop, const N: usize>(
     capacity: u32,
     words: &mut [u64; N],
@@ -34,7 +44,8 @@ fn make_call<T: Words + PartialEq + Drop, const N: usize>(
     }
 }
 
-/// Makes these calls, each of which has to come out so, and the words then have to be these.
+/// Makes these calls in order on `words`, and fails at the first that does not come to what its row says. The
+/// words have to be `after` in the end.
 pub fn play<T: Words + PartialEq + Drop, const N: usize>(
     rt: &impl Abort,
     name: &str,
@@ -50,7 +61,8 @@ pub fn play<T: Words + PartialEq + Drop, const N: usize>(
     assert!(rt; words == after, "{name}: words");
 }
 
-/// Whether an empty queue can be filled with these values, as many as its capacity, and emptied, twice.
+/// Whether an empty queue can be filled with these values, as many as its capacity, and emptied in order,
+/// twice. While it is full each further push is refused; when it is empty a peek and a pop answer None.
 pub fn fill_and_empty<T: Words + PartialEq + Drop, const N: usize>(
     capacity: u32,
     values: &[T],

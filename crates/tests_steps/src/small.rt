@@ -1,4 +1,5 @@
-//! Operations, the places of words, and the small items.
+//! What one operation makes of a word, at which words the parts of a structure lie, and owners, refusals of a
+//! capacity and numbers as words.
 use std::test::Fail;
 use steps::ask::Op;
 use steps::enums::{OwnerId, OwnerIdNewError, UniqueIndexCreationError, capacity_refusal};
@@ -10,6 +11,8 @@ use steps::queues::lengths::number_waiting;
 use steps::queues::overflow;
 use steps::words::Words;
 
+/// Applies each operation to the word 6. Additions and subtractions wrap, and an exchange changes the word
+/// only where it finds what it expects.
 #[test]
 fn operations(rt: HostRuntime) {
     let rows = [
@@ -28,6 +31,9 @@ fn operations(rt: HostRuntime) {
     }
 }
 
+/// A number of an owner, the refusal of a capacity, and numbers as words. The greatest number is no owner; a
+/// capacity has to lie between the least and the greatest one that are given. A `u32` keeps the low half of
+/// its word, and a `u128` is made of two words.
 #[test]
 fn small_items(rt: HostRuntime) -> Result<(), Fail> {
     assert!(rt; OwnerId::new(313)?.value() == 313);
@@ -43,12 +49,16 @@ fn small_items(rt: HostRuntime) -> Result<(), Fail> {
     Ok(())
 }
 
+/// An index of a unique index set of capacity 130, and where its parts lie. The columns are the
+/// index, the word of its next index, the word of its claim flag, and that flag's bit. A word holds
+/// the flags of 64 indices.
 const PLACES: [(u32, usize, usize, u64); 3] = [
     (0, 1, 131, 1),
     (63, 64, 131, 1 << 63),
     (64, 65, 132, 1),
 ];
 
+/// The next indices and the claim flags lie where `PLACES` says. An error would let two indices share a flag.
 #[test]
 fn places(rt: HostRuntime) {
     for (index, next, word, bit) in &PLACES {
@@ -57,6 +67,9 @@ fn places(rt: HostRuntime) {
     }
 }
 
+/// Where words lie that need more than 32 bits, or more than one part. These are the last cell of the longest
+/// overflowing queue, the first cell of a robust set, and the end of a loan channel. A length counts right
+/// past the wrap of its positions, and the default way to release does not lock.
 #[test]
 fn places_of_words(rt: HostRuntime) {
     assert!(rt; overflow::cell_word(u32::MAX, 4294967295) == 4294967299);

@@ -1,4 +1,5 @@
-//! Streams with an end, and calls of a plain queue's ends that wait, try so often, or push or pop many values.
+//! Tests of streams with an end, over a queue (`uses_streams`) and over slots (`zero_copy_streams`). Others
+//! are of calls of a queue's ends that wait, make a number of tries, or push or pop many values.
 #![tactic(auto)]
 
 #[cfg(test)]

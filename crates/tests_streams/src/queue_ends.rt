@@ -1,4 +1,5 @@
-//! The same of calls of a plain queue's ends: that they succeed where there is room, of numbers at seven capacities, and of values.
+//! Calls of a queue's ends in `uses_streams::queues` that wait, make tries, or push or pop many values. The
+//! tests show what no clause says: that they succeed where there is room, and in order, at seven capacities.
 use lock_free_queues::spsc::index_queue::{Consumer, IndexQueue, Producer};
 use lock_free_queues::spsc::queue::Queue;
 use lock_free_queues::spsc::safely_overflowing_index_queue::SafelyOverflowingIndexQueue;
@@ -13,8 +14,9 @@ use uses_streams::queues::{
     push_waiting, push_within,
 };
 
-/// Pushes seven numbers into a queue of five, as many as go in at a time, and pops them into slices: whether the first five went in
-/// and no more, three came, the others went in, these came, and nothing was left.
+/// Pushes seven numbers into a queue of five, as many as go in at a time, and pops them into slices. It says
+/// whether the first five went in and no more, three came, the other two went in, the remaining four came,
+/// and nothing was left.
 fn pass_slices(producer: &mut Producer<'_>, consumer: &mut Consumer<'_>) -> [bool; 5] {
     let values = [2, 3, 5, 7, 11, 13, 17];
     let filled = push_all(producer, &values) == 5 && push_all(producer, &values) == 0;
@@ -27,7 +29,9 @@ fn pass_slices(producer: &mut Producer<'_>, consumer: &mut Consumer<'_>) -> [boo
     [filled, came, went_on, emptied, none]
 }
 
-/// Fills a queue of two pairs, and empties it, by calls with a limit of tries: whether each answered as it should.
+/// Fills a queue of two pairs, and empties it, by calls with a limit of tries. It says whether calls with
+/// room succeed and those with 0 tries do nothing, whether a push into the full queue gives up, and whether
+/// the pairs come in order.
 fn try_so_often(
     producer: &mut queue::Producer<'_, (u64, u64)>,
     consumer: &mut queue::Consumer<'_, (u64, u64)>,
@@ -48,7 +52,7 @@ fn push_numbers(rt: &impl Wait, producer: &mut Producer<'_>, count: u64) {
     }
 }
 
-/// Pops so many numbers, each as soon as it is there: whether they came in order.
+/// Pops `count` numbers, each as soon as it is there. True if they were 0, 1 and so on in order.
 fn pop_numbers(rt: &impl Wait, consumer: &mut Consumer<'_>, count: u64) -> bool {
     let mut in_order = true;
     for value in 0..count {
@@ -57,7 +61,8 @@ fn pop_numbers(rt: &impl Wait, consumer: &mut Consumer<'_>, count: u64) -> bool 
     in_order
 }
 
-/// Passes the numbers below `count` from one thread to another: whether they came in order.
+/// Passes the numbers below `count` from one thread to another, and says whether they came in order. None
+/// where memory or an end is refused.
 fn cross<R: Threads + Wait + Sync>(
     rt: &R,
     alloc: Global,
@@ -74,7 +79,8 @@ fn cross<R: Threads + Wait + Sync>(
     Some(in_order)
 }
 
-/// Pushes the numbers below five into an overflowing queue of two, and pops: whether the last two came, and then none.
+/// Pushes the numbers below five into an overflowing queue of two. It says whether a pop with 0 tries does
+/// nothing, whether the last two numbers come in order, and whether none comes after them.
 fn pop_what_is_left(
     rt: &impl Wait,
     producer: &mut overflow::Producer<'_>,
@@ -90,14 +96,15 @@ fn pop_what_is_left(
     [untried, in_order, none]
 }
 
-/// Pushes the numbers below `count` into an overflowing queue.
+/// Pushes the numbers below `count` into an overflowing queue, which pushes the oldest ones out.
 fn push_over(producer: &mut overflow::Producer<'_>, count: u64) {
     for value in 0..count {
         let _ = producer.push(value);
     }
 }
 
-/// Pops until the number below `count` comes, each as soon as there is one: whether they rose up to it.
+/// Pops numbers, each as soon as there is one, until `count` - 1 comes. True if each was greater than the one
+/// before and below `count`.
 fn pop_to_the_last(rt: &impl Wait, consumer: &mut overflow::Consumer<'_>, count: u64) -> bool {
     let mut next = 0;
     for _ in 0..count {
@@ -113,7 +120,8 @@ fn pop_to_the_last(rt: &impl Wait, consumer: &mut overflow::Consumer<'_>, count:
     false
 }
 
-/// Passes the numbers below `count` by an overflowing queue from one thread to another: whether those that came rose to the last.
+/// Passes the numbers below `count` by an overflowing queue from one thread to another. True if those that
+/// came rose up to the last one. None where memory or an end is refused.
 fn cross_over<R: Threads + Wait + Sync>(
     rt: &R,
     alloc: Global,
@@ -130,6 +138,7 @@ fn cross_over<R: Threads + Wait + Sync>(
     Some(risen)
 }
 
+/// `push_all` pushes as many of seven numbers as the queue has room for, at capacities from 0 to 1,000.
 #[test]
 fn a_queue_takes_what_it_has_room_for(rt: HostRuntime) -> Result<(), Fail> {
     for (capacity, number) in [(0, 0), (1, 1), (7, 7), (1000, 7)] {
@@ -141,6 +150,8 @@ fn a_queue_takes_what_it_has_room_for(rt: HostRuntime) -> Result<(), Fail> {
     Ok(())
 }
 
+/// Slices are pushed and popped in order, in parts, on a queue of five. A number that is lost or comes twice
+/// would be seen in the slices.
 #[test]
 fn slices_come_in_order(rt: HostRuntime) -> Result<(), Fail> {
     let (queue, pass) = IndexQueue::new(rt.alloc(), 5)?;
@@ -149,6 +160,7 @@ fn slices_come_in_order(rt: HostRuntime) -> Result<(), Fail> {
     Ok(())
 }
 
+/// Calls with a limit of tries end: with success where there is room or a value, and otherwise without.
 #[test]
 fn tries_end(rt: HostRuntime) -> Result<(), Fail> {
     let (queue, pass) = Queue::<(u64, u64), 2>::new(rt.alloc())?;
@@ -157,6 +169,7 @@ fn tries_end(rt: HostRuntime) -> Result<(), Fail> {
     Ok(())
 }
 
+/// All numbers come in order to a thread that waits for them. A wait that missed one would not end.
 #[test]
 fn who_waits_gets_all(rt: HostRuntime) -> Result<(), Fail> {
     for (capacity, count) in [(1, 100), (2, 100), (64, 1000), (1000, 3000)] {
@@ -168,6 +181,7 @@ fn who_waits_gets_all(rt: HostRuntime) -> Result<(), Fail> {
     Ok(())
 }
 
+/// The numbers that an overflowing queue still has come in order, and a queue without capacity gives none.
 #[test]
 fn the_oldest_that_is_left_comes(rt: HostRuntime) -> Result<(), Fail> {
     let (queue, pass) = SafelyOverflowingIndexQueue::new(rt.alloc(), 2)?;
@@ -179,6 +193,7 @@ fn the_oldest_that_is_left_comes(rt: HostRuntime) -> Result<(), Fail> {
     Ok(())
 }
 
+/// A thread that waits at an overflowing queue gets the last number, which nothing pushes out.
 #[test]
 fn who_waits_gets_the_last(rt: HostRuntime) -> Result<(), Fail> {
     for (capacity, count) in [(1, 1), (1, 100), (64, 3000)] {

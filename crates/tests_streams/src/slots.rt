@@ -1,5 +1,6 @@
-//! What no clause says of streams over slots: that calls succeed at several sizes and refuse as they should, what each end leaves that
-//! is dropped or leaves early, and that values come as they were written.
+//! Streams over slots, for what no clause says. Calls succeed at several sizes and refuse for the
+//! right reason, an end that is dropped or leaves early leaves the stream as it has to, and values
+//! come as they were written.
 use std::alloc::Global;
 use std::sync::Wait;
 use std::test::Fail;
@@ -13,13 +14,13 @@ use zero_copy_streams::receiver::{Found, Receiver};
 use zero_copy_streams::sender::Sender;
 use zero_copy_streams::stream::Stream;
 
-/// Writes three times the number and one, below a number.
+/// A writer of the value of each number (`of_number`), which refuses to write from the number `below` on.
 #[derive(Drop)]
 struct Triples {
     below: u64,
 }
 
-/// What it writes.
+/// The value that is sent with this number: three times the number and one.
 fn of_number(number: u64) -> u64 {
     number.wrapping_mul(3).wrapping_add(1)
 }
@@ -31,7 +32,7 @@ impl Writes<u64, Anything> for Triples {
     }
 }
 
-/// Reads what was written, but for one value, of which it tells nothing.
+/// A reader that tells each value, but for the value `but`, of which it tells nothing.
 #[derive(Drop)]
 struct Plain {
     but: u64,
@@ -49,7 +50,8 @@ impl Reads<u64, Anything, u64> for Plain {
     }
 }
 
-/// Sends so many values, and then no further one: whether it was refused since no slot is free.
+/// Sends `count` values and then tries one more. True if the `count` were sent and the last one was refused
+/// since no slot is free.
 fn fills(sender: &mut Sender<'_, u64>, count: u32) -> bool {
     let mut right = true;
     for _ in 0..count {
@@ -62,7 +64,7 @@ fn fills(sender: &mut Sender<'_, u64>, count: u32) -> bool {
         )
 }
 
-/// Reads the values of the numbers from one up to another: whether they came in order.
+/// Reads the values of the numbers from `from` to before `to`. True if they came in order.
 fn empties(receiver: &mut Receiver<'_, u64>, from: u64, to: u64) -> bool {
     let mut right = true;
     for number in from..to {
@@ -71,15 +73,16 @@ fn empties(receiver: &mut Receiver<'_, u64>, from: u64, to: u64) -> bool {
     right
 }
 
-/// How a sender ends.
+/// How a sender ends: it finishes the stream, or it is dropped.
 #[derive(Drop)]
 enum Last {
     Finishes,
     IsDropped,
 }
 
-/// Fills all slots, reads one value and sends one more, which fills them again. Then the sender ends so, and all is read: whether each
-/// call answered as it should, and what comes then, twice. None where the ends are not to be had.
+/// Fills all slots, reads one value, and sends one more, which fills them again. Then the sender ends as
+/// `last` says, and all values are read. It returns whether each call answered right, and what two further
+/// reads find. None where memory or an end is refused.
 fn play<const CAPACITY: usize>(
     rt: &impl Wait,
     alloc: Global,
@@ -113,16 +116,18 @@ fn play<const CAPACITY: usize>(
     ))
 }
 
-/// All that was sent, and the end twice.
+/// Each call of `play` answered right, and after the values the end came, twice.
 const ENDED: Option<(bool, [Option<Found<u64>>; 2])> = Some((
     true,
     [Some(Found::End), Some(Found::End)],
 ));
 
-/// All that was sent, and no end.
+/// Each call of `play` answered right, and after the values nothing came: the stream has no end yet.
 const NOT_ENDED: Option<(bool, [Option<Found<u64>>; 2])> = Some((true, [None, None]));
 
-/// Sends by a queue of one ticket with two slots: whether the ticket of the second value waits for its place, and the value comes then.
+/// Sends values on a stream of two slots whose queue of tickets has one place. True if the second
+/// value is refused since the queue is full, also by a call that waits for a slot, and comes after
+/// the first one was read.
 fn wait_for_the_queue(rt: &impl Wait, alloc: Global) -> Option<bool> {
     let (stream, passes) = Stream::<u64, 1, Anything>::new(alloc, 2).ok()?;
     let spares = vec![in alloc; 0u64; 3].ok()?;
@@ -136,8 +141,8 @@ fn wait_for_the_queue(rt: &impl Wait, alloc: Global) -> Option<bool> {
     Some(right & empties(&mut receiver, 1, 2))
 }
 
-/// The receiver reads one of two values and leaves: whether the sender uses the slot that came back, and learns then that nobody
-/// receives.
+/// The receiver reads one of two values and leaves, or is dropped. True if the sender uses the slot that came
+/// back, and its next calls say that nobody receives.
 fn leave_early(rt: &impl Wait, alloc: Global, is_dropped: bool) -> Option<bool> {
     let (stream, passes) = Stream::<u64, 3, Anything>::new(alloc, 2).ok()?;
     let spares = vec![in alloc; 0u64; 3].ok()?;
@@ -160,7 +165,8 @@ fn leave_early(rt: &impl Wait, alloc: Global, is_dropped: bool) -> Option<bool> 
     Some(right)
 }
 
-/// Sends where the writer stops before the third value and where no value is left: whether nothing was sent then, and the next ones are.
+/// Sends by a writer that stops before the third value, and then until no value is left to write. True if the
+/// calls say so, nothing was sent beyond that, and the three values that were sent come in order.
 fn stop_and_go_on(rt: &impl Wait, alloc: Global) -> Option<bool> {
     let (stream, passes) = Stream::<u64, 8, Anything>::new(alloc, 5).ok()?;
     let spares = vec![in alloc; 0u64; 3].ok()?;
@@ -182,7 +188,9 @@ fn stop_and_go_on(rt: &impl Wait, alloc: Global) -> Option<bool> {
     Some(right)
 }
 
-/// Reads five values, of which the third tells nothing: whether it stops there, goes on until the end, and ends again.
+/// Sends five values and the end, and reads them with a reader that tells nothing of the third. True
+/// if `read_all` stops there and says which it was, the later calls go on behind it, and the end
+/// comes again and again.
 fn pass_over_one(rt: &impl Wait, alloc: Global) -> Option<bool> {
     let (stream, passes) = Stream::<u64, 8, Anything>::new(alloc, 5).ok()?;
     let spares = vec![in alloc; 0u64; 6].ok()?;
@@ -206,7 +214,8 @@ fn pass_over_one(rt: &impl Wait, alloc: Global) -> Option<bool> {
     Some(right)
 }
 
-/// Reads the first of two values, of which nothing is told: whether its slot comes back.
+/// Reads the first of two values, of which nothing is told. True if its slot comes back all the same, so that
+/// one more value can be sent.
 fn give_back_unread(alloc: Global) -> Option<bool> {
     let (stream, passes) = Stream::<u64, 3, Anything>::new(alloc, 2).ok()?;
     let spares = vec![in alloc; 0u64; 3].ok()?;
@@ -218,7 +227,7 @@ fn give_back_unread(alloc: Global) -> Option<bool> {
     Some(right & empties(&mut receiver, 1, 3))
 }
 
-/// Sends so many values, each as soon as a slot is free, and then the end: whether all were sent.
+/// Sends `count` values, each as soon as a slot is free, and then the end. True if all were sent.
 fn send(rt: &impl Wait, sender: Sender<'_, u64>, count: u64) -> bool {
     let mut sender = sender;
     let right = sender
@@ -228,7 +237,8 @@ fn send(rt: &impl Wait, sender: Sender<'_, u64>, count: u64) -> bool {
     right
 }
 
-/// Reads until the end: how many values came, if they came in order.
+/// Reads until the end, and returns how many values came. None where one was not that of its number, or
+/// memory was refused.
 fn receive(rt: &impl Wait, alloc: Global, receiver: Receiver<'_, u64>) -> Option<u64> {
     let mut receiver = receiver;
     let mut told = Vec::new(alloc);
@@ -245,7 +255,8 @@ fn receive(rt: &impl Wait, alloc: Global, receiver: Receiver<'_, u64>) -> Option
     Some(next)
 }
 
-/// Sends so many values from one thread to another: how many came.
+/// Sends `count` values from one thread to another, and returns how many came. None where an end is refused
+/// or a value was wrong.
 fn cross<R: Threads + Wait + Sync, const CAPACITY: usize>(
     rt: &R,
     alloc: Global,
@@ -263,6 +274,8 @@ fn cross<R: Threads + Wait + Sync, const CAPACITY: usize>(
     if sent { came } else { None }
 }
 
+/// A stream refuses a value while all slots are full, and its end comes after all values, at five sizes. In
+/// two of them the queue of tickets has no place for the end until a value is read.
 #[test]
 fn full_slots_refuse_and_the_stream_ends(rt: HostRuntime) -> Result<(), Fail> {
     let alloc = rt.alloc();
@@ -274,6 +287,8 @@ fn full_slots_refuse_and_the_stream_ends(rt: HostRuntime) -> Result<(), Fail> {
     Ok(())
 }
 
+/// A sender that is dropped ends the stream if the queue of tickets has a place for the end, and leaves it
+/// without an end if not.
 #[test]
 fn a_dropped_sender_ends_the_stream_of_slots_where_there_is_room(
     rt: HostRuntime,
@@ -286,12 +301,16 @@ fn a_dropped_sender_ends_the_stream_of_slots_where_there_is_room(
     Ok(())
 }
 
+/// A value waits for a place in the queue of tickets. If the queue took a ticket too many, a
+/// value would be lost.
 #[test]
 fn a_value_waits_for_the_queue_of_tickets(rt: HostRuntime) -> Result<(), Fail> {
     assert!(rt; wait_for_the_queue(&rt, rt.alloc()) == Some(true));
     Ok(())
 }
 
+/// A sender learns that its receiver has left or was dropped. Otherwise a sender that waits for a slot would
+/// wait for good.
 #[test]
 fn a_sender_learns_that_its_receiver_is_gone(rt: HostRuntime) -> Result<(), Fail> {
     assert!(rt; leave_early(&rt, rt.alloc(), false) == Some(true));
@@ -299,6 +318,7 @@ fn a_sender_learns_that_its_receiver_is_gone(rt: HostRuntime) -> Result<(), Fail
     Ok(())
 }
 
+/// A call that was refused or stopped leaves the stream so that the next call goes on.
 #[test]
 fn who_was_refused_goes_on(rt: HostRuntime) -> Result<(), Fail> {
     assert!(rt; stop_and_go_on(&rt, rt.alloc()) == Some(true));
@@ -307,6 +327,7 @@ fn who_was_refused_goes_on(rt: HostRuntime) -> Result<(), Fail> {
     Ok(())
 }
 
+/// All values come in order from one thread to another, at five sizes.
 #[test]
 fn all_values_come_from_one_thread_to_another(rt: HostRuntime) -> Result<(), Fail> {
     let alloc = rt.alloc();

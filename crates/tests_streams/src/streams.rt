@@ -1,5 +1,6 @@
-//! What no clause says: that calls succeed at five capacities, what a sender leaves that finishes, leaves or is dropped, and that
-//! roles come back. And each other public call once.
+//! Streams over a queue, for what no clause says. Calls succeed at five capacities, a sender that
+//! finishes, leaves or is dropped leaves the stream as it has to, and roles come back. Each other
+//! public call is made once.
 use lock_free_queues::spsc::queue::Queue;
 use std::alloc::Global;
 use std::sync::Wait;
@@ -9,7 +10,7 @@ use std::thread::Threads;
 use uses_streams::element::Element;
 use uses_streams::ends::{Arrival, Receiver, Sender, Takes, both_ends, halves};
 
-/// How a sender ends.
+/// How a sender ends: it finishes the stream, leaves it without an end, or is dropped.
 #[derive(Drop)]
 enum Last {
     Finishes,
@@ -17,7 +18,8 @@ enum Last {
     IsDropped,
 }
 
-/// Sends the numbers below `count`, and one more where the stream is full then: whether all went in, and that one did not.
+/// Sends the numbers below `count`, and one more if the stream is full then. True if all went in, and the one
+/// more did not.
 fn fill(sender: &mut Sender<'_, u64>, count: u64, is_full: bool) -> bool {
     let mut right = true;
     for value in 0..count {
@@ -26,7 +28,8 @@ fn fill(sender: &mut Sender<'_, u64>, count: u64, is_full: bool) -> bool {
     right && !(is_full && sender.send(7))
 }
 
-/// Finishes, where the stream is full once a number is received: whether the end was refused just where it is full.
+/// Finishes the stream. In a full one the end is refused until a number is received. True if it was refused
+/// just in that case.
 fn finish_stream(sender: Sender<'_, u64>, receiver: &mut Receiver<'_, u64>, is_full: bool) -> bool {
     match sender.finish() {
         Ok(_sent) => !is_full,
@@ -38,7 +41,7 @@ fn finish_stream(sender: Sender<'_, u64>, receiver: &mut Receiver<'_, u64>, is_f
     }
 }
 
-/// Receives the numbers from one up to another: whether they came in order.
+/// Receives the numbers from `from` to before `to`. True if they came in order.
 fn empty(receiver: &mut Receiver<'_, u64>, from: u64, to: u64) -> bool {
     let mut right = true;
     for value in from..to {
@@ -47,8 +50,8 @@ fn empty(receiver: &mut Receiver<'_, u64>, from: u64, to: u64) -> bool {
     right
 }
 
-/// Sends so many numbers, ends so, and receives all: whether each call answered as it should, and what comes then, twice. None where
-/// the ends are not to be had.
+/// Sends `count` numbers, ends as `last` says, and receives all. It returns whether each call answered right,
+/// and what two further calls of `receive` find. None where memory or an end is refused.
 fn play<const CAPACITY: usize>(
     alloc: Global,
     count: u64,
@@ -71,7 +74,8 @@ fn play<const CAPACITY: usize>(
     Some((right, [receiver.receive(), receiver.receive()]))
 }
 
-/// Sends one value and the end, receives both, and joins the ends: whether the pass gets each role again.
+/// Sends one value and the end, receives both, and joins what the ends leave. It says whether both came, and
+/// whether the joined pass gets each role again.
 fn send_and_join(alloc: Global) -> Option<[bool; 2]> {
     let (queue, pass) = Queue::<Element<u64>, 2>::new(alloc).ok()?;
     let (mut sender, mut receiver) = both_ends(&queue, pass)?;
@@ -89,7 +93,7 @@ fn send_and_join(alloc: Global) -> Option<[bool; 2]> {
     Some([came == [Arrival::Value(7), Arrival::End], is_free])
 }
 
-/// Begins to send and to receive while another has the role: whether it is refused.
+/// Makes a sender and a receiver while another one has the role, and says for each whether it was refused.
 fn begin_beside_another(alloc: Global) -> Option<[bool; 2]> {
     let (queue, pass) = Queue::<Element<u64>, 2>::new(alloc).ok()?;
     let (mine, other) = halves::<u64, 2>(pass)?;
@@ -102,7 +106,8 @@ fn begin_beside_another(alloc: Global) -> Option<[bool; 2]> {
     Some([no_sender, no_receiver])
 }
 
-/// Fills a stream of two places by calls with a limit of tries: whether each answered as it should.
+/// Fills a stream of two places by calls with a limit of tries. True if a call with 0 tries does nothing, two
+/// values go in, and a third one is refused.
 fn fill_by_tries(sender: &mut Sender<'_, u64>, receiver: &mut Receiver<'_, u64>) -> bool {
     let mut right = receiver.receive_within(3) == Arrival::Nothing;
     right &= !sender.send_within(5, 0);
@@ -110,7 +115,9 @@ fn fill_by_tries(sender: &mut Sender<'_, u64>, receiver: &mut Receiver<'_, u64>)
     right && !sender.send_within(8, 3)
 }
 
-/// And empties it.
+/// Ends the full stream of `fill_by_tries` and empties it, by calls with a limit of tries. True if the end
+/// goes in after one value was received, and the values and the end come in order. None where the first try
+/// to finish succeeds.
 fn empty_by_tries(sender: Sender<'_, u64>, receiver: &mut Receiver<'_, u64>) -> Option<bool> {
     let Err(sender) = sender.finish_within(3) else {
         return None;
@@ -123,7 +130,8 @@ fn empty_by_tries(sender: Sender<'_, u64>, receiver: &mut Receiver<'_, u64>) -> 
     Some(right & (receiver.receive_within(0) == Arrival::End))
 }
 
-/// Receives four numbers until the end: one, one more by an iterator, and then the rest. Whether all came.
+/// Receives the numbers 2, 3, 5 and 7: one by a call, one by an iterator, and the rest at once. True if all
+/// came in order.
 fn receive_in_parts(rt: &impl Wait, alloc: Global, receiver: Receiver<'_, u64>) -> Option<bool> {
     let mut receiver = receiver;
     let mut right = receiver.receive_waiting(rt) == Some(2);
@@ -136,7 +144,7 @@ fn receive_in_parts(rt: &impl Wait, alloc: Global, receiver: Receiver<'_, u64>) 
     Some(right && came.as_slice() == [1, 5, 7].as_slice())
 }
 
-/// Who notes so many numbers.
+/// A worker that notes the numbers that it takes, up to `most` of them, and refuses to take more.
 #[derive(Drop)]
 struct Notes {
     numbers: Vec<u64>,
@@ -162,7 +170,7 @@ fn send(rt: &impl Wait, sender: Sender<'_, u64>, count: u64) {
     let _sent = sender.finish_waiting(rt);
 }
 
-/// Receives until the end: how many came, if they came in order.
+/// Receives until the end, and returns how many numbers came. None where one was out of order.
 fn receive<'a>(rt: &'a impl Wait, receiver: Receiver<'a, u64>) -> Option<u64> {
     let mut came = 0u64;
     for value in receiver.values(rt) {
@@ -174,7 +182,8 @@ fn receive<'a>(rt: &'a impl Wait, receiver: Receiver<'a, u64>) -> Option<u64> {
     Some(came)
 }
 
-/// Sends the numbers below `count` from one thread to another: how many came.
+/// Sends the numbers below `count` from one thread to another, and returns how many came. None where an end
+/// is refused or a number was out of order.
 fn cross<R: Threads + Wait + Sync, const CAPACITY: usize>(
     rt: &R,
     alloc: Global,
@@ -190,12 +199,13 @@ fn cross<R: Threads + Wait + Sync, const CAPACITY: usize>(
     came
 }
 
-/// All that was sent, and the end twice.
+/// Each call of `play` answered right, and after the numbers the end came, twice.
 const ENDED: Option<(bool, [Arrival<u64>; 2])> = Some((true, [Arrival::End; 2]));
 
-/// All that was sent, and no end.
+/// Each call of `play` answered right, and after the numbers nothing came: the stream has no end yet.
 const NOT_ENDED: Option<(bool, [Arrival<u64>; 2])> = Some((true, [Arrival::Nothing; 2]));
 
+/// A full stream refuses a number and its end, and ends once there is room, at five capacities.
 #[test]
 fn a_full_stream_refuses_and_ends(rt: HostRuntime) -> Result<(), Fail> {
     let alloc = rt.alloc();
@@ -207,6 +217,8 @@ fn a_full_stream_refuses_and_ends(rt: HostRuntime) -> Result<(), Fail> {
     Ok(())
 }
 
+/// A sender that is dropped ends the stream if there is room for the end, and one that
+/// leaves does not end it.
 #[test]
 fn a_dropped_sender_ends_the_stream_where_there_is_room(rt: HostRuntime) -> Result<(), Fail> {
     let alloc = rt.alloc();
@@ -219,6 +231,8 @@ fn a_dropped_sender_ends_the_stream_where_there_is_room(rt: HostRuntime) -> Resu
     Ok(())
 }
 
+/// Each role has one holder at a time, and comes back when its end leaves. Two senders at once
+/// would mix their numbers.
 #[test]
 fn each_role_has_one_holder_and_comes_back(rt: HostRuntime) -> Result<(), Fail> {
     assert!(rt; send_and_join(rt.alloc()) == Some([true; 2]));
@@ -226,6 +240,7 @@ fn each_role_has_one_holder_and_comes_back(rt: HostRuntime) -> Result<(), Fail> 
     Ok(())
 }
 
+/// Calls with a limit of tries succeed where they can within it, and give up otherwise.
 #[test]
 fn calls_give_up_after_their_tries(rt: HostRuntime) -> Result<(), Fail> {
     let (queue, pass) = Queue::<Element<u64>, 2>::new(rt.alloc())?;
@@ -236,6 +251,7 @@ fn calls_give_up_after_their_tries(rt: HostRuntime) -> Result<(), Fail> {
     Ok(())
 }
 
+/// A stream may be received in parts, by different calls, and each number comes once.
 #[test]
 fn a_stream_is_received_in_parts(rt: HostRuntime) -> Result<(), Fail> {
     let (queue, pass) = Queue::<Element<u64>, 5>::new(rt.alloc())?;
@@ -246,6 +262,8 @@ fn a_stream_is_received_in_parts(rt: HostRuntime) -> Result<(), Fail> {
     Ok(())
 }
 
+/// A worker that refuses a number stops `receive_each`, which goes on behind that number when it is called
+/// again. The number that was refused, 5, is gone.
 #[test]
 fn a_worker_that_takes_no_more_can_go_on(rt: HostRuntime) -> Result<(), Fail> {
     let (queue, pass) = Queue::<Element<u64>, 5>::new(rt.alloc())?;
@@ -256,7 +274,7 @@ fn a_worker_that_takes_no_more_can_go_on(rt: HostRuntime) -> Result<(), Fail> {
         numbers: Vec::new(rt.alloc()),
         most: 2,
     };
-    // (5 was received, and not taken)
+    // The number 5 was received, and the worker did not take it.
     let stopped = !receiver.receive_each(&rt, &mut notes);
     notes.most = 9;
     assert!(rt; stopped && receiver.receive_each(&rt, &mut notes));
@@ -266,6 +284,7 @@ fn a_worker_that_takes_no_more_can_go_on(rt: HostRuntime) -> Result<(), Fail> {
     Ok(())
 }
 
+/// All numbers come in order from one thread to another, at five capacities.
 #[test]
 fn all_come_from_one_thread_to_another(rt: HostRuntime) -> Result<(), Fail> {
     let alloc = rt.alloc();

@@ -1,4 +1,4 @@
-//! A struct that a stream carries. `bin/words` writes its impls.
+//! A struct that goes through a stream. `bin/words` writes its impls of `Words` and `Short`.
 use lock_free_queues::spsc::queue::Queue;
 use std::test::Fail;
 use steps::words::Words;
@@ -59,6 +59,8 @@ impl Short for Sighting {
 }
 // bin/words: end
 
+/// A struct comes out of a stream as it went in, and then the end. A word at a wrong place
+/// would change a field.
 #[test]
 fn a_struct_through_a_stream(rt: HostRuntime) -> Result<(), Fail> {
     let (queue, pass) = Queue::<Element<Sighting>, 2>::new(rt.alloc())?;

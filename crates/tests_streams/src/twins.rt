@@ -1,4 +1,5 @@
-//! Calls of an overflowing queue's consumer once more, with the clauses that the tests have no use for.
+//! Calls of an overflowing queue's consumer in `uses_streams`, each with the clauses that no test uses, so
+//! that no clause can go out of a call unnoticed.
 ghost use Rattle.std.specs.Prelude.{◌≡◌, ◌<◌, ℕ, None, IfSome, IfNone};
 ghost use Rattle.model.specs.declared.event.Item.TheVariants.{Index};
 ghost use Rattle.lock_free_queues.specs.Queues.Contracts.{PopFoundNone};
@@ -9,7 +10,7 @@ use lock_free_queues::spsc::safely_overflowing_index_queue::Consumer;
 use std::sync::Wait;
 use uses_streams::queues;
 
-/// Who waits takes the number that it gives as the oldest one, after tries that found none.
+/// A pop that waits takes the number that it answers as the oldest one, after tries that found none.
 pub fn pop_overflowing_waiting(rt: &impl Wait, consumer: &mut Consumer<'_>) -> u64
     ensures queue { consumer_queue consumer.new ≡ consumer_queue consumer.old }
     ensures share { (consumer_view consumer.new).share ≡ (consumer_view consumer.old).share }
@@ -18,7 +19,8 @@ pub fn pop_overflowing_waiting(rt: &impl Wait, consumer: &mut Consumer<'_>) -> u
     queues::pop_overflowing_waiting(rt, consumer)
 }
 
-/// What comes was taken by the last of so many tries as the oldest one, or each found none. Without a capacity nothing changes.
+/// A pop with a limit of tries took what it answers as the oldest number, by the last of at most `tries`
+/// tries, or each of them found none. Without capacity it answers None and the pass learns nothing.
 pub fn pop_overflowing_within(
     rt: &impl Wait,
     consumer: &mut Consumer<'_>,

@@ -1,4 +1,5 @@
-//! Bit sets and counting bit sets: what two set, a third takes out or it is left, at each place.
+//! Bit sets and counting bit sets between three threads. What two threads set at a place, a third takes out,
+//! or it is left there: nothing is lost, and nothing comes twice.
 use crate::rests::Rests;
 use crate::tasks::{Beside, Turn, Turns, User, run_three};
 use lock_free::mpmc::bit_set::BitSet;
@@ -10,16 +11,17 @@ use std::sync::atomic::{AtomicU64, Ordering};
 use std::test::Fail;
 use std::thread::Threads;
 
-/// How often places are taken out.
+/// How often the third thread takes all places out.
 const ROUNDS: u64 = 100;
 
-/// For each place how much was set there that has not been taken out.
+/// For each place how much was set there and not yet taken out, as the threads note it.
 #[derive(Drop)]
 struct Tally {
     of: Vec<AtomicU64>,
 }
 
 impl Tally {
+    /// A tally of this many places, each 0.
     fn new(alloc: Global, places: usize) -> Result<Tally, AllocError> {
         let mut of = Vec::with_capacity(alloc, places)?;
         for _ in 0..places {
@@ -28,19 +30,22 @@ impl Tally {
         Ok(Tally { of })
     }
 
+    /// Notes that `number` was set at the place.
     fn add(&self, place: usize, number: u64) {
         if let Some(sum) = self.of.get(place) {
             sum.fetch_add(number, Ordering::SeqCst);
         }
     }
 
+    /// Notes that `number` was taken out of the place. The word wraps, since it may be noted
+    /// before what was set is.
     fn take(&self, place: usize, number: u64) {
         if let Some(sum) = self.of.get(place) {
             sum.fetch_sub(number, Ordering::SeqCst);
         }
     }
 
-    /// Whether as much was taken out as was set, at each place.
+    /// Whether as much was taken out as was set, at each place. Only asked when all threads have ended.
     fn is_even(&self) -> bool {
         let mut well = true;
         for sum in self.of.iter() {
@@ -50,26 +55,27 @@ impl Tally {
     }
 }
 
-/// One who sets places and takes them out.
+/// Somebody who sets places of a set and takes them out.
 trait Places: Drop + Sized {
-    /// Another one. None where there is no further handle.
+    /// Another one, by a handle of its own. None where there is no further handle.
     fn another(&mut self) -> Option<Self>;
 
     /// How many places there are.
     fn number(&self) -> usize;
 
-    /// Sets a place: how much it added there.
+    /// Sets a place, and returns how much that added: 1 or 0.
     fn set(&mut self, rt: &impl Wait, place: usize) -> u64;
 
-    /// Takes all that stands out, and rests inside the call, at the first place, where there are rests: whether there was
-    /// something.
+    /// Takes out all that stands, and notes it. At the first place it rests inside the call, where there are
+    /// rests. `Nothing` where nothing stood.
     fn reset(&mut self, tally: &Tally, rests: Option<&Rests>) -> Turn;
 
-    /// Takes out what stands at one place, where it can.
+    /// Takes out what stands at one place, where the structure has such a call, and notes it.
     fn reset_one(&mut self, rt: &impl Wait, tally: &Tally);
 }
 
-/// What a reset brought that has come to a place after so many, and rests at the first one, where it rests at all.
+/// What a `reset` came to at one more place. At its first place it rests, where there are rests, and is wrong
+/// if the rest reached its limit.
 fn come_to_place(rests: Option<&Rests>, before: Turn) -> Turn {
     match (before, rests) {
         (Turn::Nothing, Some(rests)) => Turn::of(rests.rest()),
@@ -120,7 +126,7 @@ impl<'a> Places for counting_bit_set::Handle<'a> {
         self.capacity()
     }
 
-    /// Each counts.
+    /// Adds 1 to the count of the place, whatever it was.
     fn set(&mut self, _rt: &impl Wait, place: usize) -> u64 {
         if place < self.capacity() {
             self.set(place);
@@ -139,10 +145,11 @@ impl<'a> Places for counting_bit_set::Handle<'a> {
         turn
     }
 
+    /// A counting bit set has no call that takes out one place.
     fn reset_one(&mut self, _rt: &impl Wait, _tally: &Tally) {}
 }
 
-/// Sets each place, again and again.
+/// Sets each place, one after another, in each turn, and notes what that added.
 #[derive(Drop)]
 struct SetsAll<'s, P: Places> {
     user: P,
@@ -159,7 +166,7 @@ impl<'s, P: Places> User for SetsAll<'s, P> {
     }
 }
 
-/// Takes places out, one after another and all at once.
+/// Takes out up to four places one by one, and then all at once with a rest, in each turn.
 #[derive(Drop)]
 struct TakesOut<'s, P: Places> {
     user: P,
@@ -176,8 +183,9 @@ impl<'s, P: Places> User for TakesOut<'s, P> {
     }
 }
 
-/// Whether what two set at each place is taken out by a third, or is left and taken out in the end. Each of the two sets all
-/// places between the begin and the end of each reset of all. None where there are no further handles.
+/// Two threads set places, and a third takes them out or leaves them to the end. During each `reset` of the
+/// third, one of the two sets all places. None where there are no further handles; otherwise whether what was
+/// set and what was taken out are equal at each place.
 fn set_and_reset<R: Threads + Wait + Sync, P: Places + Send>(
     rt: &R,
     mut user: P,
@@ -203,7 +211,7 @@ fn set_and_reset<R: Threads + Wait + Sync, P: Places + Send>(
     Some(well && tally.is_even())
 }
 
-/// Whether it goes well with a new bit set of this capacity.
+/// Plays `set_and_reset` on a new bit set of this capacity.
 fn use_bits<R: Threads + Wait + Sync>(
     rt: &R,
     alloc: Global,
@@ -214,7 +222,7 @@ fn use_bits<R: Threads + Wait + Sync>(
     Ok(set_and_reset(rt, set.handle(pass), &tally) == Some(true))
 }
 
-/// The same of a counting bit set.
+/// Plays `set_and_reset` on a new counting bit set of this capacity.
 fn use_counts<R: Threads + Wait + Sync>(
     rt: &R,
     alloc: Global,
@@ -225,6 +233,8 @@ fn use_counts<R: Threads + Wait + Sync>(
     Ok(set_and_reset(rt, set.handle(pass), &tally) == Some(true))
 }
 
+/// Plays sets whose places fill less than a word, a word, just more than a word, and many words. A failure
+/// says that something that was set was lost or taken out twice.
 #[test]
 fn sets_between_threads(rt: HostRuntime) -> Result<(), Fail> {
     for capacity in [9, 64, 65, 1000] {

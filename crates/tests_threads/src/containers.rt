@@ -1,5 +1,5 @@
-//! Containers of pairs with equal halves: pairs come and go, and are seen, found and recovered whole; and the lock keeps all
-//! out.
+//! Containers of pairs with equal halves between three threads. Pairs are added and removed, and states,
+//! `find` and `recover` show them whole; no pair is added once the container is locked.
 use crate::indices::{EVERY, Guest, Outcome, Part, VISITS, further_visits};
 use crate::owners::{Owner, play};
 use crate::rests::Rests;
@@ -15,17 +15,19 @@ use std::sync::Wait;
 use std::test::Fail;
 use std::thread::Threads;
 
-/// A value of two numbers, which are equal. Both are 9 as it is added, and then the number of its index.
+/// A value of two numbers, which are equal. Both are 9 as the value is added, and then the
+/// number of its index.
 type Pair = (u64, u64);
 
+/// The pair that is added, before it is replaced by one of its index.
 const ADDED: Pair = (9, 9);
 
-/// Whether a pair at this index has equal halves, and is one that may stand there.
+/// Whether a pair at this index has equal halves, and is `ADDED` or the pair of its index.
 fn is_whole(pair: &Pair, index: usize) -> bool {
     pair.0 == pair.1 && (pair.0 == ADDED.0 || pair.0 == index as u64)
 }
 
-/// An owner who uses a container.
+/// A handle of a container, with the owner for which it adds pairs.
 struct PairOwner<'a> {
     container: Handle<'a, Pair>,
     owner: OwnerId,
@@ -43,6 +45,7 @@ impl<'a> Drop for PairOwner<'a> {
 impl<'a> Guest for PairOwner<'a> {
     type Held = ContainerHandle;
 
+    // Each of the three threads may be told of the lock.
     const LOCKS: u64 = 3;
 
     fn another(&mut self, owner: u64) -> Option<PairOwner<'a>> {
@@ -51,7 +54,7 @@ impl<'a> Guest for PairOwner<'a> {
         Some(PairOwner { container, owner })
     }
 
-    /// Adds a pair, and replaces it by one of its index.
+    /// Adds a pair, and replaces it by the pair of its index. `Wrong` where it cannot be replaced.
     fn take(&mut self, rt: &impl Wait) -> Result<ContainerHandle, Outcome> {
         let handle = match self.container.add(rt, ADDED, self.owner) {
             Ok(handle) => handle,
@@ -69,7 +72,8 @@ impl<'a> Guest for PairOwner<'a> {
         held.index()
     }
 
-    /// It rests at the first pair. Each is whole, and the owner's.
+    /// Finds the owner's pairs, and rests in the callback of the first. True if one at least comes, each is
+    /// whole and the owner's, and no more come than the call says.
     fn find(&mut self, place: Place<'_>, at: u64) -> bool {
         let owner = self.owner;
         let (mut visited, mut well) = (0usize, true);
@@ -116,7 +120,9 @@ impl<'a> Owner for PairOwner<'a> {
         }
     }
 
-    /// It rests where it is asked about the first pair. Each is whole.
+    /// Recovers the owner, and rests where the call asks about the first pair. Each pair is whole, and its
+    /// index leaves the room as the call asks about it. None where one is torn or was not in the room, or the
+    /// container is locked.
     fn recover(&mut self, rt: &impl Wait, place: Place<'_>, mode: ReleaseMode) -> Option<u64> {
         let (mut number, mut well) = (0u64, true);
         let state = self.container.recover(
@@ -144,7 +150,7 @@ impl<'a> Owner for PairOwner<'a> {
     }
 }
 
-/// Keeps a state up to date.
+/// Keeps a state up to date, turn by turn, while others add and remove pairs.
 struct Looks<'a, 's> {
     owner: PairOwner<'a>,
     state: &'s mut ContainerState<Pair>,
@@ -159,7 +165,8 @@ impl<'a, 's> Drop for Looks<'a, 's> {
     }
 }
 
-/// Brings a state up to date: whether it shows a pair, and each is whole.
+/// Brings a state up to date. `Right` if it shows a pair, `Nothing` if it shows none, and `Wrong` if it shows
+/// a pair that is not whole.
 fn look(
     rt: &impl Wait,
     container: &mut Handle<'_, Pair>,
@@ -187,8 +194,9 @@ impl<'a, 's> User for Looks<'a, 's> {
     }
 }
 
-/// Whether pairs that come and go are seen whole by one who keeps a state up to date: one at least in each rest of a pair in the
-/// container, and none in the end. None where there are no further handles.
+/// Two threads add and remove pairs while a third keeps a state up to date, and looks at least once in each
+/// of their rests. Each pair that it sees is whole, it sees some at least 50 times, and none in the end. None
+/// where there are no further handles.
 fn change_and_look<R: Wait + Threads + Sync>(
     rt: &R,
     owner: &mut PairOwner<'_>,
@@ -216,7 +224,7 @@ fn change_and_look<R: Wait + Threads + Sync>(
     Some(well && shows_none)
 }
 
-/// Whether it goes well with a new container.
+/// Plays a part on a new container, and says whether it went well.
 fn play_anew<R: Wait + Threads + Sync>(rt: &R, alloc: Global, what: Part) -> Result<bool, Fail> {
     let owner = OwnerId::new(0)?;
     let room = Room::new(alloc, what.capacity())?;
@@ -230,6 +238,8 @@ fn play_anew<R: Wait + Threads + Sync>(rt: &R, alloc: Global, what: Part) -> Res
     Ok(well == Some(true))
 }
 
+/// Plays each part without a state on new containers. A failure says that an index had two holders, that a
+/// pair was torn or lost, or that one was added after the lock.
 #[test]
 fn pairs_between_threads(rt: HostRuntime) -> Result<(), Fail> {
     for what in [Part::ComeAndGo, Part::LockLast, Part::Die] {
@@ -240,6 +250,8 @@ fn pairs_between_threads(rt: HostRuntime) -> Result<(), Fail> {
     Ok(())
 }
 
+/// Plays the part with a state. A failure says that the state showed half of a pair, saw too few, or showed
+/// one that was removed.
 #[test]
 fn pairs_are_seen_whole(rt: HostRuntime) -> Result<(), Fail> {
     assert!(rt; play_anew(&rt, rt.alloc(), Part::Look)?);

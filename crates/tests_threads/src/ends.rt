@@ -1,27 +1,27 @@
-//! The ends of a queue: numbers go in at one, and come out at the other in their order.
+//! The ends of a queue, called with numbers. Each number goes in as a word or a pair that shows whether it
+//! was torn, and comes out as a number again.
 use lock_free::spsc::{index_queue, queue, safely_overflowing_index_queue as overflowing};
 use std::sync::Wait;
 
-/// A value of two numbers, which are equal.
+/// A pair of two numbers, which are equal in each value that is pushed.
 pub type Pair = (u64, u64);
 
-/// One whose calls are written down: an end of a queue, or one beside both ends.
+/// Somebody whose calls are written down: the producer, the consumer, or one who asks for the length.
 pub trait Caller: Drop + Sized {
-    /// Makes the so many-th call, which gives this number where it gives one. It answers
-    /// - where it gives one, the number that does not wait thereafter, if any: this one, which is not taken, or the oldest in
-    ///   its place;
-    /// - where it takes one, the number that came, if any, at each second call after a look at it: where the look told another
-    ///   one, or a value came that was made of none, a number past all others;
-    /// - and else how many numbers wait.
+    /// Makes the call of the number `at`. A producer pushes `number`, and answers the number that does not
+    /// wait thereafter, if any: its own, if the queue did not take it, or the oldest, which it pushed out. A
+    /// consumer pops, at each second call after a peek, and answers the number that came, if any, or
+    /// `u64::MAX` if it was torn or the peek told another one. Others answer how many numbers wait.
     fn call(&mut self, rt: &impl Wait, at: u64, number: u64) -> Option<u64>;
 }
 
-/// A word that both halves of which tell the number.
+/// A word whose halves both tell the number: the low half is the number, the high half its complement.
 fn word_of(number: u64) -> u64 {
     (!number << 32) | (number & 0xffff_ffff)
 }
 
-/// The number of such a word, and of another one a number past all others.
+/// The number in such a word. `u64::MAX`, which is no number of these tests, where the halves
+/// tell different numbers.
 fn number_of(word: u64) -> u64 {
     let number = word & 0xffff_ffff;
     if word_of(number) == word {
@@ -31,18 +31,20 @@ fn number_of(word: u64) -> u64 {
     }
 }
 
-/// The number of a pair of which both are this number, and of another one a number past all others.
+/// The number of a pair of two equal numbers. `u64::MAX`, which is no number of these
+/// tests, where they differ.
 fn number_of_pair(pair: Pair) -> u64 {
     let (left, right) = pair;
     if left == right { left } else { u64::MAX }
 }
 
-/// The number that does not wait where this one is taken or not.
+/// The number that does not wait after a push of it: None if it was taken, and the number itself if not.
 fn unless(taken: bool, number: u64) -> Option<u64> {
     if taken { None } else { Some(number) }
 }
 
-/// What came, unless a look told another one.
+/// What a pop answered, unless a peek right before it told another value. In that case it is `u64::MAX`,
+/// which is no number of these tests.
 fn as_told(told: Option<u64>, came: Option<u64>) -> Option<u64> {
     if told.is_none() || told == came {
         came
@@ -76,7 +78,7 @@ impl<'a> Caller for queue::Producer<'a, Pair> {
     }
 }
 
-/// The number of a pair that came or was looked at, if any.
+/// The number of a pair that came or was looked at, if one did.
 fn number_in(pair: Option<Pair>) -> Option<u64> {
     Some(number_of_pair(pair?))
 }
@@ -110,7 +112,7 @@ impl<'a> Caller for overflowing::Consumer<'a> {
     }
 }
 
-/// Nobody beside both.
+/// A caller that asks for nothing, for a queue whose length nobody asks for.
 #[derive(Drop)]
 pub struct Nobody;
 

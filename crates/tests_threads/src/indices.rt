@@ -1,4 +1,5 @@
-//! What is done with each structure that hands out indices: three take them and give them back, also until one locks.
+//! What three threads play with any structure that hands out indices (`Guest`): they take indices and give
+//! them back, also until the structure is locked.
 use crate::limit;
 use crate::rests::Rests;
 use crate::room::{MORE, Place, Room};
@@ -7,51 +8,57 @@ use lock_free::mpmc::unique_index_set_enums::{ReleaseMode, ReleaseState};
 use std::sync::Wait;
 use std::thread::Threads;
 
-/// How a visit ended, or why there was none.
+/// How a visit ended, in which an index is taken and given back, or why there was none.
 #[derive(Clone, Copy)]
 pub enum Outcome {
-    /// It had an index, and gave it back.
+    /// It had an index, and gave it back; the structure is not locked.
     Left,
-    /// It had an index, and as it gave it back it was told of the lock.
+    /// It had an index, and was told as it gave it back that the structure is locked.
     Locked,
-    /// There was no index.
+    /// All indices were out.
     Full,
-    /// It was not let in.
+    /// It got no index since the structure was locked.
     Closed,
-    /// Another had its index, or it was not found, or it could not be given back.
+    /// Somebody else held its index, or it was not found, or it could not be given back.
     Wrong,
 }
 
-/// One who takes indices and gives them back.
+/// Somebody who takes indices of a structure and gives them back.
 pub trait Guest: Drop + Sized {
-    /// An index that it has.
+    /// An index in hand.
     type Held: Drop;
 
-    /// How many of three are told of the lock at most as they give an index back.
+    /// How many of three visitors are told of the lock at most, as they give an index back.
     const LOCKS: u64;
 
-    /// Another one, of this owner where there are owners. None where there is no further handle.
+    /// Another guest of the same structure, as this owner where indices have owners. None where there is no
+    /// further handle.
     fn another(&mut self, owner: u64) -> Option<Self>;
 
-    /// Takes an index, or tells that there was none, or that it was not let in.
+    /// Takes an index, or says why there is none: `Full` or `Closed`, or `Wrong` where the
+    /// call itself failed.
     fn take(&mut self, rt: &impl Wait) -> Result<Self::Held, Outcome>;
 
+    /// The number of the index.
     fn index(held: &Self::Held) -> usize;
 
-    /// Finds the indices of its owner, and rests inside the call, or just rests where there are no owners: whether it has one
-    /// at least, and all is as it must be.
+    /// Finds the indices of its owner, and rests inside that call. A structure without owners only rests.
+    /// True if the owner has an index, what was found is right, and the rest ended within its limit.
     fn find(&mut self, place: Place<'_>, at: u64) -> bool;
 
-    /// Gives an index back: what is told of the lock. None where it could not be given back.
+    /// Gives the index back, and says whether the structure is locked then. None where the index
+    /// could not be given back.
     fn give(&mut self, rt: &impl Wait, held: Self::Held, mode: ReleaseMode) -> Option<ReleaseState>;
 
-    /// How many indices are out.
+    /// How many indices are out, as the structure says.
     fn number(&mut self, rt: &impl Wait) -> usize;
 
+    /// Whether the structure is locked, as it says.
     fn is_locked(&mut self) -> bool;
 }
 
-/// Takes an index, finds it and rests, and gives it back in this mode.
+/// Takes an index, finds it and rests, and gives it back in this mode. `Wrong` where somebody else held the
+/// index, it was not found, or it could not be given back.
 fn visit<G: Guest>(
     rt: &impl Wait,
     guest: &mut G,
@@ -77,8 +84,9 @@ fn visit<G: Guest>(
     }
 }
 
-/// Comes and goes; also until it is locked, where it leaves so that the last one locks. Nobody is inside as one locks, and
-/// nobody gets in later.
+/// Takes an index and gives it back, turn by turn. With `locks` it asks for the lock at the last index, until
+/// the structure is locked. A turn is wrong if a visitor is inside as the structure is locked, or takes an
+/// index after that.
 pub struct Visitor<'s, G: Guest> {
     pub guest: G,
     pub place: Place<'s>,
@@ -114,7 +122,8 @@ impl<'s, G: Guest> User for Visitor<'s, G> {
     }
 }
 
-/// So many visits of another one of this owner. None where there is no further handle.
+/// A task of `number` visits by another guest of this owner. It asks for the lock at the last index if the
+/// place has visitors wait. None where there is no further handle.
 pub fn further_visits<'s, G: Guest>(
     guest: &mut G,
     owner: u64,
@@ -130,7 +139,8 @@ pub fn further_visits<'s, G: Guest>(
     Some(Turns::of(visits, number, place.rests))
 }
 
-/// Whether all visits of three go well, of whom two are of one owner. None where there are no further handles.
+/// Runs three visitors, two of them of owner 1 and one of owner 2, and says whether all visits went well.
+/// None where there are no further handles.
 fn visit_by_three<R: Wait + Threads + Sync, G: Guest + Send>(
     rt: &R,
     guest: &mut G,
@@ -145,13 +155,15 @@ where
     Some(run_three(rt, first, second, third))
 }
 
-/// How often each of three takes an index, and at which times it rests with one in hand.
+/// How many visits each of three threads makes in `come_and_go`.
 pub const VISITS: u64 = 3_200;
 
+/// A visitor rests with an index in hand at each visit whose number is a multiple of this.
 pub const EVERY: u64 = 64;
 
-/// Whether three take indices and give them back, and each but the last rested as often as it had to until another came to
-/// such a rest. None is out in the end, and it is not locked. None where there are no further handles.
+/// Three threads take indices and give them back. At least 100 of their 150 rests have to be ended by another
+/// thread that rested with an index in hand, no index is out in the end, and nothing is locked. None where
+/// there are no further handles.
 fn come_and_go<R: Wait + Threads + Sync, G: Guest + Send>(
     rt: &R,
     guest: &mut G,
@@ -173,8 +185,9 @@ where
     Some(well && !guest.is_locked())
 }
 
-/// Whether three come and go until it is locked, and stays so: some were told so, and some came while another was inside. None
-/// where there are no further handles.
+/// Three threads take indices and give them back until one is told of the lock, and the structure stays
+/// locked. At least one and at most `LOCKS` are told, and no index is out in the end. More than `MORE` visits
+/// show that some came while others were inside. None where there are no further handles.
 fn lock_last<R: Wait + Threads + Sync, G: Guest + Send>(
     rt: &R,
     guest: &mut G,
@@ -197,20 +210,21 @@ where
     Some(well && guest.is_locked())
 }
 
-/// What is done.
+/// What a test plays with a structure.
 #[derive(Clone, Copy)]
 pub enum Part {
-    /// Three take indices and give them back.
+    /// Three threads take indices and give them back.
     ComeAndGo,
-    /// Three come and go until one locks.
+    /// Three threads take indices and give them back until the structure is locked.
     LockLast,
-    /// Owners die one after another.
+    /// Owners die and are recovered, one after another.
     Die,
-    /// Values come and go, and are looked at.
+    /// Values are added and removed, and a state shows them meanwhile.
     Look,
 }
 
 impl Part {
+    /// The name of the part in the message of a test that fails.
     pub fn name(self) -> &'static str {
         match self {
             Part::ComeAndGo => "come and go",
@@ -220,7 +234,7 @@ impl Part {
         }
     }
 
-    /// How many indices there are: fewer than those who want one, so that some are refused.
+    /// How many indices the structure has. They are fewer than the threads want, so that some are refused.
     pub fn capacity(self) -> usize {
         match self {
             Part::Die => 7,
@@ -228,7 +242,7 @@ impl Part {
         }
     }
 
-    /// How often it is done, each time with a new structure.
+    /// How often the part is played, each time with a new structure.
     pub fn rounds(self) -> u64 {
         match self {
             Part::LockLast => 32,
@@ -237,7 +251,8 @@ impl Part {
     }
 }
 
-/// Whether it goes well. None where there are no further handles, and where it asks for owners or values.
+/// Plays a part that needs neither owners nor values, and says whether it went well. None for another part,
+/// and where there are no further handles.
 pub fn play<R: Wait + Threads + Sync, G: Guest + Send>(
     rt: &R,
     guest: &mut G,

@@ -1,5 +1,6 @@
-//! Threads that run side by side, on what they share, whoever has the processor: what has to overlap does since threads rest
-//! inside of what they do, and each gives up, and its test fails, after so many turns in a row that brought nothing.
+//! Threads that use one structure at the same time. A thread rests in the middle of a call until others have
+//! gone on, so calls overlap whoever has the processor. Each thread gives up, and its test fails, after a
+//! number of turns in a row that brought nothing (`limit`).
 #![tactic(auto)]
 
 #[cfg(test)]

@@ -1,5 +1,5 @@
-//! Calls on a queue that are written down, each with the time before and after it: as if one after another, though many of
-//! them overlap.
+//! Three threads call a queue and write down each call with the times before and after it. Many calls
+//! overlap, and a test then looks for an order of all of them.
 use crate::ends::Caller;
 use crate::limit::Meeting;
 use crate::log::{Calls, Log, now};
@@ -13,20 +13,21 @@ use std::thread::Threads;
 /// How many calls each thread makes in a round.
 pub const CALLS: u64 = 10_000;
 
-/// At which calls all three meet in the middle of their call: each one of so many.
+/// At each call whose number is a multiple of this, all threads meet in the middle of their call.
 const MEETS: u64 = 40;
 
 /// What the threads of a round share.
 #[derive(Drop)]
 struct Round {
     clock: AtomicU64,
-    /// Where all meet in the middle of some of their calls, so that these overlap.
+    /// Where all threads meet in the middle of some of their calls, so that these overlap.
     meeting: Meeting,
-    /// Whether each lets others run at some of its calls, so that fewer overlap: in the second round.
+    /// Whether each thread lets others run after some of its calls, so that fewer calls overlap.
     rests: bool,
 }
 
 impl Round {
+    /// A new round of this many threads, with or without rests.
     fn new(rests: bool, threads: u64) -> Round {
         Round {
             clock: AtomicU64::new(0),
@@ -35,14 +36,14 @@ impl Round {
         }
     }
 
-    /// Meets the others within the times that a call is written down with, where that is due: at each second time before the
-    /// call is made, and else after it. False at the limit.
+    /// Meets the other threads while the call is being written down, if that is due. At each second meeting
+    /// it is before the structure is called, and else after. False where the meeting reached its limit.
     fn meet(&self, at: u64, is_before: bool) -> bool {
         let time = at / MEETS;
         at % MEETS != 0 || (time % 2 == 0) != is_before || self.meeting.wait(time)
     }
 
-    /// Lets another thread run, at some of the calls.
+    /// Lets another thread run after each `every`-th call, in a round with rests.
     fn rest(&self, at: u64, every: u64) {
         if self.rests && every != 0 && at % every == 0 {
             thread::yield_now();
@@ -50,10 +51,12 @@ impl Round {
     }
 }
 
-/// Makes its calls and writes them down. At each of so many it lets others run, in a round with rests.
+/// A thread's calls, which it writes down. In a round with rests it lets others run after
+/// each `every`-th of them.
 struct Logs<'s, C: Caller> {
     caller: C,
-    /// How many calls did not answer the number that they were to give.
+    /// The number that the next push gives. A push that answers its own number was refused,
+    /// and gives it again.
     number: u64,
     round: &'s Round,
     every: u64,
@@ -73,6 +76,7 @@ impl<'s, C: Caller> Drop for Logs<'s, C> {
 }
 
 impl<'s, C: Caller> Logs<'s, C> {
+    /// The calls of this caller, written into `log`.
     fn of(caller: C, round: &'s Round, every: u64, log: &'s mut Log) -> Logs<'s, C> {
         Logs {
             caller,
@@ -100,8 +104,9 @@ impl<'s, C: Caller> User for Logs<'s, C> {
     }
 }
 
-/// Logs the calls of three threads on a new queue, or of two where no length is asked for, of whom some calls of each overlap
-/// some of each other: whether each call came to an end within the limit, and there was room for it.
+/// Logs the calls of three threads on a new queue: pushes, pops, and questions for the length if
+/// `asks`. In some calls all threads meet, so that these overlap. True if each call ended within the
+/// limit, and was written down.
 pub fn log_calls<R: Wait + Threads + Sync, G: Caller + Send, T: Caller + Send, L: Caller + Send>(
     rt: &R,
     gives: G,

@@ -1,4 +1,5 @@
-//! What is done with each structure whose indices have owners, besides: owners die and are recovered beside others.
+//! What three threads play with structures whose indices have owners (`Owner`): owners die and are recovered
+//! while others take indices and give them back.
 use crate::indices;
 use crate::indices::{Guest, Part, Visitor};
 use crate::rests::Rests;
@@ -8,20 +9,21 @@ use lock_free::mpmc::unique_index_set_enums::ReleaseMode;
 use std::sync::Wait;
 use std::thread::Threads;
 
-/// One who takes indices for owners. An index that is dropped without being given back stays out.
+/// Somebody who takes indices for an owner. An index that is dropped and not given back stays out.
 pub trait Owner: Guest {
-    /// Goes on as this owner: whether there is one of this number.
+    /// Goes on as the owner of this number. False where no owner has this number.
     fn act_as(&mut self, owner: u64) -> bool;
 
-    /// Recovers its owner, each index of whom leaves the room before it is free, and rests inside the call: how many came
-    /// back. None where one was not the owner's, or did not come as it must, or it is locked.
+    /// Recovers its owner, who counts as dead, and rests inside the call. Each index leaves the room before
+    /// it is free. It returns how many came back; None where an index was not the owner's, was not in the
+    /// room, or the structure is locked.
     fn recover(&mut self, rt: &impl Wait, place: Place<'_>, mode: ReleaseMode) -> Option<u64>;
 
-    /// Whether its owner has none.
+    /// Whether its owner holds no index, as the structure says.
     fn has_none(&mut self) -> bool;
 }
 
-/// Takes so many indices, of which none is given back: whether there were so many.
+/// Takes `number` indices and gives none back. False where one of them was refused.
 fn fill<G: Owner>(rt: &impl Wait, guest: &mut G, number: usize) -> bool {
     let mut well = true;
     for _ in 0..number {
@@ -30,14 +32,16 @@ fn fill<G: Owner>(rt: &impl Wait, guest: &mut G, number: usize) -> bool {
     well
 }
 
-/// The number of the first owner that dies, how many die, and how many indices each has at most.
+/// The number of the first owner that dies; the next ones follow it.
 const FIRST: u64 = 100;
 
+/// How many owners die, one after another.
 const DEATHS: u64 = 50;
 
+/// How many indices a dying owner takes at most.
 const MOST: u64 = 5;
 
-/// Takes what is free for one owner after another, each of which is recovered.
+/// Takes free indices for one owner after another, each of which dies with them and is recovered.
 #[derive(Drop)]
 struct Dies<'s, G: Owner> {
     guest: G,
@@ -45,7 +49,7 @@ struct Dies<'s, G: Owner> {
 }
 
 impl<'s, G: Owner> Dies<'s, G> {
-    /// Takes what is free, up to five: whether nobody else had it, and how much it was.
+    /// Takes up to `MOST` indices. It returns whether nobody else held one of them, and how many they were.
     fn keep(&mut self, rt: &impl Wait) -> (bool, u64) {
         let (mut well, mut number) = (true, 0u64);
         for _ in 0..MOST {
@@ -59,7 +63,9 @@ impl<'s, G: Owner> Dies<'s, G> {
 }
 
 impl<'s, G: Owner> User for Dies<'s, G> {
-    /// At each second time the recovery locks if no index is out then, which one always is.
+    /// Takes indices for the owner of this turn, and recovers it. All of them have to come back, and none may
+    /// be found afterwards. At each second turn the recovery asks for the lock at the last index, which is
+    /// not due, since one index is always out.
     fn turn(&mut self, rt: &impl Wait, at: u64) -> Turn {
         if !self.guest.act_as(FIRST.wrapping_add(at)) {
             return Turn::Wrong;
@@ -78,7 +84,8 @@ impl<'s, G: Owner> User for Dies<'s, G> {
     }
 }
 
-/// One who takes an index and gives it back, and does not rest. None where there is no further handle.
+/// A visitor of this owner that does not rest, and goes on until the dying owners have ended. None where
+/// there is no further handle.
 fn further_visitor<'s, G: Owner>(
     guest: &mut G,
     owner: u64,
@@ -94,9 +101,9 @@ fn further_visitor<'s, G: Owner>(
     Some(Beside::of(visits, place.rests))
 }
 
-/// Whether all goes well as owners die and are recovered beside two who take indices and give them back, of whom each has a
-/// whole turn between the begin and the end of each recovery. Just the one index is out in the end that was before. None where
-/// there are no further handles.
+/// Owners die and are recovered, `DEATHS` times, beside two visitors. Between the begin and the end of each
+/// recovery one of these has a whole turn. One index, which was taken before, is out in the end, and nothing
+/// is locked. None where there are no further handles.
 fn die<R: Wait + Threads + Sync, G: Owner + Send>(
     rt: &R,
     guest: &mut G,
@@ -123,7 +130,8 @@ where
     Some(well && rests.crossed() >= DEATHS && guest.number(rt) == 1 && !guest.is_locked())
 }
 
-/// Whether it goes well. None where there are no further handles, and where it asks for values.
+/// Plays a part, with or without deaths, and says whether it went well. None where the part needs values, and
+/// where there are no further handles.
 pub fn play<R: Wait + Threads + Sync, G: Owner + Send>(
     rt: &R,
     guest: &mut G,

@@ -1,4 +1,4 @@
-//! Queues between three threads, of whom one pushes, one pops and looks, and one asks for the length.
+//! Queues between three threads: one pushes, one pops and peeks, and one asks for the length.
 use crate::ends::{Nobody, Pair};
 use crate::log::Calls;
 use crate::logged::{CALLS, log_calls};
@@ -11,15 +11,18 @@ use std::sync::Wait;
 use std::test::Fail;
 use std::thread::Threads;
 
-/// In how many rounds, and how many pairs of calls have to overlap.
+/// How many rounds are played with each kind of queue. In the second one the threads let
+/// others run now and then.
 const ROUNDS: u64 = 2;
 
+/// How many pairs of calls have to overlap in both rounds together.
 const OVERLAPS: u64 = 500;
 
 /// The capacity of each queue.
 const CAPACITY: usize = 3;
 
-/// Both ends of an index queue, and one who asks for its length.
+/// Both ends of an index queue, and a handle that asks for its length. None where there is no further handle
+/// or a role is taken.
 fn split_index_queue<'a>(
     queue: index_queue::Handle<'a>,
 ) -> Option<
@@ -34,7 +37,8 @@ fn split_index_queue<'a>(
     Some((producer, consumer, queue))
 }
 
-/// Logs the calls of a round on a new queue: whether each came to an end. None where there is no memory, or no further handle.
+/// Logs the calls of a round on a new index queue. It returns whether each call ended within the limit, and
+/// None where memory or a further handle is refused.
 fn log_index_queue<R: Wait + Threads + Sync>(
     rt: &R,
     alloc: Global,
@@ -46,7 +50,8 @@ fn log_index_queue<R: Wait + Threads + Sync>(
     Some(log_calls(rt, producer, consumer, length, true, rests, calls))
 }
 
-/// The same of a queue of pairs.
+/// Both ends of a queue of pairs, and a handle that asks for its length. None where there is no further
+/// handle or a role is taken.
 fn split_queue<'a>(
     queue: queue::Handle<'a, Pair>,
 ) -> Option<
@@ -61,6 +66,8 @@ fn split_queue<'a>(
     Some((producer, consumer, queue))
 }
 
+/// Logs the calls of a round on a new queue of pairs, and returns what `log_index_queue`
+/// returns for an index queue.
 fn log_queue<R: Wait + Threads + Sync>(
     rt: &R,
     alloc: Global,
@@ -72,6 +79,8 @@ fn log_queue<R: Wait + Threads + Sync>(
     Some(log_calls(rt, producer, consumer, length, true, rests, calls))
 }
 
+/// Logs the calls of a round on a new overflowing queue, whose length nobody asks for. It returns what
+/// `log_index_queue` returns.
 fn log_overflowing_queue<R: Wait + Threads + Sync>(
     rt: &R,
     alloc: Global,
@@ -83,7 +92,7 @@ fn log_overflowing_queue<R: Wait + Threads + Sync>(
     Some(log_calls(rt, producer, consumer, Nobody, false, rests, calls))
 }
 
-/// Logs the calls of a round on a new queue of this name.
+/// Logs the calls of a round on a new queue of the kind that has this name.
 fn log_round<R: Wait + Threads + Sync>(
     rt: &R,
     alloc: Global,
@@ -98,8 +107,9 @@ fn log_round<R: Wait + Threads + Sync>(
     }
 }
 
-/// Each refusal, each number that comes or is handed back, each look and each length is right at some moment of its call. One
-/// order of all calls shows it, of which many overlap. The moment lies between the times before and after the call.
+/// Each refusal, each number that comes or is handed back, each look and each length is right at some moment
+/// of its call. One order of all calls shows it, in which each has its moment between the times before and
+/// after it. A failure says that there is no such order, or that too few calls overlapped to say anything.
 #[test]
 fn calls_as_if_one_after_another(rt: HostRuntime) -> Result<(), Fail> {
     let mut calls = Calls::new(rt.alloc(), CAPACITY as u64, CALLS as usize)?;

@@ -1,29 +1,31 @@
-//! Where a thread rests in the middle of what it does until others have gone on. So what it does and what they do overlap
+//! A thread rests in the middle of a call until other threads have gone on, so its call and theirs overlap
 //! whoever has the processor.
 use crate::limit::Limit;
 use std::sync::atomic::{AtomicU64, Ordering};
 
-/// What those who rest and those who go on tell each other.
+/// What the threads that rest and the threads that go on tell each other.
 #[derive(Drop)]
 pub struct Rests {
-    /// How many threads there are.
+    /// How many threads there are, those that go on included.
     number: u64,
-    /// How many of them go on without a rest; none where each of them rests.
+    /// How many of the threads go on without a rest; 0 where each of them rests.
     lookers: u64,
-    /// How often one went on.
+    /// How many turns of those who go on have ended. Where each thread rests, how many rests have begun.
     clock: AtomicU64,
-    /// How many have ended.
+    /// How many threads have ended. One that goes on adds the number of all threads, so that
+    /// nobody waits any more.
     ended: AtomicU64,
     /// How many rests were ended by others who went on.
     crossed: AtomicU64,
-    /// How often one who goes on saw something.
+    /// How many turns of those who go on saw something.
     seen: AtomicU64,
 }
 
 impl Rests {
-    /// Of so many threads, of whom so many go on without a rest as long as any of the others do, and are waited for: a
-    /// rest contains a whole turn of one of them. Where none does, each rests until another comes to a rest too. Who came
-    /// last rests on; so at most one of them does not go on.
+    /// Rests of `number` threads, of which `lookers` go on without a rest until all others have ended. A rest
+    /// is over after `lookers` + 1 of their turns, so it contains a whole turn of one of them. With no such
+    /// thread a rest is over once another thread comes to a rest. The one who came last rests on, so at most
+    /// one thread waits.
     pub fn of(number: u64, lookers: u64) -> Rests {
         Rests {
             number,
@@ -35,7 +37,8 @@ impl Rests {
         }
     }
 
-    /// The time at which a rest that begins now is over.
+    /// The time of `clock` at which a rest that begins now is over. Where each thread rests this
+    /// begin is counted too.
     fn end_time(&self) -> u64 {
         if self.lookers == 0 {
             self.clock.fetch_add(1, Ordering::SeqCst).wrapping_add(2)
@@ -45,12 +48,13 @@ impl Rests {
         }
     }
 
-    /// Whether the others have ended.
+    /// Whether all other threads have ended, so that nobody can end a rest.
     fn is_alone(&self) -> bool {
         self.ended.load(Ordering::SeqCst) >= self.number.wrapping_sub(1)
     }
 
-    /// Rests until others have gone on, or there are none any more. False at the limit.
+    /// Rests until others have gone on, or no other thread is left. False where neither
+    /// comes within the limit.
     pub fn rest(&self) -> bool {
         let end = self.end_time();
         let mut limit = Limit::new();
@@ -69,12 +73,13 @@ impl Rests {
         false
     }
 
-    /// Rests where that is due, which it is at each time of so many; never where that is 0.
+    /// Rests if `at` is a multiple of `every`, and never where that is 0. False where the
+    /// rest reached its limit.
     pub fn rest_at(&self, at: u64, every: u64) -> bool {
         every == 0 || at % every != 0 || self.rest()
     }
 
-    /// Notes a turn of one who goes on without a rest, and whether it saw something.
+    /// Notes that a turn of a thread that goes on has ended, and whether it saw something.
     pub fn go_on(&self, saw: bool) {
         if saw {
             self.seen.fetch_add(1, Ordering::SeqCst);
@@ -82,17 +87,18 @@ impl Rests {
         self.clock.fetch_add(1, Ordering::SeqCst);
     }
 
-    /// Notes that one who rests has ended.
+    /// Notes that a thread that rests has ended.
     pub fn end(&self) {
         self.ended.fetch_add(1, Ordering::SeqCst);
     }
 
-    /// Notes that one who goes on has ended: nobody waits any more.
+    /// Notes that a thread that goes on has ended. From then on each thread counts as
+    /// alone, and no rest waits.
     pub fn end_all(&self) {
         self.ended.fetch_add(self.number, Ordering::SeqCst);
     }
 
-    /// Whether all who rest have ended.
+    /// Whether all threads that rest have ended.
     pub fn have_ended(&self) -> bool {
         let resting = self.number.wrapping_sub(self.lookers);
         self.ended.load(Ordering::SeqCst) >= resting
@@ -103,7 +109,7 @@ impl Rests {
         self.crossed.load(Ordering::SeqCst)
     }
 
-    /// How often one who goes on saw something.
+    /// How many turns of those who go on saw something.
     pub fn seen(&self) -> u64 {
         self.seen.load(Ordering::SeqCst)
     }

@@ -1,4 +1,5 @@
-//! Robust unique index sets: no index has two holders, those of a dead owner come back, and the lock keeps all out.
+//! Robust unique index sets between three threads. No index has two holders, those of a dead owner come back,
+//! and no index is handed out once the set is locked.
 use crate::indices::{Guest, Outcome, Part};
 use crate::owners::{Owner, play};
 use crate::room::{Place, Room, rest_once};
@@ -13,7 +14,7 @@ use std::sync::Wait;
 use std::test::Fail;
 use std::thread::Threads;
 
-/// An owner who uses a set.
+/// A handle of a robust set, with the owner for which it takes indices.
 struct SetOwner<'a> {
     set: Handle<'a>,
     owner: OwnerId,
@@ -31,6 +32,7 @@ impl<'a> Drop for SetOwner<'a> {
 impl<'a> Guest for SetOwner<'a> {
     type Held = usize;
 
+    // Each of the three threads may be told of the lock.
     const LOCKS: u64 = 3;
 
     fn another(&mut self, owner: u64) -> Option<SetOwner<'a>> {
@@ -51,7 +53,8 @@ impl<'a> Guest for SetOwner<'a> {
         *held
     }
 
-    /// It rests at the first index.
+    /// Finds the owner's indices, and rests in the callback of the first. True if there is one at least, and
+    /// the callback came as often as the call says.
     fn find(&mut self, place: Place<'_>, at: u64) -> bool {
         let (mut visited, mut rested) = (0usize, true);
         let found = self.set.find(
@@ -95,7 +98,9 @@ impl<'a> Owner for SetOwner<'a> {
         }
     }
 
-    /// It rests where it is asked about its first index, and where it is told of it. They ascend.
+    /// Recovers the owner, and rests where the call asks for the owner of its first index, and where it tells
+    /// of it. Each index leaves the room as it is asked for, and the indices that the call tells ascend. None
+    /// where an index was not the dead owner's, was not in the room, or the set is locked.
     fn recover(&mut self, rt: &impl Wait, place: Place<'_>, mode: ReleaseMode) -> Option<u64> {
         let dead = self.owner;
         let (mut questions, mut number, mut next) = (0u64, 0u64, 0usize);
@@ -131,7 +136,7 @@ impl<'a> Owner for SetOwner<'a> {
     }
 }
 
-/// Whether it goes well with a new set.
+/// Plays a part on a new set, and says whether it went well.
 fn play_anew<R: Wait + Threads + Sync>(rt: &R, alloc: Global, what: Part) -> Result<bool, Fail> {
     let owner = OwnerId::new(0)?;
     let room = Room::new(alloc, what.capacity())?;
@@ -141,6 +146,8 @@ fn play_anew<R: Wait + Threads + Sync>(rt: &R, alloc: Global, what: Part) -> Res
     Ok(play(rt, &mut owner, &room, what) == Some(true))
 }
 
+/// Plays each part on new sets. A failure says that an index had two holders, or that one was lost, found
+/// wrongly, not recovered, or handed out after the lock.
 #[test]
 fn robust_indices_between_threads(rt: HostRuntime) -> Result<(), Fail> {
     for what in [Part::ComeAndGo, Part::LockLast, Part::Die] {

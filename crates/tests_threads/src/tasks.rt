@@ -1,47 +1,49 @@
-//! What threads do side by side.
+//! What the threads of a test do: turns of a user, a fixed number of them (`Turns`) or until the other
+//! threads have ended (`Beside`).
 use crate::limit::Limit;
 use crate::rests::Rests;
 use std::sync::Wait;
 use std::thread;
 use std::thread::Threads;
 
-/// What a turn of a user brought.
+/// What a turn of a user came to.
 #[derive(Clone, Copy)]
 pub enum Turn {
-    /// Nothing: there was none, or nothing new.
+    /// There was nothing to take, or nothing new to see.
     Nothing,
-    /// Something, and it is right.
+    /// The turn came to something, and that is right.
     Right,
-    /// Something that is wrong.
+    /// The turn came to something that is wrong, so the test fails.
     Wrong,
-    /// It is right, and there are no further turns.
+    /// The turn is right, and the user takes no further one.
     Last,
 }
 
 impl Turn {
+    /// A turn that came to something, right or wrong.
     pub fn of(is_right: bool) -> Turn {
         if is_right { Turn::Right } else { Turn::Wrong }
     }
 
-    /// The last one.
+    /// The user's last turn, right or wrong.
     pub fn end(is_right: bool) -> Turn {
         if is_right { Turn::Last } else { Turn::Wrong }
     }
 }
 
-/// One who uses what it shares with others, again and again.
+/// Somebody who uses a structure that it shares with other threads, turn by turn.
 pub trait User: Drop + Sized {
-    /// Takes the so many-th turn.
+    /// Takes the turn of this number, counted from 0.
     fn turn(&mut self, rt: &impl Wait, at: u64) -> Turn;
 }
 
-/// What one thread does.
+/// What one thread does from its begin to its end.
 pub trait Task: Drop + Sized {
-    /// Does it: whether it went well, within the limit.
+    /// Does the whole task. True if each turn was right, and none reached the limit.
     fn run(self, rt: &impl Wait) -> bool;
 }
 
-/// Whether two tasks go well, each in a thread.
+/// Runs two tasks, each in a thread of its own, and says whether both went well.
 pub fn run_two<R: Wait + Threads + Sync, A: Task + Send, B: Task + Send>(
     rt: &R,
     one: A,
@@ -51,7 +53,7 @@ pub fn run_two<R: Wait + Threads + Sync, A: Task + Send, B: Task + Send>(
     one & other
 }
 
-/// The same of three.
+/// Runs three tasks, each in a thread of its own, and says whether all went well.
 pub fn run_three<R: Wait + Threads + Sync, A: Task + Send, B: Task + Send, C: Task + Send>(
     rt: &R,
     one: A,
@@ -62,7 +64,8 @@ pub fn run_three<R: Wait + Threads + Sync, A: Task + Send, B: Task + Send, C: Ta
     one & others
 }
 
-/// So many turns of a user, each taken again until it brings something: whether each was right.
+/// A task of `number` turns of a user, each taken again until it comes to something. It goes well if each of
+/// them is right, or one is the last.
 pub struct Turns<'s, U: User> {
     user: U,
     number: u64,
@@ -80,6 +83,7 @@ impl<'s, U: User> Drop for Turns<'s, U> {
 }
 
 impl<'s, U: User> Turns<'s, U> {
+    /// The task of this user, which tells `rests` when it has ended.
     pub fn of(user: U, number: u64, rests: &'s Rests) -> Turns<'s, U> {
         Turns {
             user,
@@ -88,7 +92,8 @@ impl<'s, U: User> Turns<'s, U> {
         }
     }
 
-    /// What the turn brings, which is wrong at the limit.
+    /// Takes the turn of this number until it comes to something. It is wrong where it came to
+    /// nothing up to the limit.
     fn take(&mut self, rt: &impl Wait, at: u64) -> Turn {
         let mut limit = Limit::new();
         for _ in 0..u64::MAX {
@@ -104,6 +109,8 @@ impl<'s, U: User> Turns<'s, U> {
         Turn::Wrong
     }
 
+    /// Takes all turns, in order, and lets another thread run after each 16th. False at the
+    /// first that is wrong.
     fn take_all(&mut self, rt: &impl Wait) -> bool {
         for at in 0..self.number {
             match self.take(rt, at) {
@@ -127,7 +134,8 @@ impl<'s, U: User> Task for Turns<'s, U> {
     }
 }
 
-/// Turns of a user until the others have ended: whether none was wrong.
+/// A task of a user that goes on without rests until the threads that rest have ended, and takes one turn
+/// more after that. It goes well if no turn is wrong.
 pub struct Beside<'s, U: User> {
     user: U,
     rests: &'s Rests,
@@ -143,10 +151,13 @@ impl<'s, U: User> Drop for Beside<'s, U> {
 }
 
 impl<'s, U: User> Beside<'s, U> {
+    /// The task of this user, beside the threads that rest by `rests`.
     pub fn of(user: U, rests: &'s Rests) -> Beside<'s, U> {
         Beside { user, rests }
     }
 
+    /// Takes turns, each noted by `Rests::go_on`, until the threads that rest have ended and one more turn is
+    /// over. False at the first that is wrong.
     fn go_on(&mut self, rt: &impl Wait) -> bool {
         for at in 0..u64::MAX {
             let have_ended = self.rests.have_ended();

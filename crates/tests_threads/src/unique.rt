@@ -1,4 +1,5 @@
-//! Unique index sets between three threads: no index has two holders, and the lock comes once, where none has one.
+//! Unique index sets between three threads. No index has two holders, and the lock comes once,
+//! when no index is out.
 use crate::indices::{Guest, Outcome, Part, play};
 use crate::room::{Place, Room};
 use lock_free::mpmc::unique_index_set::{Handle, UniqueIndex, UniqueIndexSet};
@@ -10,7 +11,8 @@ use std::sync::Wait;
 use std::test::Fail;
 use std::thread::Threads;
 
-/// One who takes indices of a set, each by a handle of its own.
+/// Somebody who takes indices of a unique index set. It splits off a handle for each, which
+/// the index takes along.
 #[derive(Drop)]
 struct IndexGuest<'a> {
     set: Handle<'a>,
@@ -19,6 +21,7 @@ struct IndexGuest<'a> {
 impl<'a> Guest for IndexGuest<'a> {
     type Held = UniqueIndex<'a>;
 
+    // One thread at most is told of the lock: the one that gave the last index back.
     const LOCKS: u64 = 1;
 
     fn another(&mut self, _owner: u64) -> Option<IndexGuest<'a>> {
@@ -41,6 +44,7 @@ impl<'a> Guest for IndexGuest<'a> {
         held.value() as usize
     }
 
+    /// A unique index set has no owners and finds nothing, so this only rests.
     fn find(&mut self, place: Place<'_>, at: u64) -> bool {
         place.rest(at)
     }
@@ -72,7 +76,7 @@ impl<'a> Guest for IndexGuest<'a> {
     }
 }
 
-/// Whether it goes well with a new set.
+/// Plays a part on a new set, and says whether it went well.
 fn play_anew<R: Wait + Threads + Sync>(rt: &R, alloc: Global, what: Part) -> Result<bool, Fail> {
     let room = Room::new(alloc, what.capacity())?;
     let (set, pass) = UniqueIndexSet::new(alloc, what.capacity())?;
@@ -82,6 +86,8 @@ fn play_anew<R: Wait + Threads + Sync>(rt: &R, alloc: Global, what: Part) -> Res
     Ok(play(rt, &mut guest, &room, what) == Some(true))
 }
 
+/// Plays each part on new sets. A failure says that an index had two holders, was lost, or was handed out
+/// after the lock, or that more than one thread was told of the lock.
 #[test]
 fn unique_indices_between_threads(rt: HostRuntime) -> Result<(), Fail> {
     for what in [Part::ComeAndGo, Part::LockLast] {

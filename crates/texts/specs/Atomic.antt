@@ -10,11 +10,14 @@ use Rattle.texts.specs.Reading.{◌>>=◌, number_at}
 
 -- ---- how they are read
 
+-- a store, by the value that these words begin with, and the words that are left
 unfoldable pub store : List (List ℕ) → Result (AtomicStart ℕ × List (List ℕ)) Cause
 store ws = do
   value ← number_at (2 ^ 128 - 1) ws
   Ok (Store value.0, value.1)
 
+-- The call of the single value with this name, as a call of its family, and the words that are left. Any
+-- other name is unknown.
 unfoldable pub any_value_call : List ℕ → List (List ℕ) → Result (AtomicStart ℕ × List (List ℕ)) Cause
 any_value_call name ws =
     if bytes_eq name (codes "acquire_producer") then Ok (AcquireProducer, ws)
@@ -25,7 +28,7 @@ any_value_call name ws =
     else if bytes_eq name (codes "version") then Ok (Version, ws)
     else Err UnknownCall
 
--- the call of the single value that these words name, and the words that are left
+-- the call of the single value with this name, as a call of any structure, and the words that are left
 unfoldable pub value_call : List ℕ → List (List ℕ) → Result (Start ℕ × List (List ℕ)) Cause
 value_call name ws = do
   call ← any_value_call name ws

@@ -10,47 +10,51 @@ use Rattle.texts.specs.Reading.{◌>>=◌, number_at}
 
 -- ---- how they are read
 
+-- a set, by the place that these words begin with, and the words that are left
 unfoldable pub set : List (List ℕ) → Result (BitsStart × List (List ℕ)) Cause
 set ws = do
   place ← number_at (2 ^ 64 - 1) ws
   Ok (Set place.0, place.1)
 
+-- a look at a place, by the place that these words begin with, and the words that are left
 unfoldable pub is_set : List (List ℕ) → Result (BitsStart × List (List ℕ)) Cause
 is_set ws = do
   place ← number_at (2 ^ 64 - 1) ws
   Ok (IsSet place.0, place.1)
 
+-- a look at a count, by the place that these words begin with, and the words that are left
 unfoldable pub count : List (List ℕ) → Result (BitsStart × List (List ℕ)) Cause
 count ws = do
   place ← number_at (2 ^ 64 - 1) ws
   Ok (Count place.0, place.1)
 
--- the call of either bit set that these words name, and the words that are left
+-- The call with this name that bit sets and counting bit sets have, and the words that are left. Any other
+-- name is unknown.
 unfoldable pub any_set_call : List ℕ → List (List ℕ) → Result (BitsStart × List (List ℕ)) Cause
 any_set_call name ws =
     if bytes_eq name (codes "set") then set ws
     else if bytes_eq name (codes "reset_all") then Ok (ResetAll, ws)
     else Err UnknownCall
 
--- the call of a bit set that these words name, and the words that are left
+-- the call of a bit set with this name, as a call of its family, and the words that are left
 abbrev pub any_bit_set_call : List ℕ → List (List ℕ) → Result (BitsStart × List (List ℕ)) Cause
 any_bit_set_call name ws =
     if bytes_eq name (codes "reset_next") then Ok (ResetNext, ws)
     else if bytes_eq name (codes "is_set") then is_set ws
     else any_set_call name ws
 
--- the call of a counting bit set that these words name, and the words that are left
+-- the call of a counting bit set with this name, as a call of its family, and the words that are left
 abbrev pub any_counting_call : List ℕ → List (List ℕ) → Result (BitsStart × List (List ℕ)) Cause
 any_counting_call name ws =
     if bytes_eq name (codes "count") then count ws else any_set_call name ws
 
--- the call of a bit set that these words name, and the words that are left
+-- the call of a bit set with this name, as a call of any structure, and the words that are left
 unfoldable pub bit_set_call : List ℕ → List (List ℕ) → Result (Start ℕ × List (List ℕ)) Cause
 bit_set_call name ws = do
   call ← any_bit_set_call name ws
   Ok (starts.Bits call.0, call.1)
 
--- the call of a counting bit set that these words name, and the words that are left
+-- the call of a counting bit set with this name, as a call of any structure, and the words that are left
 unfoldable pub counting_bit_set_call : List ℕ → List (List ℕ)
     → Result (Start ℕ × List (List ℕ)) Cause
 counting_bit_set_call name ws = do

@@ -18,12 +18,14 @@ use Rattle.texts.specs.Reading.{◌>>=◌, number_at, owner_at}
 
 -- ---- how they are read
 
+-- an add, by its value and owner, and the words that are left
 unfoldable pub add : List (List ℕ) → Result (ContainerStart ℕ × List (List ℕ)) Cause
 add ws = do
   value ← number_at (2 ^ 128 - 1) ws
   owner ← owner_at value.1
   Ok (Add value.0 owner.0, owner.1)
 
+-- a remove, by its index, owner and mode, and the words that are left
 unfoldable pub remove : List (List ℕ) → Result (ContainerStart ℕ × List (List ℕ)) Cause
 remove ws = do
   index ← number_at (2 ^ 64 - 1) ws
@@ -31,6 +33,7 @@ remove ws = do
   mode ← mode_at owner.1
   Ok (Remove index.0 owner.0 mode.0, mode.1)
 
+-- a replace, by its index, value and owner, and the words that are left
 unfoldable pub replace : List (List ℕ) → Result (ContainerStart ℕ × List (List ℕ)) Cause
 replace ws = do
   index ← number_at (2 ^ 64 - 1) ws
@@ -38,11 +41,13 @@ replace ws = do
   owner ← owner_at value.1
   Ok (Replace index.0 value.0 owner.0, owner.1)
 
+-- a find, by its owner, and the words that are left
 unfoldable pub find : List (List ℕ) → Result (ContainerStart ℕ × List (List ℕ)) Cause
 find ws = do
   owner ← owner_at ws
   Ok (Find owner.0, owner.1)
 
+-- a recovery, by its owner and mode, and the words that are left
 unfoldable pub recover : List (List ℕ) → Result (ContainerStart ℕ × List (List ℕ)) Cause
 recover ws = do
   owner ← owner_at ws
@@ -59,6 +64,8 @@ look_call name =
     else if bytes_eq name (codes "is_locked") then Some IsLocked
     else None
 
+-- The call of the container with this name, as a call of its family, and the words that are left. Any other
+-- name is unknown.
 unfoldable pub any_container_call : List ℕ → List (List ℕ)
     → Result (ContainerStart ℕ × List (List ℕ)) Cause
 any_container_call name ws =
@@ -69,7 +76,7 @@ any_container_call name ws =
     else if bytes_eq name (codes "recover") then recover ws
     else elim (look_call name) [ Some start ↦ Ok (start, ws) | None ↦ Err UnknownCall ]
 
--- the call of the container that these words name, and the words that are left
+-- the call of the container with this name, as a call of any structure, and the words that are left
 unfoldable pub container_call : List ℕ → List (List ℕ) → Result (Start ℕ × List (List ℕ)) Cause
 container_call name ws = do
   call ← any_container_call name ws

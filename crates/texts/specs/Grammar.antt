@@ -41,6 +41,7 @@ setup_of ws = do
 
 -- ---- turns
 
+-- a turn `Begin` of the party, by the call that these words name
 unfoldable pub begin_of : Kind → ℕ → List (List ℕ) → Result (Command) Cause
 begin_of kind party ws = do
   name ← next_word ws
@@ -52,6 +53,7 @@ begin_of kind party ws = do
 abbrev pub count_of : List ℕ → Result ℕ Cause
 count_of word = number_of (2 ^ 64 - 1) word >>= λ n. if n == 0 then Err BadValue else Ok n
 
+-- turns `Next` of the party: one, or as many as the word says
 unfoldable pub next_of : ℕ → List (List ℕ) → Result Command Cause
 next_of party [] = Ok (Once (Next party))
 next_of party (word ∷ ws) = do
@@ -59,11 +61,13 @@ next_of party (word ∷ ws) = do
   end ← ended ws
   Ok (Times party turns)
 
+-- a turn `Decide` of the party, with no word after it
 unfoldable pub decision_of : ℕ → Bool → List (List ℕ) → Result Command Cause
 decision_of party said ws = do
   end ← ended ws
   Ok (Once (Decide party said))
 
+-- the turn or turns of the party that these words name
 unfoldable pub turn_of : Kind → ℕ → List (List ℕ) → Result Command Cause
 turn_of kind party ws = do
   name ← next_word ws
@@ -73,6 +77,7 @@ turn_of kind party ws = do
       else if bytes_eq name.0 (codes "no") then decision_of party false name.1
       else Err UnknownTurn
 
+-- a turn `Die`, by the owner that these words name
 unfoldable pub death_of : List (List ℕ) → Result Command Cause
 death_of ws = do
   owner ← owner_at ws

@@ -32,12 +32,15 @@ mode_at ws = do
   mode ← mode_of word.0
   Ok (mode, word.1)
 
+-- a release, by its index and mode, and the words that are left
 unfoldable pub release : List (List ℕ) → Result (IndexStart × List (List ℕ)) Cause
 release ws = do
   index ← number_at (2 ^ 64 - 1) ws
   mode ← mode_at index.1
   Ok (Release index.0 mode.0, mode.1)
 
+-- The call of the unique index set with this name, as a call of its family, and the words that are left. Any
+-- other name is unknown.
 unfoldable pub any_index_call : List ℕ → List (List ℕ) → Result (IndexStart × List (List ℕ)) Cause
 any_index_call name ws =
     if bytes_eq name (codes "acquire") then Ok (Acquire, ws)
@@ -46,7 +49,7 @@ any_index_call name ws =
     else if bytes_eq name (codes "is_locked") then Ok (IsLocked, ws)
     else Err UnknownCall
 
--- the call of the unique index set that these words name, and the words that are left
+-- the call of the unique index set with this name, as a call of any structure, and the words that are left
 unfoldable pub index_call : List ℕ → List (List ℕ) → Result (Start ℕ × List (List ℕ)) Cause
 index_call name ws = do
   call ← any_index_call name ws

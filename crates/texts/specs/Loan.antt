@@ -10,16 +10,19 @@ use Rattle.texts.specs.Reading.{◌>>=◌, number_at}
 
 -- ---- how they are read
 
+-- a send, by the index that these words begin with, and the words that are left
 unfoldable pub send : List (List ℕ) → Result (LoanStart × List (List ℕ)) Cause
 send ws = do
   index ← number_at (2 ^ 64 - 1) ws
   Ok (Send index.0, index.1)
 
+-- a give-up, by the index that these words begin with, and the words that are left
 unfoldable pub give_up : List (List ℕ) → Result (LoanStart × List (List ℕ)) Cause
 give_up ws = do
   index ← number_at (2 ^ 64 - 1) ws
   Ok (GiveUp index.0, index.1)
 
+-- a give-back, by the index that these words begin with, and the words that are left
 unfoldable pub give_back : List (List ℕ) → Result (LoanStart × List (List ℕ)) Cause
 give_back ws = do
   index ← number_at (2 ^ 64 - 1) ws
@@ -34,6 +37,8 @@ bare_call name =
     else if bytes_eq name (codes "reclaim") then Some Reclaim
     else None
 
+-- The call of the loan channel with this name, as a call of its family, and the words that are left. Any
+-- other name is unknown.
 unfoldable pub any_loan_call : List ℕ → List (List ℕ) → Result (LoanStart × List (List ℕ)) Cause
 any_loan_call name ws =
     if bytes_eq name (codes "send") then send ws
@@ -41,7 +46,7 @@ any_loan_call name ws =
     else if bytes_eq name (codes "give_back") then give_back ws
     else elim (bare_call name) [ Some start ↦ Ok (start, ws) | None ↦ Err UnknownCall ]
 
--- the call of the loan channel that these words name, and the words that are left
+-- the call of the loan channel with this name, as a call of any structure, and the words that are left
 unfoldable pub loan_call : List ℕ → List (List ℕ) → Result (Start ℕ × List (List ℕ)) Cause
 loan_call name ws = do
   call ← any_loan_call name ws

@@ -29,36 +29,43 @@ call_without_value name =
     else if bytes_eq name (codes "has_consumer") then Some HasConsumer
     else None
 
--- a push of an index, or of a value of the machine's own type
+-- a push of the index that these words begin with, and the words that are left
 unfoldable pub push_index : List (List ℕ) → Result (Start ℕ × List (List ℕ)) Cause
 push_index ws = do
   index ← number_at (2 ^ 64 - 1) ws
   Ok (Queues (PushIndex index.0), index.1)
 
+-- a push of the value that these words begin with, and the words that are left
 unfoldable pub push_value : List (List ℕ) → Result (Start ℕ × List (List ℕ)) Cause
 push_value ws = do
   value ← number_at (2 ^ 128 - 1) ws
   Ok (Queues (Push value.0), value.1)
 
--- the call that these words name, of those that every queue has, and the words that are left
+-- the call with this name that every queue has, and the words that are left; any other name is unknown
 unfoldable pub any_queue_call : List ℕ → List (List ℕ) → Result (Start ℕ × List (List ℕ)) Cause
 any_queue_call name ws =
     elim (call_without_value name) [ Some start ↦ Ok (Queues start, ws) | None ↦ Err UnknownCall ]
 
--- the call that these words name, of those that both bounded queues have, and the words that are left
+-- the call with this name that both bounded queues have, which is a peek or one of every queue, and the words
+-- that are left
 abbrev pub any_bounded_call : List ℕ → List (List ℕ) → Result (Start ℕ × List (List ℕ)) Cause
 any_bounded_call name ws =
     if bytes_eq name (codes "peek") then Ok (Queues Peek, ws) else any_queue_call name ws
 
--- the calls of a queue of indices, of an overflowing queue, and of a queue of values
+-- the call of a queue of indices with this name, and the words that are left: a push of an index, or a call
+-- of a bounded queue
 unfoldable pub index_queue_call : List ℕ → List (List ℕ) → Result (Start ℕ × List (List ℕ)) Cause
 index_queue_call name ws =
     if bytes_eq name (codes "push") then push_index ws else any_bounded_call name ws
 
+-- the call of an overflowing queue with this name, and the words that are left: a push of an index, or a call
+-- of every queue
 unfoldable pub overflow_call : List ℕ → List (List ℕ) → Result (Start ℕ × List (List ℕ)) Cause
 overflow_call name ws =
     if bytes_eq name (codes "push") then push_index ws else any_queue_call name ws
 
+-- the call of a queue of values with this name, and the words that are left: a push of a value, or a call of
+-- a bounded queue
 unfoldable pub value_queue_call : List ℕ → List (List ℕ) → Result (Start ℕ × List (List ℕ)) Cause
 value_queue_call name ws =
     if bytes_eq name (codes "push") then push_value ws else any_bounded_call name ws

@@ -4,12 +4,13 @@ use Rattle.texts.specs.declared.error.Cause.{Cause}
 use Rattle.texts.specs.declared.error.Cause.TheVariants.{MissingValue, ExtraWords}
 use Rattle.texts.specs.Text.{number_of}
 
+-- one reading after another: the second one reads on from what the first one gives, unless that is a cause
 infixl 10 ◌>>=◌
 abbrev pub ◌>>=◌ : {A B : Type 0} → Result A Cause → (A → Result B Cause) → Result B Cause
 (Ok x) >>= f = f x
 (Err e) >>= f = Err e
 
--- what a function returned, seen by this view, is what reading gives
+-- a function answered as reading does: with the value whose view is the one read, or with the same cause
 abbrev pub Gives : {X Y : Type 0} → (X → Y) → Result X Cause → Result Y Cause → Type 0
 Gives view (Ok x) read = read ≡ Ok (view x)
 Gives view (Err e) read = read ≡ Err e

@@ -24,9 +24,9 @@ pub struct Setup {
 /// A later line.
 #[derive(Clone, Copy)]
 pub enum Command {
-    /// This turn.
+    /// One turn.
     Once(Turn<u128>),
-    /// Up to so many turns of the party's call.
+    /// Turns `Next` of a party: its number, and the most that are taken.
     Times(u32, u64),
 }
 

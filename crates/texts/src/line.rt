@@ -14,7 +14,7 @@ const ROOM: usize = 256;
 /// The most digits of a number of 128 bits.
 const DIGITS: usize = 39;
 
-/// The bytes of a line so far.
+/// A line of output that is being made: its bytes, and how many there are.
 #[derive(Drop)]
 pub struct Line {
     bytes: [u8; ROOM],
@@ -42,7 +42,7 @@ impl Line {
         }
     }
 
-    /// The bytes so far.
+    /// The bytes that were written.
     pub fn as_bytes(&self) -> &[u8]
         ensures { result.now ≡ self.now }
     {

@@ -3,7 +3,7 @@ ghost use Rattle.std.specs.Prelude.{◌≡◌, true, false, IfOk, IfErr};
 
 use std::alloc::{AllocError, Global};
 
-/// What is written so far.
+/// A text to which more is appended. It notes whether memory was refused.
 #[derive(Drop)]
 pub struct Pen {
     text: String,
@@ -24,19 +24,19 @@ impl Pen {
         self.text.len()
     }
 
-    /// The text, behind what is written.
+    /// Appends the text, unless memory was refused before.
     pub fn put(&mut self, text: &str) {
         if !self.has_failed {
             self.has_failed = self.text.push_str(text).is_err();
         }
     }
 
-    /// A text, and a number behind it.
+    /// Appends a text, and a number after it.
     pub fn number(&mut self, before: &str, number: usize) {
         self.large(before, number as u128);
     }
 
-    /// The same of a number of two words.
+    /// Appends a text, and a number of 128 bits after it.
     pub fn large(&mut self, before: &str, number: u128) {
         self.put(before);
         if !self.has_failed {
@@ -44,7 +44,7 @@ impl Pen {
         }
     }
 
-    /// As many spaces as are missing to this width, from a place on.
+    /// Appends spaces until what was written from the place `from` on is `width` bytes long.
     pub fn pad(&mut self, from: usize, width: usize) {
         for _ in self.text.len().saturating_sub(from)..width {
             self.put(" ");

@@ -1,4 +1,4 @@
--- What a step owes, told in other words.
+-- What a step owes, for another relation that it tells, or other views.
 use Rattle.std.proofs.Common.{◌≡◌, ℕ, ◌<◌, ◌≤◌, nat_lt, List, length, take, replicate, refl, arith}
 use Rattle.std.proofs.lemmas.Bool.Decides.{nat_tests}
 use Rattle.atomic_table.specs.Table.{State, Me}
@@ -10,6 +10,7 @@ use Rattle.steps.specs.declared.ask.Want.TheVariants as wants
 use Rattle.threaded.specs.Driver.{OwesAsk, Owes, answered}
 
 module _ {V : Type 0} (asked : V → ℕ) (holds : State (Unit {0}) V → Type 0) (words slots id : ℕ) where
+  -- One operation may be asked for under a weaker promise where it may be under a stronger one.
   pub weaker : (told more : V → ℕ → V → Type 0) (word : ℕ) (op : Op) (me : Me (Unit {0}) V)
       → ((found : ℕ) → found < 18446744073709551616 → (w : V) → told me.0 (answered op found) w → more me.0 (answered op found) w)
       → OwesAsk asked holds words slots id told word op me → OwesAsk asked holds words slots id more word op me

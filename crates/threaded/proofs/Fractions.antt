@@ -1,4 +1,4 @@
--- For clients: shares as parts of one whole, also of any number of passes.
+-- Laws of joined shares for clients: shares as parts of one whole, for any number of passes.
 use Rattle.std.proofs.Common.{◌≡◌, ℕ, zero, suc, ◌+◌, ◌*◌, ◌<◌, List, [], ◌∷◌, ap, subst, ◌∙◌, arith}
 use Rattle.std.specs.List.{fold, sum}
 use Rattle.threaded.specs.declared.share.Share.{Share}
@@ -10,10 +10,11 @@ use Rattle.threaded.proofs.Shares.{positive, same_factor}
 pub all_is_part : (n : ℕ) (s : Share) → 0 < s.parts → IsAll s → IsPart n n s
 all_is_part n s any is = (any, ap (λ z. z * n) is)
 
--- half of a share is as many of twice as many
+-- half of k parts of a whole is k parts of a whole cut into twice as many
 pub half_is_part : (k whole : ℕ) (s : Share) → IsPart k whole s → IsPart k (whole + whole) (half_of s)
 half_is_part k whole s is_part = (omega (arith, is_part.0), go s.part s.parts is_part.1)
   where
+    -- what is claimed of the shares, for their numbers of parts
     go : (a b : ℕ) → a * whole ≡ b * k → a * (whole + whole) ≡ (b + b) * k
     go a b e = omega arith
 
@@ -22,6 +23,7 @@ pub both_is_part : (k l whole : ℕ) (s t : Share) → IsPart k whole s → IsPa
 both_is_part k l whole s t first_part second_part =
     (positive s.parts t.parts first_part.0 second_part.0, go s.part s.parts t.part t.parts first_part.1 second_part.1)
   where
+    -- what is claimed of the shares, for their numbers of parts
     go : (a b c d : ℕ) → a * whole ≡ b * k → c * whole ≡ d * l → (a * d + c * b) * whole ≡ (b * d) * (k + l)
     go a b c d e e' =
         let h' : a * whole * d ≡ b * k * d = ap (λ z. z * d) e in
@@ -32,13 +34,15 @@ both_is_part k l whole s t first_part second_part =
 pub part_is_all : (whole : ℕ) (s : Share) → 0 < whole → IsPart whole whole s → IsAll s
 part_is_all whole s any is_part = same_factor whole s.part s.parts any (go s.part s.parts is_part.1)
   where
+    -- what is claimed of the shares, for their numbers of parts
     go : (a b : ℕ) → a * whole ≡ b * whole → whole * a ≡ whole * b
     go a b e = omega arith
 
--- the same share in fewer parts
+-- 2 k parts of a whole that is cut into twice as many are k parts of the whole.
 pub fewer_parts : (k whole : ℕ) (s : Share) → IsPart (k + k) (whole + whole) s → IsPart k whole s
 fewer_parts k whole s is_part = (is_part.0, go s.part s.parts is_part.1)
   where
+    -- what is claimed of the shares, for their numbers of parts
     go : (a b : ℕ) → a * (whole + whole) ≡ b * (k + k) → a * whole ≡ b * k
     go a b e = omega arith
 
@@ -46,14 +50,17 @@ fewer_parts k whole s is_part = (is_part.0, go s.part s.parts is_part.1)
 pub any_number : (n : ℕ) (s : Share) → 0 < s.parts → IsAll s → IsAll (added (rest n s) (pieces n s))
 any_number n s any is = go n (rest n s) (rest_is n)
   where
+    -- 2 to the n, as the number of parts after n splits.
     power : ℕ → ℕ
     power zero = 1
     power (suc n) = power n + power n
 
+    -- After n splits the share that is left is one of 2^n parts.
     rest_is : (n : ℕ) → IsPart 1 (power n) (rest n s)
     rest_is zero = all_is_part 1 s any is
     rest_is (suc n) = half_is_part 1 (power n) (rest n s) (rest_is n)
 
+    -- after n splits the share that is left takes back what was split off, the last first
     go : (n : ℕ) (r : Share) → IsPart 1 (power n) r → IsAll (added r (pieces n s))
     go zero r part = part_is_all 1 r (omega arith) part
     go (suc n) r part =

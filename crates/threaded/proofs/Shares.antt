@@ -1,4 +1,4 @@
--- The shares of the right to know all.
+-- The shares of all seats make one whole, and splits and joins keep this.
 use Rattle.std.proofs.Common.{◌≡◌, ◌≢◌, ℕ, zero, suc, ◌+◌, ◌*◌, ◌<◌, ◌≤◌, ◌⊎◌, inl, inr, ⊎_elim, List, [], ◌∷◌, ◌++◌}
 use Rattle.std.proofs.Common.{length, set, sym, refl, ap, subst, ◌∙◌, arith, length-set, length-append, if◌then◌else◌}
 use Rattle.std.proofs.Common.{eqb, eq-eqb, ne_eqb}
@@ -13,12 +13,15 @@ use native.Mathlib.Decide.{dec_lt, ℕ_discrete}
 
 -- ---- a function that is changed at one number
 
+-- The function with another value at one place.
 abbrev pub put : {A : Type 0} → (ℕ → A) → ℕ → A → ℕ → A
 put f i x j = if eqb j i then x else f j
 
+-- At the place it has that value.
 pub put_same : {A : Type 0} (f : ℕ → A) (i : ℕ) (x : A) → put f i x i ≡ x
 put_same f i x = ap (λ b. if b then x else f i) (eq-eqb i i refl)
 
+-- At each other place it is as before.
 pub put_other : {A : Type 0} (f : ℕ → A) (i : ℕ) (x : A) (j : ℕ) → j ≢ i → put f i x j ≡ f j
 put_other f i x j ne = ap (λ b. if b then x else f j) (ne_eqb j i ne)
 
@@ -58,6 +61,7 @@ tally_twice k (suc n) =
     let both : tally (λ j. k j + k j) n + (k n + k n) ≡ (tally k n + k n) + (tally k n + k n) = omega arith in
     both
 
+-- A number of the sum is at most the sum.
 tally_at : (k : ℕ → ℕ) (i n : ℕ) → i < n → k i ≤ tally k n
 tally_at k i n lt = omega (arith, tally_put k i 0 n lt)
 
@@ -67,24 +71,29 @@ tally_two k i j n ne below lt = omega (arith, tally_put k i 0 n below, tally_at 
 
 -- ---- numbers
 
+-- The sum of two fractions a / b and c / d of a whole has the parts of both: k + l.
 shared_parts : (a b c d whole k l : ℕ) → a * whole ≡ b * k → c * whole ≡ d * l → (a * d + c * b) * whole ≡ (b * d) * (k + l)
 shared_parts a b c d whole k l h g =
     let h' : a * whole * d ≡ b * k * d = ap (λ z. z * d) h in
     let g' : c * whole * b ≡ d * l * b = ap (λ z. z * b) g in
     omega arith
 
+-- Numbers whose products with a positive m are equal are equal.
 pub same_factor : (m whole k : ℕ) → 0 < m → m * whole ≡ m * k → whole ≡ k
 same_factor m whole k any e =
     dite (ℕ_discrete whole k) (λ same. same)
     (λ ne. dite (dec_lt whole k) (λ lt. absurd (less whole k lt e)) (λ not. absurd (less k whole (omega arith) (sym e))))
   where
+    -- A positive multiple of the lower number is lower.
     less : (a b : ℕ) → a < b → m * a ≡ m * b → ⊥
     less a b lt same = let step : m * (a + 1) ≤ m * b = mul-le-mul_left m (omega arith) in absurd (omega arith)
 
+-- A fraction that is 0 parts of a whole is 0.
 none_of_it : (a whole m : ℕ) → 0 < whole → a * whole ≡ m * 0 → a ≡ 0
 none_of_it zero whole m any e = refl
 none_of_it (suc a) whole m any e = absurd (omega arith)
 
+-- A product of positive numbers is positive.
 pub positive : (a b : ℕ) → 0 < a → 0 < b → 0 < a * b
 positive (suc a) b p q = omega arith
 positive zero b p q = absurd (omega arith)
@@ -92,11 +101,13 @@ positive zero b p q = absurd (omega arith)
 module _ {V : Type 0} where
   -- ---- views in lists
 
+  -- The place of an element lies below the length of its list.
   pub at_below : (l : List V) (i : ℕ) (a : V) → get_elem? l i ≡ some a → i < length l
   at_below [] i a e = absurd (some-ne-none a (sym e))
   at_below (x ∷ xs) zero a e = omega arith
   at_below (x ∷ xs) (suc i) a e = omega (arith, at_below xs i a e)
 
+  -- An element of a list with one more at its end stands in the list, or is the one at its end.
   at_snoc_end : (l : List V) (a b : V) (j : ℕ) → get_elem? (l ++ a ∷ []) j ≡ some b → (get_elem? l j ≡ some b) ⊎ ((j ≡ length l) × (a ≡ b))
   at_snoc_end [] a b zero e = inr (refl, some-injective a b e)
   at_snoc_end [] a b (suc j) e = absurd (some-ne-none b (sym e))
@@ -118,7 +129,7 @@ module _ {V : Type 0} where
 module _ {V : Type 0} (share : V → Share) where
   -- ---- shares
 
-  -- what is said of a seat's share, where the whole is so much, and the seat has so much of it
+  -- the share is k of the `whole` equal parts
   abbrev Fits : ℕ → ℕ → Share → Type 0
   Fits whole k s = (0 < s.parts) × (s.part * whole ≡ s.parts * k)
 
@@ -133,7 +144,7 @@ module _ {V : Type 0} (share : V → Share) where
         fits = alone (λ j u. Fits 1 1 (share u)) v (subst (Fits 1 1) (sym e) (omega arith, refl));
       }
 
-  -- the shares stand where a seat's view changes and its share does not
+  -- the shares of all seats still make the whole after a seat's view changes and its share does not
   pub shares_stay : (views : List V) (id : ℕ) (v w : V) → get_elem? views id ≡ some v → share w ≡ share v → Shares share views → Shares share (set views id w)
   shares_stay views id v w at same h =
       record {
@@ -146,7 +157,8 @@ module _ {V : Type 0} (share : V → Share) where
             (subst (Fits h.whole (h.each id)) (sym same) (h.fits id v at));
       }
 
-  -- they stand where a seat gives the half of its share to a new seat
+  -- The shares of all seats still make the whole after a seat gives half of its share to a new seat:
+  -- the whole is then cut into twice as many parts.
   pub shares_split : (views : List V) (id : ℕ) (v left right : V) → get_elem? views id ≡ some v
       → share left ≡ half_of (share v) → share right ≡ half_of (share v) → Shares share views
       → Shares share (set views id left ++ right ∷ [])
@@ -163,12 +175,15 @@ module _ {V : Type 0} (share : V → Share) where
       let third = tally_twice k n in
       let last : two n ≡ k id = put_same one n (k id) in
       let sum : tally two n + two n ≡ h.whole + h.whole = omega (arith, h.sum) in
+      -- the seat itself and each other seat, and then the new one
       let mine = h.fits id v at in
       record {
         whole = h.whole + h.whole;
         each = two;
         any = omega (arith, h.any);
         sum = ap (tally two) long ∙ sum;
+        -- The cases are whether the seat was one before or is the new one; a seat before is the split
+        -- one or another.
         fits = λ j u e. ⊎_elim
             (λ e'. every (λ j u. Fits (h.whole + h.whole) (two j) (share u)) views id left
             (λ j u ne at'.
@@ -189,13 +204,16 @@ module _ {V : Type 0} (share : V → Share) where
             (at_snoc_end (set views id left) right u j e);
       }
     where
+      -- A share that stays has twice as many parts of a whole that is cut into twice as many.
       same_twice : (a whole b k l : ℕ) → l ≡ k + k → a * whole ≡ b * k → a * (whole + whole) ≡ b * l
       same_twice a whole b k l is e = let both : a * (whole + whole) ≡ b * (k + k) = omega arith in both ∙ ap (λ z. b * z) (sym is)
 
+      -- Half of a share has as many parts as before, of a whole that is cut into twice as many.
       same_half : (a whole b k l : ℕ) → l ≡ k → a * whole ≡ b * k → a * (whole + whole) ≡ (b + b) * l
       same_half a whole b k l is e = let both : a * (whole + whole) ≡ (b + b) * k = omega arith in both ∙ ap (λ z. (b + b) * z) (sym is)
 
-  -- they stand where a seat takes over the share of another
+  -- The shares of all seats still make the whole after a seat takes over the share of another, which
+  -- has none then.
   pub shares_join : (views : List V) (id other : ℕ) (v w both spent : V) → get_elem? views id ≡ some v → other ≢ id → get_elem? views other ≡ some w
       → share both ≡ both_of (share v) (share w) → share spent ≡ no_share → Shares share views → Shares share (set (set views id both) other spent)
   shares_join views id other v w both spent at apart at' e₀ e₁ h =
@@ -210,6 +228,7 @@ module _ {V : Type 0} (share : V → Share) where
       let second = tally_put one other 0 n below' in
       let third : one other ≡ k other = put_other k id (k id + k other) other apart in
       let sum : tally two n ≡ h.whole = omega (arith, h.sum) in
+      -- the seat that takes the share over, each other seat, and then the spent one
       let mine = h.fits id v at in
       let theirs = h.fits other w at' in
       record {
@@ -217,6 +236,7 @@ module _ {V : Type 0} (share : V → Share) where
         each = two;
         any = h.any;
         sum = ap (tally two) long ∙ sum;
+        -- The cases are whether the seat is the spent one, the one that takes over, or another.
         fits = every (λ j u. Fits h.whole (two j) (share u)) (set views id both) other spent
             (λ j u ne e. every (λ j u. j ≢ other → Fits h.whole (two j) (share u)) views id both
             (λ j u ne e ne'.
@@ -234,7 +254,7 @@ module _ {V : Type 0} (share : V → Share) where
             (subst (Fits h.whole (two other)) (sym e₁) (omega arith, (omega (arith, put_same one other 0))));
       }
 
-  -- who has all shares leaves none to the others
+  -- where one seat has all shares, no other seat has any
   pub others_none : (views : List V) (id : ℕ) (v : V) → get_elem? views id ≡ some v → Shares share views
       → IsAll (share v) → (j : ℕ) (u : V) → j ≢ id → get_elem? views j ≡ some u → (share u).part ≡ 0
   others_none views id v at h is j u ne e =

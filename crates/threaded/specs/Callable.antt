@@ -1,8 +1,9 @@
--- What a closure is called with: places that ascend below the capacity, each at most once.
+-- What a closure is called with that visits places (`reset_all`, `find`): places that ascend below the
+-- capacity, each at most once.
 use Rattle.std.specs.Prelude.{ℕ, ◌<◌, List, All, AllPairs}
 use Rattle.std.specs.List.{FoldsTo}
 
--- each place is below the capacity, and above the one before
+-- each place is below the capacity and above the one before it
 abbrev pub Ascends : ℕ → List ℕ → Type 0
 Ascends capacity places = AllPairs (λ x y. x < y) places × All (λ place. place < capacity) places
 

@@ -25,7 +25,7 @@ both_of s t =
 abbrev pub IsAll : Share → Type 0
 IsAll s = s.part ≡ s.parts
 
--- what is left of a share, and what was split off it, after n splits, the last first
+-- what is left of a share after n splits of it
 abbrev pub rest : ℕ → Share → Share
 rest zero s = s
 rest (suc n) s = half_of (rest n s)
@@ -35,7 +35,7 @@ abbrev pub pieces : ℕ → Share → List Share
 pieces zero s = []
 pieces (suc n) s = rest (suc n) s ∷ pieces n s
 
--- a share that others are joined to, one after the other
+-- the share to which the shares of the list were joined, one after the other
 abbrev pub added : Share → List Share → Share
 added s [] = s
 added s (t ∷ ts) = added (both_of s t) ts
@@ -45,7 +45,7 @@ abbrev pub tally : (ℕ → ℕ) → ℕ → ℕ
 tally k zero = 0
 tally k (suc n) = tally k n + k n
 
--- the shares of all seats make the whole, those of dropped passes too
+-- The shares of all seats, those of dropped passes too, make the whole.
 pub record Shares {V : Type 0} (share : V → Share) (views : List V) : Type 0 where
   -- into how many equal parts the whole is cut
   pub whole : ℕ

@@ -1,8 +1,8 @@
-//! Drives the calls of `steps` on the words of a table. Nothing else touches a word, but making
-//! a table, splitting a seat, joining two, and a look.
+//! Drives the calls of `steps` on the words of a table. Besides, only four functions touch a word: those that
+//! make a table, split a seat, join two seats, and look at one word.
 //!
-//! Each operation by a function of these modules is counted in the view of the seat. No other crate can name the table
-//! of a seat, or that of a structure, so no structure takes another way.
+//! The view of a seat counts each operation on a word by a function of these modules. No other crate can name
+//! the table of a seat or of a structure, so no structure can touch a word uncounted.
 pub mod drive;
 pub mod homes;
 pub mod rule;

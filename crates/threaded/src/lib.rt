@@ -1,10 +1,9 @@
-//! What structures that threads share stand on: who knows what of the whole, and how a call is driven.
+//! The driver of all structures between threads: it takes the steps of a call on shared
+//! words, and counts them.
 //!
-//! Each call drives a value of the crate `steps` on the words of a table of `atomic_table`, of the
-//! type that the machine runs but for the room in which a value's words are read.
-//! What a caller knows of a structure is the view of its pass; the rule of the table says
-//! how the views of all passes fit together. A view counts the operations on words that its seat has asked for:
-//! each that the driver performs is one more.
+//! A call is a value of a type of `steps`, which the machine runs too, but for the room in which a value's
+//! words are read. The driver performs its operations on the words of a table of `atomic_table`. A caller
+//! knows the view of its pass, and the rule of the table says how all views fit together.
 #![tactic(auto)]
 
 pub mod driver;

@@ -1,7 +1,7 @@
 //! A share of the right to know all that has happened to a structure. No value of this type is made: it is for contracts
 //! and proofs.
 
-/// This part of so many parts.
+/// The share is `part` of `parts` equal parts of the whole.
 pub struct Share {
     pub part: u64,
     pub parts: u64,

@@ -1,5 +1,6 @@
-//! The table of records that go through the bus of `zero_copy_bus`, through the channel of `zero_copy_loans` and by `Arc` through a
-//! ring, beside records that are copied.
+//! The table of records that go through the bus of `zero_copy_bus`, through the loan channel of
+//! `zero_copy_loans`, and by `Arc` through a ring. Each is compared with records that are copied through a
+//! buffer under a lock.
 
 mod by_arcs;
 mod by_bus;
@@ -19,7 +20,8 @@ use zero_copy_bus::bus::Bus;
 use zero_copy_bus::error::BusError;
 use zero_copy_loans::channel::Channel;
 
-/// What a row is about: records of so many words, each of which so many read, and how many of them a round passes.
+/// What a row is about: how many words a record has, how many readers read each of them, and how many records
+/// a round passes.
 #[derive(Clone, Copy)]
 struct Passed {
     words: usize,
@@ -27,7 +29,7 @@ struct Passed {
     records: u64,
 }
 
-/// Of each size of a record its words, and how many of them a round passes.
+/// The sizes of the rows: how many words a record has, and how many records a round passes.
 const SIZES: [(usize, u64); 5] = [
     (8, 50_000),
     (128, 20_000),
@@ -36,7 +38,8 @@ const SIZES: [(usize, u64); 5] = [
     (131_072, 100),
 ];
 
-/// How many nanoseconds one way takes, of the processor, and the sum of what was read.
+/// Passes the records of one round. It returns the nanoseconds of the processor that this took, and the sum
+/// of the words that were read. None where a record did not come, or the clock fails.
 fn time<W: Writer, D: Reader, R: Wait + CpuClock>(
     rt: &R,
     ends: &mut Ends<W, D>,
@@ -48,8 +51,9 @@ fn time<W: Writer, D: Reader, R: Wait + CpuClock>(
     Some((u64::try_from(taken).ok()?, sum))
 }
 
-/// What the rounds of a row came to: records a second by the way that it is about and by copies, how many times as many
-/// the former passes, in hundredths, and whether the same was read of both.
+/// What the rounds of a row came to, as medians. `ours` and `copies` are records a second, by the row's own
+/// way and by copies; `ratio` is the first divided by the second, in hundredths; `same` says that both ways
+/// read the same words.
 #[derive(Clone, Copy)]
 struct Came {
     ours: u64,
@@ -58,7 +62,8 @@ struct Came {
     same: bool,
 }
 
-/// Passes the records of all rounds, one way and the other by turns. None where some do not come, or no clock tells.
+/// Passes the records of all rounds, by the row's own way and by copies in turn. None where a record did not
+/// come, or the clock fails.
 fn rounds<W: Writer, D: Reader, X: Writer, Y: Reader, R: Wait + CpuClock>(
     rt: &R,
     passed: &Passed,
@@ -85,7 +90,8 @@ fn rounds<W: Writer, D: Reader, X: Writer, Y: Reader, R: Wait + CpuClock>(
     })
 }
 
-/// The same of one way, beside a buffer under a lock.
+/// Passes the records of all rounds by the row's own way and by copies, which go through a new buffer under a
+/// lock. None where memory is refused, a record did not come, or the clock fails.
 fn rounds_beside<W: Writer, D: Reader, R: Wait + CpuClock>(
     rt: &R,
     alloc: Global,
@@ -98,7 +104,8 @@ fn rounds_beside<W: Writer, D: Reader, R: Wait + CpuClock>(
     rounds(rt, passed, ours, &mut copies)
 }
 
-/// What comes of a row of the bus.
+/// What a row of the bus came to. None where memory is refused, a subscriber is not let in, a record did not
+/// come, or the clock fails.
 fn run_bus<R: Wait + CpuClock>(
     rt: &R,
     alloc: Global,
@@ -115,7 +122,7 @@ fn run_bus<R: Wait + CpuClock>(
     Ok(rounds_beside(rt, alloc, passed, &mut ends))
 }
 
-/// The same of a typed loan channel, which has one who reads.
+/// What a row of the typed loan channel came to, which has one reader.
 fn run_loans<R: Wait + CpuClock>(rt: &R, alloc: Global, passed: &Passed) -> Option<Came> {
     let spares = spares(alloc, passed.words).ok()?;
     let mut channel = Channel::new(alloc, WAITING, WAITING).ok()?;
@@ -123,13 +130,13 @@ fn run_loans<R: Wait + CpuClock>(rt: &R, alloc: Global, passed: &Passed) -> Opti
     rounds_beside(rt, alloc, passed, &mut ends)
 }
 
-/// The same of records in an `Arc`, which go through a ring that has one who reads.
+/// What a row of records in an `Arc` came to, which go through a ring with one reader.
 fn run_arcs<R: Wait + CpuClock>(rt: &R, alloc: Global, passed: &Passed) -> Option<Came> {
     let mut ends = by_arcs::ends(alloc, passed.words).ok()?;
     rounds_beside(rt, alloc, passed, &mut ends)
 }
 
-/// Prints a row, of what came of it.
+/// Prints the line of a row: the way, the bytes of a record, the readers, and what the rounds came to.
 fn print_row(rt: &impl Print, way: &str, passed: &Passed, came: Option<Came>) -> io::Result<()> {
     let Some(came) = came else {
         return println!(rt; "{way}: no memory, no clock, or no record");
@@ -151,7 +158,8 @@ fn print_row(rt: &impl Print, way: &str, passed: &Passed, came: Option<Came>) ->
     )
 }
 
-/// Prints the rows of records of a size, with so many who read.
+/// Prints the lines of one size of records and one number of readers. The loan channel and the ring have
+/// lines for one reader only.
 fn print_rows<R: Wait + CpuClock + Print>(
     rt: &R,
     alloc: Global,
@@ -166,7 +174,7 @@ fn print_rows<R: Wait + CpuClock + Print>(
     Ok(())
 }
 
-/// Prints the table.
+/// Prints the table, for each size of records with one, two and four readers.
 pub fn print_table<R: Wait + CpuClock + Print>(rt: &R, alloc: Global) -> io::Result<()> {
     println!(rt;
         "| by | bytes | subscribers | this way, a second | copied through a Mutex and a Vec, a second | ratio |"

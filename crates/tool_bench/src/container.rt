@@ -1,4 +1,5 @@
-//! The rows of the container's values.
+//! The rows of the container's calls on values, compared with the same steps by hand and with what a user
+//! would take instead.
 
 use crate::hand::container as by_hand;
 use crate::timing::{Another, Asked, Row};
@@ -10,7 +11,8 @@ use std::sync::{Mutex, Wait};
 use std::thread::Threads;
 use std::time::CpuClock;
 
-/// Who adds numbers to a container and removes them, and what a user would take instead.
+/// A handle of a container with the owner that adds numbers, and the slab under a lock that a
+/// user would take instead.
 #[derive(Drop)]
 struct Adds<'a> {
     container: Handle<'a, u64>,
@@ -29,7 +31,7 @@ impl<'a> Another for Adds<'a> {
     }
 }
 
-/// Adds a number and removes it.
+/// Adds a number and removes it, compared with an insert and a remove of a slab under a lock.
 struct AddRemove;
 
 impl<'a> Row<Adds<'a>> for AddRemove {
@@ -56,7 +58,8 @@ impl<'a> Row<Adds<'a>> for AddRemove {
     }
 }
 
-/// A container of numbers, the owner that adds, a dead one, and what a user would take instead.
+/// A container of numbers with the owner that adds (7 by hand) and a dead owner (9 by hand). Beside it are
+/// the container by hand, and the vector under a lock that a user would take instead.
 struct Values<'a> {
     container: Handle<'a, u64>,
     owner: OwnerId,
@@ -78,7 +81,7 @@ impl<'a> Drop for Values<'a> {
 }
 
 impl<'a> Values<'a> {
-    /// Adds so many sevens on both sides.
+    /// Adds the number 7 `number` times, in the container and in the one by hand.
     fn fill<R: Wait>(&mut self, rt: &R, number: u32) {
         for _ in 0..number {
             let _ = self.container.add(rt, 7, self.owner);
@@ -86,6 +89,7 @@ impl<'a> Values<'a> {
         }
     }
 
+    /// Finds the owner's numbers, and sums them.
     #[inline(never)]
     fn finds(&mut self) -> u64 {
         let mut sum = 0u64;
@@ -99,7 +103,7 @@ impl<'a> Values<'a> {
         sum
     }
 
-    /// Frees what the dead one has.
+    /// Recovers the dead owner. 1 where the container is not locked, which is the rule, and 0 where it is.
     #[inline(never)]
     fn recovers<R: Wait>(&mut self, rt: &R) -> u64 {
         let mode = ReleaseMode::Default;
@@ -110,7 +114,7 @@ impl<'a> Values<'a> {
     }
 }
 
-/// Adds a number for the dead one, and frees it.
+/// Adds a number for the dead owner, and recovers that owner.
 struct RecoverOne;
 
 impl<'a> Row<Values<'a>> for RecoverOne {
@@ -127,7 +131,7 @@ impl<'a> Row<Values<'a>> for RecoverOne {
     }
 }
 
-/// Frees what the dead one has, which is nothing.
+/// Recovers the dead owner, who has no number, in a container that is full.
 struct RecoverFull;
 
 impl<'a> Row<Values<'a>> for RecoverFull {
@@ -142,7 +146,7 @@ impl<'a> Row<Values<'a>> for RecoverFull {
     }
 }
 
-/// Finds the numbers of the owner that adds.
+/// Finds the numbers of the owner that adds, and sums them, compared with the same steps by hand.
 struct FindEach;
 
 impl<'a> Row<Values<'a>> for FindEach {
@@ -157,6 +161,7 @@ impl<'a> Row<Values<'a>> for FindEach {
     }
 }
 
+/// Finds the numbers of the owner that adds, and sums them, compared with a sum over a vector under a lock.
 struct FindBeside;
 
 impl<'a> Row<Values<'a>> for FindBeside {
@@ -177,6 +182,8 @@ impl<'a> Row<Values<'a>> for FindBeside {
     }
 }
 
+/// Times and prints the rows of the container that are asked for: two of an empty one and three of a full
+/// one. None where memory, a further pass or the clock fails.
 pub fn rows<R: Wait + Threads + CpuClock + Print + Sync>(
     rt: &R,
     alloc: Global,

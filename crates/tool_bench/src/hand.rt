@@ -1,4 +1,6 @@
-//! The steps written by hand: words under no rule, and one operation on one of them.
+//! The words on which the steps by hand are made: a table of atomic words that keep no rule,
+//! and one operation on one of them. With these the rows measure what the calls of the crates
+//! cost beside their steps.
 ghost use Rattle.std.specs.Prelude.{◌≡◌, ◌<◌, length, IfOk};
 ghost use Rattle.std.specs.Arc.{arc_value};
 
@@ -12,7 +14,7 @@ pub mod looks;
 pub mod queues;
 pub mod robust;
 
-/// A rule that always holds, and a step that tells nothing.
+/// A rule of a table that always holds, and steps that tell nothing.
 pub struct Anything;
 
 impl TableRule<(), (), ()> for Anything {
@@ -25,7 +27,7 @@ impl Play<(), ()> for Anything {
     ghost then = { λ _ _ _ _. Unit {0} };
 }
 
-/// Words that threads could share, of which each operation is one atomic step.
+/// A table of words that threads could share, with a seat at it. Each operation is one atomic step.
 pub struct Words {
     seat: Seat<(), ()>,
     table: Arc<Table<(), (), (), Anything, Global>, Global>,
@@ -45,7 +47,7 @@ impl Drop for Words {
 }
 
 impl Words {
-    /// Words that hold these numbers.
+    /// A table whose words hold these numbers.
     pub fn new(alloc: Global, numbers: &[u64]) -> Result<Words, AllocError>
         ensures { IfOk result (λ w. w.size ≡ length numbers.now) }
     {
@@ -58,6 +60,7 @@ impl Words {
         })
     }
 
+    /// The number in the word.
     #[inline(always)]
     pub fn load(&mut self, word: usize) -> u64
         requires { word < self.old.size }
@@ -66,6 +69,7 @@ impl Words {
         self.table.shared.load::<Anything>(&mut self.seat, word)
     }
 
+    /// Stores the number `new` in the word.
     #[inline(always)]
     pub fn store(&mut self, word: usize, new: u64)
         requires { word < self.old.size }
@@ -76,6 +80,7 @@ impl Words {
             .store::<Anything>(&mut self.seat, word, new);
     }
 
+    /// Adds `by` to the word, and returns the number that was there.
     #[inline(always)]
     pub fn add(&mut self, word: usize, by: u64) -> u64
         requires { word < self.old.size }
@@ -86,7 +91,7 @@ impl Words {
             .fetch_add::<Anything>(&mut self.seat, word, by)
     }
 
-    /// Writes `to` only where the word is `from`; the old number.
+    /// Writes `to` into the word if it holds `from`. It returns the number that was there in both cases.
     #[inline(always)]
     pub fn exchange(&mut self, word: usize, from: u64, to: u64) -> u64
         requires { word < self.old.size }

@@ -1,4 +1,5 @@
-//! The rows of the container's states, and of a replaced value.
+//! The rows of the container's states and of `replace`, compared with the same steps by hand and with what a
+//! user would take instead.
 
 use crate::hand::looks as by_hand;
 use crate::timing::{Asked, Row};
@@ -9,9 +10,10 @@ use std::alloc::{AllocError, Global};
 use std::sync::{Mutex, Wait};
 use std::time::CpuClock;
 
+/// What a user would take instead of a container with states.
 const LOCKED: &str = "`Mutex<Vec>`";
 
-/// Values, and how often they have changed.
+/// The values that a user would keep under a lock, and how often they have changed.
 #[derive(Drop)]
 struct Kept {
     values: Vec<u64>,
@@ -19,13 +21,13 @@ struct Kept {
 }
 
 impl Kept {
-    /// So many, each 7.
+    /// `number` values, each of them 7.
     fn new(alloc: Global, number: usize) -> Result<Kept, AllocError> {
         let values = Vec::from_elem(alloc, 7u64, number)?;
         Ok(Kept { values, changes: 0 })
     }
 
-    /// Writes the first one.
+    /// Writes the first value, and counts the change. It returns 1, as `replaces` does.
     #[inline(always)]
     fn change(&mut self, value: u64) -> u64 {
         if self.values.len() > 0 {
@@ -35,7 +37,8 @@ impl Kept {
         1
     }
 
-    /// Copies all where they have changed since: whether they have.
+    /// Copies all values into `copy`, if they have changed since it was made. 1 where they
+    /// have, and 0 where not.
     #[inline(always)]
     fn update(&self, copy: &mut Kept) -> u64 {
         if copy.changes == self.changes || copy.values.len() != self.values.len() {
@@ -47,8 +50,9 @@ impl Kept {
     }
 }
 
-/// A container in which a seven stands at each index, a state of it, and the handle of the last value, whose index the steps
-/// by hand take too; and what a user would take instead, with a copy.
+/// A container in which 7 stands at each index, a state of it, and the handle of the value at the last index.
+/// Beside it are the container by hand with that index, and the values under a lock with a copy, as a user
+/// would have them.
 struct Looks<'a> {
     container: Handle<'a, u64>,
     state: ContainerState<u64>,
@@ -74,11 +78,14 @@ impl<'a> Drop for Looks<'a> {
 }
 
 impl<'a> Looks<'a> {
+    /// Replaces the value at the last index. 1 where that is done.
     #[inline(always)]
     fn replaces(&mut self, number: u64) -> u64 {
         self.container.replace(self.one, number).is_ok() as u64
     }
 
+    /// Brings the state up to date. 1 where it had changed, 0 where not, and 2 where it is not
+    /// one of this container.
     #[inline(always)]
     fn updates<R: Wait>(&mut self, rt: &R) -> u64 {
         if !self.container.is_state_of(&self.state) {
@@ -88,7 +95,7 @@ impl<'a> Looks<'a> {
     }
 }
 
-/// Makes a state.
+/// Takes a new state of a full container, compared with the same steps by hand.
 struct GetState;
 
 impl<'a> Row<Looks<'a>> for GetState {
@@ -103,6 +110,7 @@ impl<'a> Row<Looks<'a>> for GetState {
     }
 }
 
+/// Takes a new state of a full container, compared with a copy of the vector under its lock.
 struct GetStateBeside;
 
 impl<'a> Row<Looks<'a>> for GetStateBeside {
@@ -119,7 +127,7 @@ impl<'a> Row<Looks<'a>> for GetStateBeside {
     }
 }
 
-/// Brings a state up to date, which it is.
+/// Brings a state up to date in which nothing has changed.
 struct Unchanged;
 
 impl<'a> Row<Looks<'a>> for Unchanged {
@@ -134,7 +142,7 @@ impl<'a> Row<Looks<'a>> for Unchanged {
     }
 }
 
-/// Replaces one value, and brings a state up to date.
+/// Replaces one value, and brings a state up to date, compared with the same steps by hand.
 struct ChangeOne;
 
 impl<'a> Row<Looks<'a>> for ChangeOne {
@@ -151,6 +159,8 @@ impl<'a> Row<Looks<'a>> for ChangeOne {
     }
 }
 
+/// Replaces one value, and brings a state up to date, compared with a write and a copy of the
+/// vector under its lock.
 struct ChangeBeside;
 
 impl<'a> Row<Looks<'a>> for ChangeBeside {
@@ -169,7 +179,7 @@ impl<'a> Row<Looks<'a>> for ChangeBeside {
     }
 }
 
-/// Replaces one value.
+/// Replaces one value, compared with a write of the vector under its lock.
 struct ReplaceBeside;
 
 impl<'a> Row<Looks<'a>> for ReplaceBeside {
@@ -186,7 +196,7 @@ impl<'a> Row<Looks<'a>> for ReplaceBeside {
     }
 }
 
-/// Sums what a state shows.
+/// Sums the values that a state shows, compared with a sum over a vector.
 struct ForEachBeside;
 
 impl<'a> Row<Looks<'a>> for ForEachBeside {
@@ -212,7 +222,8 @@ impl<'a> Row<Looks<'a>> for ForEachBeside {
     }
 }
 
-/// A seven at each index: the handle of the last one.
+/// Fills the container with 7 at each index, and returns the handle of the last one. None
+/// where an `add` is refused.
 fn fill<R: Wait>(rt: &R, container: &mut Handle<'_, u64>, number: u32) -> Option<ContainerHandle> {
     let owner = OwnerId::new(7).ok()?;
     let mut last = container.add(rt, 7, owner);
@@ -222,6 +233,8 @@ fn fill<R: Wait>(rt: &R, container: &mut Handle<'_, u64>, number: u32) -> Option
     last.ok()
 }
 
+/// The container, filled, with its state, and what it is compared with. None where memory or
+/// an `add` is refused.
 fn make<'a, R: Wait>(
     rt: &R,
     alloc: Global,
@@ -245,7 +258,8 @@ fn make<'a, R: Wait>(
     })
 }
 
-/// (What a state shows is summed before anything is replaced.)
+/// Times and prints the rows of states that are asked for. The values of a state are summed before anything
+/// is replaced, so that both sides have the same sum. None where memory or the clock fails.
 pub fn rows<R: Wait + CpuClock + Print>(
     rt: &R,
     alloc: Global,

@@ -1,7 +1,8 @@
-//! Times threaded calls against the same steps written by hand, or against what a user would take instead, and prints a
-//! table. The first argument is what the name of a row begins with, or `all`; without one it times nothing. With a second
-//! one, `together`, these are the rows in which several threads make the calls at once. `bus` prints a table of its own,
-//! of records that go from one end to another. `bin/bench` builds it and runs it.
+//! Times threaded calls against the same steps written by hand, or against what a user would take instead,
+//! and prints a table. The first argument is what the name of a row begins with, or `all`; without one it
+//! times nothing. With a second one, `together`, it times the rows in which several threads make the calls at
+//! once. `bus` prints a table of its own, of records that go from one end to another. `bin/bench` builds it
+//! and runs it.
 #![tactic(auto)]
 
 mod bits;
@@ -22,7 +23,8 @@ use std::time::CpuClock;
 use std::{env, io};
 use timing::Asked;
 
-/// Prints the rows at these capacities. (The value has none.)
+/// Prints the rows that are asked for, at these capacities. The single value, which has no
+/// capacity, has its rows once.
 fn print_rows<R: Wait + Threads + CpuClock + Print + Sync>(
     rt: &R,
     alloc: Global,
@@ -41,6 +43,7 @@ fn print_rows<R: Wait + Threads + CpuClock + Print + Sync>(
     Some(())
 }
 
+/// Reads the arguments, and prints the table that they ask for.
 fn main(rt: HostRuntime) -> io::Result<()> {
     let mut args = env::args(&rt)?;
     let _program = args.next();

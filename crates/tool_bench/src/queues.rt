@@ -1,4 +1,5 @@
-//! The rows of the queues.
+//! The rows of the index queue, compared with queues that a user would take instead, and of the overflowing
+//! queue, compared with the same steps by hand.
 use crate::hand::queues as by_hand;
 use crate::timing::{Asked, Row};
 use crossbeam_queue::ArrayQueue;
@@ -11,9 +12,11 @@ use std::collections::VecDeque;
 use std::sync::{Mutex, Wait};
 use std::time::CpuClock;
 
+/// The name of the three rows that push a number and pop it.
 const PUSH_AND_POP: &str = "index queue: push and pop";
 
-/// What a user would take instead.
+/// The queues that a user would take instead: a ring of `rtrb`, an `ArrayQueue`, and a
+/// `VecDeque` under a lock.
 struct Usual {
     producer: rtrb::Producer<u64>,
     consumer: rtrb::Consumer<u64>,
@@ -35,6 +38,7 @@ impl Drop for Usual {
 }
 
 impl Usual {
+    /// Empty queues of this capacity. None where memory is refused.
     fn new(alloc: Global, capacity: usize) -> Option<Usual> {
         let (producer, consumer) = RingBuffer::new(alloc, capacity).ok()?;
         let array = ArrayQueue::new(alloc, capacity.max(1)).ok()?;
@@ -48,6 +52,7 @@ impl Usual {
         })
     }
 
+    /// Pushes into the `VecDeque` under its lock. False where it is full.
     #[inline(always)]
     fn pushes<R: Wait>(&self, rt: &R, value: u64) -> bool {
         let mut deque = self.deque.lock(rt);
@@ -55,7 +60,7 @@ impl Usual {
     }
 }
 
-/// The two ends of an index queue.
+/// The two ends of an index queue, and the queues that it is compared with.
 struct Numbers<'a> {
     producer: Producer<'a>,
     consumer: Consumer<'a>,
@@ -73,7 +78,7 @@ impl<'a> Drop for Numbers<'a> {
 }
 
 impl<'a> Numbers<'a> {
-    /// A push and a pop.
+    /// Pushes a number and pops one: the number that came out, or 0 where a call failed.
     #[inline(always)]
     fn turns(&mut self, number: u64) -> u64 {
         let pushed = self.producer.push(number);
@@ -84,6 +89,7 @@ impl<'a> Numbers<'a> {
     }
 }
 
+/// A push and a pop, compared with those of `rtrb`, which also has one producer and one consumer.
 struct BesideRing;
 
 impl<'a> Row<Numbers<'a>> for BesideRing {
@@ -104,6 +110,7 @@ impl<'a> Row<Numbers<'a>> for BesideRing {
     }
 }
 
+/// A push and a pop, compared with those of an `ArrayQueue`.
 struct BesideArray;
 
 impl<'a> Row<Numbers<'a>> for BesideArray {
@@ -124,6 +131,7 @@ impl<'a> Row<Numbers<'a>> for BesideArray {
     }
 }
 
+/// A push and a pop, compared with those of a `VecDeque` under a lock.
 struct BesideDeque;
 
 impl<'a> Row<Numbers<'a>> for BesideDeque {
@@ -145,7 +153,7 @@ impl<'a> Row<Numbers<'a>> for BesideDeque {
     }
 }
 
-/// The consumer's end of an overflowing queue.
+/// The consumer's end of an overflowing queue, and the queue by hand. Both are empty.
 struct Overflowing<'a> {
     consumer: overflow::Consumer<'a>,
     hand: by_hand::Overflowing,
@@ -160,6 +168,7 @@ impl<'a> Drop for Overflowing<'a> {
     }
 }
 
+/// A pop of an empty overflowing queue, compared with the same steps by hand.
 struct OverflowPop;
 
 impl<'a> Row<Overflowing<'a>> for OverflowPop {
@@ -174,6 +183,7 @@ impl<'a> Row<Overflowing<'a>> for OverflowPop {
     }
 }
 
+/// Times and prints the rows of the queues that are asked for. None where memory, a role or the clock fails.
 pub fn rows<R: Wait + CpuClock + Print>(
     rt: &R,
     alloc: Global,

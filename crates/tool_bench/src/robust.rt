@@ -1,4 +1,4 @@
-//! The rows of the robust index set.
+//! The rows of the robust index set, compared with the same steps by hand.
 ghost use Rattle.lock_free.specs.RobustUniqueIndexSet.{IsPassOf};
 
 use crate::hand::robust as by_hand;
@@ -11,7 +11,8 @@ use std::alloc::Global;
 use std::sync::Wait;
 use std::time::CpuClock;
 
-/// A set with a pass, the owner that acquires, and a dead one.
+/// A robust set with a pass, the set by hand, the owner that acquires (7 by hand), and a
+/// dead owner (9 by hand).
 struct Robust<'a> {
     set: &'a RobustUniqueIndexSet,
     pass: Pass,
@@ -34,7 +35,7 @@ impl<'a> Drop for Robust<'a> {
 }
 
 impl<'a> Robust<'a> {
-    /// Takes so many indices on both sides.
+    /// Takes `number` indices for the owner in both sets.
     fn fill<R: Wait>(&mut self, rt: &R, number: u32) {
         for _ in 0..number {
             let _ = self.set.acquire(rt, self.owner, &mut self.pass);
@@ -42,7 +43,7 @@ impl<'a> Robust<'a> {
         }
     }
 
-    /// Frees what the dead one has.
+    /// Recovers the dead owner. 1 where the set is not locked, which is the rule, and 0 where it is.
     #[inline(never)]
     fn recovers<R: Wait>(&mut self, rt: &R) -> u64 {
         let dead = self.dead;
@@ -60,7 +61,7 @@ impl<'a> Robust<'a> {
     }
 }
 
-/// Takes an index, and gives it back.
+/// Takes an index for the owner, and gives it back.
 struct Turns;
 
 impl<'a> Row<Robust<'a>> for Turns {
@@ -85,7 +86,7 @@ impl<'a> Row<Robust<'a>> for Turns {
     }
 }
 
-/// Takes an index for the dead one, and frees it.
+/// Takes an index for the dead owner, and recovers it.
 struct RecoverOne;
 
 impl<'a> Row<Robust<'a>> for RecoverOne {
@@ -102,7 +103,7 @@ impl<'a> Row<Robust<'a>> for RecoverOne {
     }
 }
 
-/// Frees what the dead one has, which is nothing.
+/// Recovers the dead owner, who has no index, in a set that is full.
 struct RecoverFull;
 
 impl<'a> Row<Robust<'a>> for RecoverFull {
@@ -117,7 +118,7 @@ impl<'a> Row<Robust<'a>> for RecoverFull {
     }
 }
 
-/// Finds what the owner has.
+/// Finds the owner's indices, and sums them.
 struct FindEach;
 
 impl<'a> Row<Robust<'a>> for FindEach {
@@ -141,6 +142,8 @@ impl<'a> Row<Robust<'a>> for FindEach {
     }
 }
 
+/// Times and prints the rows of the robust set that are asked for: two of an empty set and two of a full one.
+/// None where memory or the clock fails.
 pub fn rows<R: Wait + CpuClock + Print>(
     rt: &R,
     alloc: Global,

@@ -1,4 +1,5 @@
-//! Two that do the same are timed by turns, each in one thread or in several at once.
+//! Times a call and what it is compared with by turns, in one thread or in several at once, and prints the
+//! medians of the rounds.
 
 use std::alloc::Global;
 use std::sync::Wait;
@@ -6,49 +7,58 @@ use std::thread::Threads;
 use std::time::CpuClock;
 use std::{io, thread};
 
-/// How often each of the two is timed.
+/// How many rounds each row has. In a round the call and what it is compared with are timed once each.
 pub const ROUNDS: usize = 11;
 
-/// How many nanoseconds of the processor one timing takes at least.
+/// How many nanoseconds of the processor the calls of one round take at least, so that the
+/// clock is fine enough.
 const LONG_ENOUGH: u64 = 2_000_000;
 
-/// A row of the table: a call, and beside what it is timed, the same steps by hand or what a user would take instead. Each
-/// of the two answers a number, so that they can be seen to do the same, and is given how many calls came before it in its
-/// round.
+/// A row of the table: a call, and what it is compared with, which is the same steps by hand or what a user
+/// would take instead. Both answer a number, by which a difference in what they do is seen, and are given how
+/// many calls came before in their round.
 pub trait Row<T> {
+    /// The name of the row, by which it is asked for.
     const NAME: &'static str;
 
+    /// What the call is compared with.
     const BESIDE: &'static str = "by hand";
 
+    /// Makes the call once.
     fn ours<R: Wait>(on: &mut T, rt: &R, number: u64) -> u64;
 
+    /// Does once what the call is compared with.
     fn theirs<R: Wait>(on: &mut T, rt: &R, number: u64) -> u64;
 }
 
-/// What several threads can have at once.
+/// What a thread needs to make the calls of a row, so that several threads can make them at once.
 pub trait Another: Drop + Sized {
-    /// Another one of the same. None where there is none.
+    /// Another one of the same. None where no further pass can be counted.
     fn another(&mut self) -> Option<Self>;
 }
 
-/// The rows that are asked for: what their names begin with, or `all`, and whether these are the rows of several threads.
+/// The rows that are asked for: what their names begin with, or `all`, and whether they are
+/// timed in several threads.
 #[derive(Clone, Copy)]
 pub struct Asked<'a> {
     pub beginning: &'a str,
     pub together: bool,
 }
 
+/// The call as a function that is not inlined, so that the loop around it is the same on both sides.
 #[inline(never)]
 fn ours<X: Row<T>, T, R: Wait>(rt: &R, on: &mut T, number: u64) -> u64 {
     X::ours(on, rt, number)
 }
 
+/// What the call is compared with, as a function that is not inlined.
 #[inline(never)]
 fn theirs<X: Row<T>, T, R: Wait>(rt: &R, on: &mut T, number: u64) -> u64 {
     X::theirs(on, rt, number)
 }
 
-/// The nanoseconds of the processor that so many calls take, and the sum of their answers.
+/// Makes `calls` calls, of the row's own or of what it is compared with. It returns the nanoseconds of the
+/// processor that they took, and the sum of their answers.
 fn time<X: Row<T>, T, R: Wait + CpuClock>(
     rt: &R,
     on: &mut T,
@@ -69,7 +79,7 @@ fn time<X: Row<T>, T, R: Wait + CpuClock>(
     Ok((u64::try_from(taken).unwrap_or(u64::MAX), sum))
 }
 
-/// How many calls of either take long enough: a power of two. Each of the two makes as many.
+/// How many calls take long enough on both sides. It is a power of two, found by doubling.
 fn enough<X: Row<T>, T, R: Wait + CpuClock>(rt: &R, on: &mut T) -> io::Result<u64> {
     let mut calls = 1u64;
     for _ in 0..30 {
@@ -83,17 +93,17 @@ fn enough<X: Row<T>, T, R: Wait + CpuClock>(rt: &R, on: &mut T) -> io::Result<u6
     Ok(calls)
 }
 
-/// One of those who make the calls: what its calls of a round took, and the sum of their answers.
+/// One thread's means to make the calls, and what its calls of a round took, with the sum of their answers.
 #[derive(Drop)]
 struct Caller<T: Drop> {
     on: T,
     taken: u64,
     sum: u64,
-    // (no two of them write to one line of a cache)
+    // These words keep the numbers of two callers out of one cache line.
     _apart: [u64; 16],
 }
 
-/// So many callers.
+/// `number` callers, each with another one of `on`. None where memory or a further pass is refused.
 fn callers<T: Another>(alloc: Global, on: &mut T, number: usize) -> Option<Vec<Caller<T>>> {
     let mut all = Vec::new(alloc);
     for _ in 0..number {
@@ -108,8 +118,8 @@ fn callers<T: Another>(alloc: Global, on: &mut T, number: usize) -> Option<Vec<C
     Some(all)
 }
 
-/// What so many calls of each take together, and the sum of all answers. They make them at once, each in a thread. The
-/// calls of one took nothing where the clock does not tell.
+/// Lets each caller make `calls` calls at the same time, in a thread of its own. It returns the sum of what
+/// they took, and of their answers. A caller whose clock fails counts as 0.
 fn time_all<X: Row<T> + Send, T: Drop + Send, R: Wait + Threads + CpuClock + Sync>(
     rt: &R,
     callers: &mut [Caller<T>],
@@ -137,20 +147,20 @@ fn time_all<X: Row<T> + Send, T: Drop + Send, R: Wait + Threads + CpuClock + Syn
     (taken, sum)
 }
 
-/// The middle one.
+/// The middle one of the rounds' numbers.
 pub fn median(numbers: &[u64; ROUNDS]) -> u64 {
     let mut sorted = *numbers;
     sorted.sort_unstable();
     sorted[ROUNDS / 2]
 }
 
-/// The quotient in units of one part of so many, 0 where there is none.
+/// The quotient in units of 1 / `parts`, as 250 for 2.5 with `parts` 100. It is 0 where `by` is 0.
 pub fn quotient(number: u64, by: u64, parts: u64) -> u64 {
     number.saturating_mul(parts).checked_div(by).unwrap_or(0)
 }
 
-/// What the rounds of a row came to: tenths of nanoseconds of a call of either, hundredths of the ratio, and whether both
-/// gave the same answers.
+/// What the rounds of a row came to. These are tenths of nanoseconds for a call on both sides, hundredths of
+/// their ratio, and whether both sides gave the same answers in all rounds.
 #[derive(Clone, Copy)]
 struct Came {
     ours: [u64; ROUNDS],
@@ -169,7 +179,7 @@ impl Came {
         }
     }
 
-    /// Notes a round of so many calls of either.
+    /// Notes a round: what `calls` calls took on both sides, and the sums of their answers.
     fn note(&mut self, round: usize, calls: u64, ours: (u64, u64), theirs: (u64, u64)) {
         if round < ROUNDS {
             self.ours[round] = quotient(ours.0, calls, 10);
@@ -180,7 +190,8 @@ impl Came {
     }
 }
 
-/// Prints a row. Answers of several threads are not compared.
+/// Prints the line of a row: the medians, what the call is compared with, and whether the answers differed.
+/// Those of several threads are not compared, since they depend on who comes first.
 fn print_row<X: Row<T>, T, R: Print>(
     rt: &R,
     capacity: u32,
@@ -214,7 +225,8 @@ fn print_row<X: Row<T>, T, R: Print>(
     )
 }
 
-/// Times the row in so many threads at once, and prints it.
+/// Times the row in this many threads at once, and prints its line. None where memory, a further
+/// pass or the clock fails.
 fn in_threads<X: Row<T> + Send, T: Another + Send, R: Wait + Threads + CpuClock + Print + Sync>(
     rt: &R,
     alloc: Global,
@@ -234,7 +246,7 @@ fn in_threads<X: Row<T> + Send, T: Another + Send, R: Wait + Threads + CpuClock 
     print_row::<X, T, R>(rt, capacity, threads, &came).ok()
 }
 
-/// The same in one.
+/// Times the row in one thread, and prints its line.
 fn in_one<X: Row<T>, T, R: Wait + CpuClock + Print>(
     rt: &R,
     capacity: u32,
@@ -251,11 +263,13 @@ fn in_one<X: Row<T>, T, R: Wait + CpuClock + Print>(
 }
 
 impl<'a> Asked<'a> {
+    /// Whether a row of this name is asked for.
     fn is_of(&self, name: &str) -> bool {
         self.beginning == "all" || name.starts_with(self.beginning)
     }
 
-    /// Prints a row of one thread, if it is asked for. None where no clock tells, or nothing is printed.
+    /// Times and prints a row of one thread, if it is asked for. None where the clock fails, or
+    /// nothing can be printed.
     pub fn alone<X: Row<T>, T, R: Wait + CpuClock + Print>(
         &self,
         rt: &R,
@@ -268,8 +282,8 @@ impl<'a> Asked<'a> {
         in_one::<X, T, R>(rt, capacity, on).ok()
     }
 
-    /// Prints a row of one thread, or of two threads and of four, whichever is asked for. None also where there is no memory, or
-    /// no further pass.
+    /// Times and prints a row in one thread, or in two and in four at once, as is asked for. None where
+    /// memory, a further pass, the clock or the print fails.
     pub fn both<X: Row<T> + Send, T: Another + Send, R: Wait + Threads + CpuClock + Print + Sync>(
         &self,
         rt: &R,

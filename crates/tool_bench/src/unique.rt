@@ -1,4 +1,5 @@
-//! The rows of the unique index set: an index is taken and given back.
+//! The rows of the unique index set: an index is taken and given back, compared with what a
+//! user would take instead.
 ghost use Rattle.lock_free.specs.UniqueIndexSet.{IsPassOf};
 
 use crate::timing::{Another, Asked, Row};
@@ -9,12 +10,14 @@ use std::sync::{Mutex, Wait};
 use std::thread::Threads;
 use std::time::CpuClock;
 
+/// The name of both rows.
 const NAME: &str = "unique index set: acquire and release";
 
-/// No index came.
+/// The answer of a row that got no index; no index is so great.
 const NONE: u64 = 1 << 32;
 
-/// A set with a pass, and what a user would take instead: a slab, for one thread, and the free indices under a lock.
+/// A unique index set with a pass, and what a user would take instead. That is a slab, which only one thread
+/// can use, and the free indices in a vector under a lock.
 struct Unique<'a> {
     set: &'a UniqueIndexSet,
     pass: Pass,
@@ -47,6 +50,7 @@ impl<'a> Another for Unique<'a> {
 }
 
 impl<'a> Unique<'a> {
+    /// Takes an index and gives it back: its number, or `NONE`.
     #[inline(always)]
     fn turns<R: Wait>(&mut self, rt: &R) -> u64 {
         match self.set.acquire_raw_index(rt, &mut self.pass) {
@@ -59,6 +63,7 @@ impl<'a> Unique<'a> {
     }
 }
 
+/// An index is taken and given back, compared with an insert and a remove of a slab.
 struct BesideSlab;
 
 impl<'a> Row<Unique<'a>> for BesideSlab {
@@ -84,6 +89,7 @@ impl<'a> Row<Unique<'a>> for BesideSlab {
     }
 }
 
+/// An index is taken and given back, compared with a pop and a push of the free indices under a lock.
 struct BesideStack;
 
 impl<'a> Row<Unique<'a>> for BesideStack {
@@ -104,7 +110,7 @@ impl<'a> Row<Unique<'a>> for BesideStack {
     }
 }
 
-/// All indices, the lowest on top.
+/// The free indices, with the lowest one on top.
 fn free(alloc: Global, capacity: u32) -> Result<Vec<u32>, AllocError> {
     let mut free = Vec::new(alloc);
     for index in 0..capacity {
@@ -113,6 +119,8 @@ fn free(alloc: Global, capacity: u32) -> Result<Vec<u32>, AllocError> {
     Ok(free)
 }
 
+/// Times and prints the rows of the unique index set that are asked for, the second one also in several
+/// threads. None where memory, a further pass or the clock fails.
 pub fn rows<R: Wait + Threads + CpuClock + Print + Sync>(
     rt: &R,
     alloc: Global,

@@ -1,4 +1,4 @@
-//! The rows of the single value, of 16 words.
+//! The rows of the single value of 16 words, compared with an array of 16 words under a lock.
 ghost use Rattle.lock_free.specs.Value.Calls.{IsPassOf};
 
 use crate::timing::{Asked, Row};
@@ -8,10 +8,10 @@ use std::alloc::Global;
 use std::sync::{Mutex, Wait};
 use std::time::CpuClock;
 
-/// What a user would take instead.
+/// What a user would take instead of the single value.
 const LOCKED: &str = "`Mutex<[u64; 16]>`";
 
-/// A value of 16 words: these four, four times.
+/// A value of 16 words: its four numbers, four times one after another.
 #[derive(Clone, Copy)]
 pub struct Sixteen(u64, u64, u64, u64);
 
@@ -65,14 +65,14 @@ impl Words for Sixteen {
     }
 }
 
-/// One who stores.
+/// The producer of a value, and the array under a lock.
 #[derive(Drop)]
 struct Stores<'a> {
     producer: Producer<'a, Sixteen>,
     locked: &'a Mutex<[u64; 16]>,
 }
 
-/// A store.
+/// A store of a value, compared with a write of the array under its lock.
 struct Store;
 
 impl<'a> Row<Stores<'a>> for Store {
@@ -90,7 +90,7 @@ impl<'a> Row<Stores<'a>> for Store {
     }
 }
 
-/// One who loads.
+/// A value with a pass that loads, and the array under a lock.
 #[derive(Drop)]
 struct Loads<'a> {
     value: &'a UnrestrictedAtomic<Sixteen>,
@@ -99,7 +99,7 @@ struct Loads<'a> {
     ghost of: { IsPassOf value.now pass },
 }
 
-/// A load.
+/// A load of a value, compared with a copy of the array under its lock.
 struct Load;
 
 impl<'a> Row<Loads<'a>> for Load {
@@ -117,6 +117,7 @@ impl<'a> Row<Loads<'a>> for Load {
     }
 }
 
+/// Times and prints the row of the store, if it is asked for. None where memory, the role or the clock fails.
 fn rows_of_stores<R: Wait + CpuClock + Print>(
     rt: &R,
     alloc: Global,
@@ -133,6 +134,8 @@ fn rows_of_stores<R: Wait + CpuClock + Print>(
     asked.alone::<Store, Stores<'_>, R>(rt, capacity, &mut on)
 }
 
+/// Times and prints the rows of the single value that are asked for. None where memory, the
+/// role or the clock fails.
 pub fn rows<R: Wait + CpuClock + Print>(
     rt: &R,
     alloc: Global,

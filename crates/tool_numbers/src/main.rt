@@ -58,6 +58,7 @@ fn relay<R: Threads + Wait + Sync>(rt: &R, alloc: Global) -> Option<(bool, usize
     Some((is_in_order, consumer.len(rt)))
 }
 
+/// Sends the numbers through the queue, and prints whether they came in order and how many are left in it.
 fn main(rt: HostRuntime) -> io::Result<ExitCode> {
     let Some((is_in_order, left)) = relay(&rt, rt.alloc()) else {
         eprintln!(rt; "no memory")?;

@@ -17,7 +17,7 @@ use std::process::ExitCode;
 enum Form {
     Told,
     Explained,
-    /// Turn by turn, perhaps with all words.
+    /// The output tells turn by turn, with all words where this is true.
     Turns(bool),
 }
 
@@ -41,6 +41,8 @@ fn turns_asked(rt: &HostRuntime) -> io::Result<Option<Form>> {
     Ok(None)
 }
 
+/// Reads a schedule from standard input, and runs it in the form that the argument asks for. It exits with
+/// the status of the run.
 fn main(rt: HostRuntime) -> io::Result<ExitCode> {
     let form = match form_asked(&rt) {
         Ok(Some(form)) => form,

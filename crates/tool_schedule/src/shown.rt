@@ -15,10 +15,11 @@ use schedule::text::{Rest, lines};
 use std::alloc::Global;
 use std::io::{Read, Write};
 
-/// Of so many parties and places at most it is told what they show.
+/// The output tells of the parties, and of the indices of a container, below this number; and of the party
+/// whose turn it was.
 const MOST: u64 = 8;
 
-/// A machine whose turns are shown, and the text so far.
+/// A machine whose turns are shown, and the text that is written.
 struct Shown<'a, M> {
     setup: Setup,
     machine: M,
@@ -46,7 +47,7 @@ fn party_of(turn: &Turn<u128>) -> u32 {
 }
 
 impl<'a, M: TakesTurns<u128>> Shown<'a, M> {
-    /// Adds the events from this one on.
+    /// Adds the events from place `before` on.
     fn show_events(&mut self, before: usize) {
         let events = self.machine.events();
         for at in before..events.len() {
@@ -65,7 +66,7 @@ impl<'a, M: TakesTurns<u128>> Shown<'a, M> {
         self.pen.put("\n");
     }
 
-    /// One turn, of the line of this number. Whether its call goes on.
+    /// Takes one turn of the line `number`, and shows it. Answers whether its call goes on.
     fn take(&mut self, number: u64, turn: &Turn<u128>) -> bool {
         let party = party_of(turn);
         let before = self.machine.events().len();
@@ -80,7 +81,7 @@ impl<'a, M: TakesTurns<u128>> Shown<'a, M> {
         refusal.is_none() && self.machine.is_going(party)
     }
 
-    /// Takes up to so many turns `Next` of the party, until its call is over or a turn is refused.
+    /// Takes up to `most` turns `Next` of the party, until its call is over or a turn is refused.
     fn take_nexts(&mut self, number: u64, party: u32, most: u64) {
         for _ in 0..most {
             if !self.take(number, &Turn::Next(party)) {
@@ -141,7 +142,8 @@ impl<'a, M: TakesTurns<u128>> Shown<'a, M> {
         }
     }
 
-    // What stands after a turn of this party.
+    // Adds what stands after a turn of this party: how far each call is, what its state shows, and the words
+    // if these are asked for.
     fn show(&mut self, party: u32) {
         if self.has_words {
             self.show_words();
@@ -154,7 +156,7 @@ impl<'a, M: TakesTurns<u128>> Shown<'a, M> {
         }
     }
 
-    /// The lines after the first, of at most so many bytes.
+    /// Does the lines after the first. `bytes` is at least their number.
     fn lines(&mut self, bytes: usize, rest: Rest<'_>) -> Result<(), ScheduleError> {
         let mut left = rest;
         for at in 0..bytes {

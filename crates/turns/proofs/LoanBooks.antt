@@ -1,4 +1,5 @@
--- What a step of a call of a loan channel keeps, from what its parts have done: a lemma, so that no goal computes the step.
+-- The book of a loan channel after a step of a call, from what the parts of the step have done to it: a
+-- lemma, so that no goal computes the step.
 use Rattle.std.proofs.Common.{◌≡◌, ℕ, Option, Some, None, List, fold, ap, sym, ◌∙◌}
 use Rattle.steps.specs.declared.ask.After.{After}
 use Rattle.steps.specs.Ask.{CameTo}
@@ -11,7 +12,7 @@ use Rattle.model.specs.Families.Loan.Calls.{after}
 use Rattle.model.specs.Families.Loan.Steps.{effect_of, effects_of, book_after, ended_book, step}
 use Rattle.model.specs.Step.{answer_in}
 
--- a call that came to this has this answer
+-- the answer that a call is said to have is the answer to which its step came
 came : {C A : Type 0} (done : Option A) (call : C) (next : After C A) → CameTo done call next → done ≡ answer_in next
 came None call next came_to = sym (ap answer_in came_to)
 came (Some answer) call next came_to = sym (ap answer_in came_to)
@@ -19,6 +20,7 @@ came (Some answer) call next came_to = sym (ap answer_in came_to)
 module _ (T : Type 0) (words : List ℕ) (push : Option (ℕ × ℕ)) (p : ℕ) (start : LoanStart)
     (flight flight' : LoanFlight) (old : ℕ) (book noted settled : Book) (effect : Effect)
     (done : Option (Answer T)) where
+  -- the answer with which the step ends the call, if it ends it
   abbrev outcome : Option (Answer T)
   outcome = answer_in (after book.places flight old)
 

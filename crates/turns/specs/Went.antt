@@ -7,7 +7,8 @@ use Rattle.model.specs.declared.families.Registry.{Registry}
 use Rattle.model.specs.declared.families.Went.{Went}
 use Rattle.model.specs.Step.{Step}
 
--- the call and what its family keeps are what this step makes of them, and its events were added
+-- the call, what its family keeps, and what `advance` returns are as this step says, and the
+-- step's events were appended
 pub record IsOfStep {T : Type 0} (step : Step (Flight T) (Registry T) T) (went : Went T) (flight : Flight T) (registry : Registry T)
     (old new : List (Event T)) : Type 0 where
   pub after : CameTo went.done flight step.after

@@ -1,4 +1,5 @@
-//! The families of calls. Each has files of its own, and here one line where a machine passes on to it.
+//! The families of calls, each with files of its own. Each function of this file passes on to that
+//! of the call's family.
 ghost use Rattle.std.specs.Prelude.{◌≡◌, ◌+◌, ◌≤◌, ◌⊎◌, true, false, None, Some, OnOk, IfOk, IfErr, vec_len, vec_capacity};
 ghost use Rattle.model.specs.Families.{first_of, begin_rows, want_of, is_question, most_of, beside_of};
 ghost use Rattle.model.specs.Families.{step_of, going_rows, lacks_party, death_rows, kept_after_death, kept_after_begin};
@@ -25,8 +26,8 @@ pub mod indices;
 pub mod loan;
 pub mod queues;
 
-/// The words at the opening of a structure of this kind and capacity, and what its family keeps beside them. Of a loan
-/// channel `queue` is the capacity of the submission queue, and no other kind has one.
+/// The words at the opening of a structure of this kind and capacity, and what its family keeps beside them.
+/// `queue` is the capacity of a loan channel's submission queue; no other kind has one.
 pub fn opening<T: Words>(
     alloc: Global,
     kind: Kind,
@@ -51,8 +52,8 @@ pub fn opening<T: Words>(
     }
 }
 
-/// The call that this party begins, or why it may not, unless memory for its room is refused. Whether the kind has the
-/// call is decided by one function of the call's family.
+/// The call that the party `number` begins, or why it may not, or that memory for its room is refused.
+/// Whether the kind has the call is decided by one function of the call's family.
 pub fn admit<T: Words>(
     alloc: Global,
     kind: Kind,
@@ -102,8 +103,8 @@ pub fn admit<T: Words>(
     }
 }
 
-/// The party begins this call: what its family keeps from now on, unless memory for it is refused. Then nothing
-/// changes.
+/// Notes what the family keeps from the begin of this call on. Answers false where memory for it is refused,
+/// and nothing changes then.
 pub fn keep<T: Words>(kept: &mut Registry<T>, capacity: u32, start: &Start<T>, number: u32) -> bool
     ensures keeps { result ≡ true → kept.new
         ≡ kept_after_begin (coding_by T.Words) capacity start.now number kept.old }
@@ -121,7 +122,7 @@ pub fn keep<T: Words>(kept: &mut Registry<T>, capacity: u32, start: &Start<T>, n
     }
 }
 
-/// Whether the owner would be a party, and there is none of this number.
+/// Whether owners of this kind are parties, and no party has the number of this one.
 pub fn lacks_party<T>(kept: &Registry<T>, parties: u32, owner: OwnerId) -> bool
     ensures { result ≡ lacks_party kept.now parties owner }
 {
@@ -161,7 +162,7 @@ pub fn death_refusal<T>(kept: &Registry<T>, owner: OwnerId) -> Option<Refusal>
     }
 }
 
-/// This owner is dead from now on, unless memory for it is refused. Then nothing changes.
+/// Notes that the owner is dead. Answers false where memory for it is refused, and nothing changes then.
 pub fn mark_dead<T>(kept: &mut Registry<T>, owner: OwnerId) -> bool
     ensures dies { result ≡ true → kept.new ≡ kept_after_death kept.old owner }
     ensures same { result ≡ false → kept.new ≡ kept.old }
@@ -174,7 +175,8 @@ pub fn mark_dead<T>(kept: &mut Registry<T>, owner: OwnerId) -> bool
     }
 }
 
-/// What a step of this party has to know of the others.
+/// The push or send of another party that acts if this party's step moves the read position; None in families
+/// without such calls.
 pub fn look_beside<T>(
     kept: &Registry<T>,
     words: &Vec<u64>,
@@ -213,7 +215,7 @@ pub fn going<T: Words>(flight: &Flight<T>) -> (Want<()>, usize)
     }
 }
 
-/// Whether a decision is due.
+/// Whether the call asks a question next, which only a turn `Decide` answers.
 pub fn is_asking<T: Words>(flight: &Flight<T>) -> bool
     ensures { result ≡ is_question (want_of (coding_by T.Words) flight.now) }
 {
@@ -224,7 +226,8 @@ pub fn is_asking<T: Words>(flight: &Flight<T>) -> bool
     }
 }
 
-/// Why the call may not go on, by a decision or without, for what its family keeps. None where it may.
+/// Why the call may not go on, by a decision or by a step, as far as what its family keeps forbids it. None
+/// where it may.
 pub fn going_refusal<T: Words>(
     flight: &Flight<T>,
     kept: &Registry<T>,
@@ -244,8 +247,8 @@ pub fn going_refusal<T: Words>(
     }
 }
 
-/// Lets the call go on from an answer, where it lies, and writes down what its step does, in the room that was kept
-/// for it. The words are those before the step.
+/// Hands the call an answer, changes it in place, and appends the events of this step to `events`, which has
+/// room for them. `words` are the words before the step.
 pub fn advance<T: Words>(
     flight: &mut Flight<T>,
     number: u32,

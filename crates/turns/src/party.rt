@@ -18,7 +18,8 @@ pub fn flight_of<T>(latest: &Latest<T>, number: u32) -> Option<&Flight<T>>
     }
 }
 
-/// How far the party's latest call has come, where words were changed so often. None where it has begun none.
+/// How far the party's latest call has come, in a machine whose words were changed `changes` times. None for
+/// a party that has begun no call.
 pub fn progress_of<T>(latest: &Latest<T>, changes: u64, number: u32) -> Option<Progress>
     ensures { result ≡ progress_after changes (party_of number latest.now.entries) }
 {

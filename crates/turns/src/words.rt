@@ -11,21 +11,21 @@ pub fn word_at(words: &Vec<u64>, word: usize) -> u64
     if word < words.len() { words[word] } else { 0 }
 }
 
-/// What an operation finds in its word, and what it leaves there.
+/// What one operation finds in its word, and what it leaves there.
 #[derive(Clone, Copy)]
 pub struct Access {
     /// The word's place.
     pub word: usize,
-    /// What it has.
+    /// The word's value before the operation.
     pub old: u64,
-    /// What the operation leaves.
+    /// The word's value after the operation.
     pub new: u64,
-    /// 1 where the value changes, else 0.
+    /// 1 where the operation changes the value, else 0.
     pub change: u64,
 }
 
-/// Looks up what the operation finds and leaves, for `write` to do. Where none is asked for, or there is no such word, the
-/// place is the one behind the last word, where `write` does nothing.
+/// Looks up what the operation finds and leaves; `write` then does it. Where there is no operation, or no
+/// such word, the place is the one after the last word, where `write` does nothing.
 pub fn read(words: &Vec<u64>, ask: Option<Ask>) -> Access
     ensures old { result.old ≡ old_of words.now.items ask }
     ensures change { result.change ≡ change_of words.now.items ask }
@@ -52,7 +52,7 @@ pub fn read(words: &Vec<u64>, ask: Option<Ask>) -> Access
     }
 }
 
-/// Does the operation.
+/// Writes what `read` has found that the operation leaves.
 pub fn write(words: &mut Vec<u64>, access: Access)
     ensures { words.new.items ≡ slice_set words.old.items access.word access.new }
 {
@@ -61,7 +61,7 @@ pub fn write(words: &mut Vec<u64>, access: Access)
     }
 }
 
-/// The steps that it counts for: 1 for an operation.
+/// How many steps a turn counts for: 1 where it does an operation, else 0.
 pub fn count(ask: Option<Ask>) -> u64
     ensures { result ≡ step_count ask }
 {

@@ -1,4 +1,4 @@
--- What the sender makes of a number.
+-- The mark of a number, and the block of 64 KiB that the sender makes of it.
 use Rattle.std.specs.Prelude.{◌≡◌, ℕ, ◌+◌, ◌*◌, List, map, replicate}
 use Rattle.std.specs.List.{range_with_len}
 
@@ -6,10 +6,10 @@ use Rattle.std.specs.List.{range_with_len}
 abbrev pub mark : ℕ → ℕ
 mark n = 3 * n + 1
 
--- 64 KiB of the number's mark
+-- the words are 64 KiB of the number's mark
 unfoldable pub IsBlockOf : ℕ → List ℕ → Type 0
 IsBlockOf number words = words ≡ replicate 8192 (mark number)
 
--- the marks of the first numbers
+-- the marks of the numbers 0 up to below `count`
 abbrev pub first_marks : ℕ → List ℕ
 first_marks count = map mark (range_with_len 0 count)

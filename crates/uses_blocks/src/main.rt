@@ -44,7 +44,8 @@ impl Keeps<Block> for Marked {
     ghost holds = { λ number block. IsBlockOf number block.items };
 }
 
-/// Who fills blocks with the marks of their numbers, and reads the marks.
+/// The writer and reader of this program: it fills blocks with the marks of their numbers,
+/// and reads the marks.
 #[derive(Drop)]
 struct Marks;
 
@@ -71,7 +72,7 @@ impl Reads<Block, Marked, u64> for Marks {
     }
 }
 
-/// So many blocks to write.
+/// Makes `number` blocks to write, each of 64 KiB.
 fn blocks(alloc: Global, number: u32) -> Option<Vec<Block>> {
     let mut blocks = Vec::new(alloc);
     for _ in 0..number {
@@ -147,6 +148,7 @@ fn relay<R: Threads + Wait + Sync>(rt: &R, alloc: Global, count: u64) -> Option<
     Some(marks)
 }
 
+/// Sends twelve blocks, and prints the marks that were read.
 fn main(rt: HostRuntime) -> io::Result<ExitCode> {
     let Some(marks) = relay(&rt, rt.alloc(), BLOCKS) else {
         eprintln!(rt; "no memory, or a block could not be read")?;

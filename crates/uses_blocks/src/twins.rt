@@ -56,7 +56,7 @@ pub fn send(
     sender.send(writer)
 }
 
-/// The same by who waits.
+/// A value that `send_waiting` sends gets the number that comes next, or nothing is sent.
 pub fn send_waiting(
     sender: &mut Sender<'_, u64>,
     rt: &impl Wait,
@@ -70,7 +70,7 @@ pub fn send_waiting(
     sender.send_waiting(rt, writer)
 }
 
-/// What was sent are the first numbers, also where one was refused.
+/// The numbers sent are 0, 1, 2 and so on, also if a value was refused.
 pub fn send_each(
     sender: &mut Sender<'_, u64>,
     rt: &impl Wait,
@@ -101,7 +101,7 @@ pub fn read<R: Reads<u64, Anything, u64>>(
     receiver.read(reader)
 }
 
-/// The same by who waits.
+/// What `read_waiting` tells is of the value that comes next.
 pub fn read_waiting<R: Reads<u64, Anything, u64>>(
     receiver: &mut Receiver<'_, u64>,
     rt: &impl Wait,
@@ -114,7 +114,7 @@ pub fn read_waiting<R: Reads<u64, Anything, u64>>(
     receiver.read_waiting(rt, reader)
 }
 
-/// Something is told of each value that came, but for one that ends it.
+/// Something is told of each value that came, except the last one if it was not read.
 pub fn read_all<R: Reads<u64, Anything, u64>>(
     receiver: &mut Receiver<'_, u64>,
     rt: &impl Wait,

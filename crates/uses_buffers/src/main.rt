@@ -136,6 +136,7 @@ fn is_whole(read: Read) -> bool {
     read.by == read.number && read.total == read.by.wrapping_mul(BYTES as u64)
 }
 
+/// Runs the four threads, and prints how many buffers were read whole.
 fn main(rt: HostRuntime) -> io::Result<ExitCode> {
     let Some(all) = run(&rt, rt.alloc()) else {
         eprintln!(rt; "no memory, or no buffer")?;

@@ -7,6 +7,7 @@ use Rattle.lock_free.specs.HistoryView.View.{View}
 use Rattle.lock_free.specs.Counts.Contracts.{HasCounted, AnswersCount}
 use Rattle.lock_free.proofs.Counts.Sums.{answers_count}
 
+-- What was taken and the rest are all that was counted, also if the rest is computed with wrapping.
 rest_of : (counted taken : ℕ) → taken ≤ counted → counted < 2 ^ 64 → taken + (counted - taken) % 2 ^ 64 ≡ counted
 rest_of counted taken less few =
     let small : counted - taken < 2 ^ 64 = omega arith in

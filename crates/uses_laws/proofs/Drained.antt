@@ -25,7 +25,7 @@ use Rattle.lock_free.specs.CountLaws.{TakesAll}
 counts_more : (place : ℕ) (xs ys : List (Event ℕ)) → counts place (xs ++ ys) ≡ counts place xs + counts place ys
 counts_more place xs ys = sum_by-append (λ e. cond (is_count_of place e) 1 0) xs ys
 
--- what two lists of events, one behind the other, took out of a place is what each of them did
+-- two lists of events, one after the other, took out of a place what each of them took out
 takes_more : (place : ℕ) (xs ys : List (Event ℕ)) → takes place (xs ++ ys) ≡ takes place xs + takes place ys
 takes_more place xs ys = sum_by-append (take_of place) xs ys
 
@@ -134,12 +134,14 @@ module _ {F : Type 0} (step : F → BitState → F → Type 0) (capacity : ℕ) 
       let front : List (Event ℕ) = old.seen ++ c.others in
       let end : List (Event ℕ) = Finished party_there (Bits ResetAll) Done ∷ [] in
       let end_there : List (Event ℕ) = Finished q (Bits ResetAll) Done ∷ [] in
+      -- the call's end is the last event of both accounts of it, so they are of one party
       let ends : (front ++ Begun party_there (Bits ResetAll) ∷ c.during) ++ end ≡ missed.before ++ end_there =
       append_assoc front (Begun party_there (Bits ResetAll) ∷ c.during) end ∙ (sym c.is ∙ missed.is) in
       let last =
       same_last (front ++ Begun party_there (Bits ResetAll) ∷ c.during) missed.before (Finished party_there (Bits ResetAll) Done)
       (Finished q (Bits ResetAll) Done) ends in
       let party : q ≡ party_there = cc in
+      -- the history up to the call's begin (`part`), and from there on (`rest`)
       let there : new.seen ≡ (s.before ++ Begun q s.start ∷ s.since) ++ end_there = missed.is ∙ ap (λ es. es ++ end_there) s.is in
       let part : List (Event ℕ) = s.before ++ Begun q s.start ∷ [] in
       let rest : List (Event ℕ) = s.since ++ end_there in
@@ -147,15 +149,18 @@ module _ {F : Type 0} (step : F → BitState → F → Type 0) (capacity : ℕ) 
       append_assoc s.before (Begun q s.start ∷ s.since) end_there ∙ sym (append_assoc s.before (Begun q s.start ∷ []) rest) in
       let both : front ++ Begun party_there (Bits ResetAll) ∷ (c.during ++ end) ≡ part ++ rest = sym c.is ∙ (there ∙ cut) in
       let none : BeginsNone party_there rest = begins_none_more party_there s.since end_there (subst (λ z. BeginsNone z s.since) party s.within) tt in
+      -- all that was counted before is counted when the call begins
       let reached : counts place front ≤ counts place part =
       reaches is_count party_there (Bits ResetAll) front (c.during ++ end) part rest both none in
       let grown = counts_more place old.seen c.others in
       let begun = counts_more place s.before (Begun q s.start ∷ []) in
       let adds = (take_adds old new step capacity visit taken place).0 in
+      -- with the whole share what was seen is what was made
       let b : counts place old.seen ≡ counts place old.made = before is_count in
       let a : counts place new.seen ≡ counts place new.made = after is_count in
       let t : takes place new.seen ≡ takes place new.made = after (take_of place) in
       let all = conserved place in
+      -- since then all that was counted was taken out
       let most =
       all_taken place q s.start (Finished q (Bits ResetAll) Done) new.seen s.before s.since there each (omega arith) (omega arith)
       (s.holds place low) in

@@ -1,4 +1,5 @@
--- In a young history who was refused for want of an index met a full pool. What nobody has given back is not given back by an acquire.
+-- In a young history an acquire that was refused for want of an index met a full pool. An index that nobody
+-- has given back is not given back by an acquire.
 use Rattle.std.proofs.Common.{◌≡◌, ⊎_elim, ℕ, Err, Ok, List, [], ◌∷◌, sum_by, refl, sym, ap, subst, arith}
 use Rattle.steps.specs.declared.indices.enums.UniqueIndexSetAcquireFailure.TheVariants.{OutOfIndices}
 use Rattle.model.specs.declared.event.Answer.TheVariants.{Index, NoIndex}
@@ -16,7 +17,7 @@ use Rattle.lock_free.proofs.Sums.{sum_made}
 use Rattle.lock_free.specs.OwnerLaws.{change, lock_call, lock_calls, LocksApart}
 use Rattle.uses_laws.specs.Leases.{IsYoung, WasFull}
 
--- the law of calls that lock
+-- the law that in a history without calls that may lock no two such calls overlap
 abbrev pub AreApart : Type 0
 AreApart = (events : List (Event ℕ)) → lock_calls events ≡ 0 → LocksApart events
 

@@ -13,7 +13,7 @@ use Rattle.lock_free.specs.HistoryView.View.{View}
 use Rattle.lock_free.proofs.Sums.{sum_made}
 use Rattle.uses_laws.specs.Sums.{clear, cleared, taken_out, taken}
 
--- a reset that clears these places clears so many
+-- a reset that clears these places clears as many as the list is long
 clears : (p : ℕ) (places : List ℕ) → cleared (map (cleared_by p) places) ≡ length places
 clears p [] = refl
 clears p (x ∷ places) = omega (arith, sum_by-cons clear (cleared_by p x) (map (cleared_by p) places), clears p places)

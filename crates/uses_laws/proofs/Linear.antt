@@ -92,12 +92,12 @@ module _ {T : Type 0} where
     read : (x : Call T × Answer T) → (there : Contains entries x) → slice_get entries there.0 ≡ Some x
     read x there = slice_get_read entries (length entries) there.0 x refl there.1 (sym there.2)
 
-    -- of two calls the one stands first that precedes the other
+    -- if one call precedes another in the history, it stands before it in the linearization
     pub in_order : (x y : Call T) (a b : Answer T) (r : Response T) → (one : Contains entries (x, a)) → (two : Contains entries (y, b))
         → Contains (calls_of history) x → x.response ≡ Some r → Precedes x y → one.0 < two.0
     in_order x y a b r one two there done before = ⊎_elim (λ less. less) (λ most. ⊎_elim (same) (other most) (cases_eq two.0 one.0)) (cases_lt one.0 two.0)
       where
-        -- both do not stand at one place
+        -- the two calls do not stand at one place of the order
         same : two.0 ≡ one.0 → one.0 < two.0
         same e =
             let first = read (x, a) one in
@@ -117,7 +117,7 @@ module _ {T : Type 0} where
             (subst (λ (z : Call T × Answer T). Precedes x z.0) (sym at) before) in
             absurd (never now)
 
--- two pushes of one caller
+-- two pushes of one caller stand in a linearization in their order
 pub pushed_in_order : (capacity first second p q : ℕ) (old between new : View ℕ) (history : List (Event ℕ))
     → IsLinearizable (as_list IndexQueue capacity) history
     → (x : StandsIn p (Queues (PushIndex first)) (Truth true) old between history)
@@ -137,7 +137,7 @@ pushed_in_order capacity first second p q old between new history order x y befo
       second_push = (y.call, slice_get_read order.sequential (length order.sequential) two.0 (y.call, Truth true) refl two.1 (sym two.2), y.named);
     }
 
--- two stores of one caller
+-- two stores of one caller stand in a linearization in their order
 pub stored_in_order : (first second p q : ℕ) (old between new : View ℕ) (history : List (Event ℕ))
     → IsLinearizable (as_value one_word) history
     → (x : StandsIn p (Atomic (Store first)) (Truth true) old between history)

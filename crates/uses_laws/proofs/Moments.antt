@@ -1,4 +1,4 @@
--- What holds at each moment of a call, or at none, and how many of two are counted.
+-- What holds at each moment of a call, or at none, and how many of the two indices 0 and 1 are counted.
 use Rattle.std.proofs.Common.{◌≡◌, ℕ, ◌+◌, Bool, true, false, Some, None, is_some, List, [], ◌∷◌, ◌++◌, if◌then◌else◌}
 use Rattle.std.proofs.Common.{refl, sym, subst, append_assoc, append-nil, arith}
 use Rattle.model.specs.declared.event.Event.{Event}
@@ -23,6 +23,7 @@ stays_there P (a ∷ part) rest before (e ∷ es) is all =
     subst (λ (x : Event ℕ). P (before ++ x ∷ part)) first
     (subst P (append_assoc before (e ∷ []) part) (stays_there P part rest (before ++ e ∷ []) es more all.1))
 
+-- Events that begin a call of the party are not events in which it begins none.
 begins_one : (p : ℕ) (start : Start ℕ) (before since : List (Event ℕ)) → BeginsNone p (before ++ Begun p start ∷ since) → ⊥
 begins_one p start [] since none = none.0 refl
 begins_one p start (Begun q other ∷ before) since none = begins_one p start before since none.1
@@ -62,21 +63,23 @@ at_none_since p start P before since never h =
 
 -- ---- counts
 
+-- If two of two are counted, the second is.
 two_of_two : (a b : Bool) → (if b then 1 else 0) + ((if a then 1 else 0) + 0) ≡ 2 → b ≡ true
 two_of_two a true e = refl
 two_of_two true false e = absurd (omega arith)
 two_of_two false false e = absurd (omega arith)
 
--- if both are counted, the second is
+-- if both indices are counted, index 1 is
 pub both_of_two : (chosen : ℕ → Bool) → count_below chosen 2 ≡ 2 → chosen 1 ≡ true
 both_of_two chosen is = two_of_two (chosen 0) (chosen 1) is
 
+-- If the first of two is counted, the count is not 0.
 one_at_least : (a b : Bool) → a ≡ true → (if b then 1 else 0) + ((if a then 1 else 0) + 0) ≡ 0 → ⊥
 one_at_least true true first e = absurd (omega arith)
 one_at_least true false first e = absurd (omega arith)
 one_at_least false b first e = cc
 
--- if the first is counted, they are not none
+-- if index 0 is counted, the count is not 0
 pub one_of_two : (chosen : ℕ → Bool) → chosen 0 ≡ true → count_below chosen 2 ≡ 0 → ⊥
 one_of_two chosen one none = one_at_least (chosen 0) (chosen 1) one none
 

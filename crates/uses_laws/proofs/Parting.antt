@@ -13,7 +13,7 @@ use Rattle.lock_free.specs.Words
 use Rattle.lock_free_queues.specs.Queues.Ends.{AreEnds}
 use Rattle.uses_laws.specs.Parted.{HasParted, role_taken}
 
--- what each value of this kind has, another may have with it
+-- what holds of the value of an option may be replaced by what follows from it
 pub each_such : {A : Type 0} (o : Option A) (P Q : A → Type 0) → ((x : A) → P x → Q x) → IfSome o P → IfSome o Q
 each_such None P Q more one = tt
 each_such (Some x) P Q more one = more x one
@@ -38,6 +38,7 @@ module _ {E T : Type 0} {kind : kinds.Ghosts E} {words : Words.Ghosts T} (pass :
       let b = ends.producer_steps in
       let d = ends.consumer_steps in
       record {
+        -- each end has half of the share, and goes on from what the pass knew
         producing =
             record {
               share = pushing.goes.share ∙ cut.share;
@@ -50,6 +51,7 @@ module _ {E T : Type 0} {kind : kinds.Ghosts E} {words : Words.Ghosts T} (pass :
               since = subst (λ (es : List (Event T)). IsBeginning es (consumer_view consumer).seen) cut.right_seen popping.goes.since;
               first = subst (λ (ts : List (Turn T)). AreFirst ts (consumer_view consumer).turns) cut.right_turns popping.goes.first;
             };
+        -- each has acquired its role; the split and both acquires are three operations
         by = one.by;
         then_by = two.by;
         produces = one.called.made ∙ ap (λ (es : List (Event T)). es ++ role_taken one.by roles.Producer) cut.made;

@@ -23,7 +23,7 @@ pub record Laws (T : Type 0) (kind : Kind) (bound : Bound) : Type 0 where
   pub asks : KnownAsksLoad T kind bound
   pub rest : PassesRest T kind bound
 
--- the laws of passes that have seen no call begin but such ones
+-- the laws of passes that have seen only calls begin of which `Such` holds
 pub record LawsOf (T : Type 0) (kind : Kind) (Such : Start T → Type 0) (bound : Bound) : Type 0 where
   pub ends : PassesEndOf T kind Such bound
   pub keep : PassesKeepEndingOf T kind Such bound
@@ -38,7 +38,8 @@ more_aside asked few aside load less most = omega arith
 
 module _ {T : Type 0} (code : Coding T) (kind : Kind) (capacity : ℕ) (bound : Bound) (aside : ℕ) (old new : View T)
     (knows : Knows code kind capacity old) (later : Continues code kind capacity old new) (few : new.aside ≤ aside) where
-  -- by the laws, calls end and loads do between two moments of a pass, whichever calls it has seen begin
+  -- by the laws, between two moments of a pass steps are bounded by the calls that ended
+  -- and by those that began
   pub ends_within : Laws T kind bound → (n : ℕ) → AreBelow n new.seen
       → EndsWithin code kind capacity (bound n capacity code.size) aside old new later
   ends_within laws n below =
@@ -53,7 +54,8 @@ module _ {T : Type 0} (code : Coding T) (kind : Kind) (capacity : ℕ) (bound : 
         rests = laws.rest code capacity old new knows later n below;
       }
 
-  -- calls end and loads do between two moments of a pass that has seen no call begin but such ones
+  -- between two moments of a pass that has seen only such calls begin, steps are bounded by the calls that
+  -- ended and by those that began
   pub ends_within_of : (Such : Start T → Type 0) → LawsOf T kind Such bound → (n : ℕ) → AreBelow n new.seen → BeginSuch Such new.seen
       → EndsWithin code kind capacity (bound n capacity code.size) aside old new later
   ends_within_of Such laws n below such =

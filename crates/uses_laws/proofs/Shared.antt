@@ -21,7 +21,7 @@ module _ (f : ℕ → ℕ) where
   sum_few zero few = omega arith
   sum_few (suc n) few = omega (arith, few n, sum_few n few)
 
-  -- where so many are summed to so much, each is 1
+  -- if n numbers of at most 1 sum to n, each is 1
   all_one : (n : ℕ) → ((i : ℕ) → f i ≤ 1) → n ≤ sum_below f n → (i : ℕ) → i < n → 1 ≤ f i
   all_one zero few most i low = absurd (omega arith)
   all_one (suc n) few most i low =
@@ -29,6 +29,7 @@ module _ (f : ℕ → ℕ) where
       let front : n ≤ sum_below f n = omega arith in
       ⊎_elim (λ less. all_one n few front i less) last (cases_lt i n)
     where
+      -- The last of the numbers is 1, since those before it sum to no more than how many they are.
       last : n ≤ i → 1 ≤ f i
       last high =
           let rest = sum_few n few in

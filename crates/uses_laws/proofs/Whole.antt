@@ -51,6 +51,7 @@ module _ (p index owner value : ℕ) where
   abbrev wrote : Bool → Bool → List (Event ℕ)
   wrote hid put = container.taken p index owner ++ (container.when hid (Hidden p index) ++ container.when put (Placed p index value))
 
+  -- The events of an add that got a place are few, and none is of a recovery, a removal or the lock.
   put_so : (hid put : Bool) → IsAdd (wrote hid put)
   put_so true true = record { recovered = refl; removed = refl; unlocked = refl; few = omega arith }
   put_so true false = record { recovered = refl; removed = refl; unlocked = refl; few = omega arith }
@@ -63,6 +64,7 @@ none_so = record { recovered = refl; removed = refl; unlocked = refl; few = omeg
 filled_so : (p index owner : ℕ) → IsAdd (Filled p index owner ∷ [])
 filled_so p index owner = record { recovered = refl; removed = refl; unlocked = refl; few = omega arith }
 
+-- An add writes no recovery, no removal and no lock, whatever it answers.
 add_so : (capacity p : ℕ) (given : Owned ℕ) (r : Added) (es : List (Event ℕ)) → container.HasAdded capacity p given r es → IsAdd es
 add_so capacity p given (Ok index) es h = subst IsAdd (sym h.1.2) (put_so p index given.owner given.value h.1.0 h.1.1)
 add_so capacity p given (Err failures.IsLocked) es h =
@@ -82,7 +84,8 @@ module _ (given : Owned ℕ) where
       rests : Settles old new → ⊥
       rests settles = let going = settles.resting.going in cc
 
-  -- what it leaves of the sums over what the pass made
+  -- an add changes the sums over what its pass made only as an add may: no recovery, no removal, no
+  -- lock, and few changes
   record Leaves (old new : View ℕ) : Type 0 where
     pub recovered : recoveries new.made ≡ recoveries old.made
     pub removed : removals new.made ≡ removals old.made

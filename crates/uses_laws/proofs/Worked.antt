@@ -52,9 +52,11 @@ entry call = (call, Truth true)
 abbrev in_turn : List (Call ℕ × Answer ℕ)
 in_turn = entry one ∷ entry two ∷ []
 
+-- The entry is of a store or a load of the history.
 abbrev Invoked : Call ℕ × Answer ℕ → Type 0
 Invoked x = (is_store_or_load x.0.start ≡ true) × Contains (calls_of both) x.0
 
+-- A store or a load that has responded is in the sequence, with its answer.
 abbrev Completed : Call ℕ → Type 0
 Completed call =
     IfSome call.response (λ response. is_store_or_load call.start ≡ true → Contains in_turn (call, response.answer))
@@ -113,7 +115,7 @@ not_stored k =
     (λ e. (let wrong : store 7 ≡ store 9 = ap (λ (c : Call ℕ). c.start) e ∙ there.2 in cc))
     (one_of_both k.order k.later there.0 there.1)
 
--- both in the other order: the one ended before the other began
+-- the two stores do not stand in the other order, since one ended before the other began
 pub not_the_other_way_round : StoredInOrder 7 5 both → ⊥
 not_the_other_way_round k =
     let left = k.first_store in
@@ -153,14 +155,14 @@ parted_in_three =
       aside = omega arith;
     }
 
--- one operation too many is asked for, or more is aside
+-- refused: the ends ask for one operation more than three
 asks_for_four : HasParted first (record producer { asked = 3 }) consumer → ⊥
 asks_for_four parted = let most : 3 + 1 ≤ 0 + 3 = parted.asked in absurd (omega (most, arith))
 
 four_aside : HasParted first (record producer { aside = 3 }) (record consumer { aside = 1 }) → ⊥
 four_aside parted = let most : 3 + 1 ≤ 0 + 3 = parted.aside in absurd (omega (most, arith))
 
--- an end has the whole share, has forgotten what the pass made, or has the other role
+-- refused: an end that has the whole share
 keeps_all : HasParted first (record producer { share = first.share }) consumer → ⊥
 keeps_all parted = let e = parted.producing.share in cc
 

@@ -32,7 +32,7 @@ Saw before by start answer w = w.seen ≡ before ++ Finished by (Robust start) a
 abbrev saw : List (Event ℕ) → ℕ → RobustStart → Answer ℕ → View ℕ
 saw before by start answer = having_seen (before ++ Finished by (Robust start) answer ∷ [])
 
--- what the answer says is said of just that
+-- what a contract says of an answer is said of the history before the call's end
 said : (start : RobustStart) (answer : Answer ℕ) (Right : ℕ → List (Event ℕ) → Type 0) (before : List (Event ℕ)) (by : ℕ) (v w : View ℕ)
     → Saw before by start answer w
     → Answered start answer Right v w
@@ -45,7 +45,7 @@ said start answer Right before by v w is answered =
 
 -- ---- a release
 
--- it fails of an index that its owner has
+-- a release that fails although the owner has the index is refused
 pub release_fails_of_its_owner : (index owner by : ℕ) (mode : ReleaseMode) (failure : RobustUniqueIndexSetReleaseError) (before : List (Event ℕ))
     (v w : View ℕ)
     → Saw before by (Release index owner mode) (NotOwned failure) w
@@ -55,7 +55,7 @@ pub release_fails_of_its_owner : (index owner by : ℕ) (mode : ReleaseMode) (fa
 release_fails_of_its_owner index owner by mode failure before v w is has right_release =
     said (Release index owner mode) (NotOwned failure) _ before by v w is right_release has
 
--- it answers Locked where nothing is locked, or Unlocked in the mode that locks, where all is
+-- a release that answers Locked where nothing is locked is refused
 pub release_says_locked : (index owner by : ℕ) (mode : ReleaseMode) (before : List (Event ℕ)) (v w : View ℕ)
     → Saw before by (Release index owner mode) (State Locked) w
     → is_locked before ≡ false
@@ -75,7 +75,7 @@ release_says_unlocked index owner by before v w is locked right_release =
     let unlocked : is_locked before ≡ false = (said (Release index owner LockIfLastIndex) (State Unlocked) _ before by v w is right_release).0 in
     cc
 
--- it has freed the last index, and did not lock
+-- a history in which a release that may lock has freed the last index, and did not lock
 abbrev releases : RobustStart
 releases = Release 0 7 LockIfLastIndex
 
@@ -86,6 +86,7 @@ no_call : (b : Bool) → is_locking {T = ℕ} (if b then Never else Never) ≡ f
 no_call true = refl
 no_call false = refl
 
+-- No two calls that may lock overlap in this history.
 apart : LocksApart (emptied ++ Finished 1 (Robust releases) (State Unlocked) ∷ [])
 apart =
     Each-append BeginsAlone [] (emptied ++ Finished 1 (Robust releases) (State Unlocked) ∷ []) (Each-nil BeginsAlone)
@@ -123,10 +124,11 @@ recovery_says_unlocked by mode before v w is locked right_recovery =
     let unlocked : is_locked before ≡ false = (said (Recover mode) (State Unlocked) _ before by v w is right_recovery).0 in
     cc
 
--- it has asked about nothing, where an index had an owner through all of it
+-- a history in which a recovery asked about nothing, although an index had an owner throughout
 abbrev unasked : List (Event ℕ)
 unasked = Filled 0 0 7 ∷ Begun 1 (Robust (Recover Default)) ∷ []
 
+-- a recovery that answers Unlocked and asked about no index, although one had an owner throughout, is refused
 pub recovery_asks_nothing : IsRightRecovery Default Unlocked first (saw unasked 1 (Recover Default) (State Unlocked)) → ⊥
 recovery_asks_nothing right_recovery =
     let right = said (Recover Default) (State Unlocked) _ unasked 1 first (saw unasked 1 (Recover Default) (State Unlocked)) refl right_recovery in
@@ -145,10 +147,11 @@ count_of_a_locked_set number by before v w is locked right_count =
     let none : suc number ≡ 0 = (said BorrowedIndices (Number (suc number)) _ before by v w is right_count).0 locked in
     cc
 
--- it counts two, or none, where one index had an owner at each moment of it
+-- a history in which one index had an owner at each moment of a count
 abbrev one : List (Event ℕ)
 one = Filled 0 0 7 ∷ Begun 1 (Robust BorrowedIndices) ∷ []
 
+-- a count of two, where only one index had an owner at any moment, is refused
 pub counts_two_of_one : IsRightCount 2 first (saw one 1 BorrowedIndices (Number 2)) → ⊥
 counts_two_of_one right_count =
     let right = (said BorrowedIndices (Number 2) _ one 1 first (saw one 1 BorrowedIndices (Number 2)) refl right_count).1 refl in

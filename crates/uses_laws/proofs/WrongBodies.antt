@@ -98,7 +98,7 @@ module _ {T : Type 0} where
       → ⊥
   no_call p start answer wrote v w none c = absurd (omega (arith, makes p start answer wrote v w c, ap length none))
 
-  -- one call wrote and answered just one thing
+  -- one call wrote and answered one thing only: two accounts of it agree
   pub made_once : (p q : ℕ) (start : Start T) (one other : Answer T) (wrote written : List (Event T)) (v w : View T)
       → Called p start one wrote v w
       → Called q start other written v w
@@ -114,7 +114,7 @@ module _ {T : Type 0} where
   pub push_writes_nothing : (item : Item T) (v : View T) → PushDone item v v → ⊥
   push_writes_nothing item v push_done = no_call _ _ _ _ v v refl push_done.0.called
 
-  -- one that answers false after a look, where the last position is not reached
+  -- a push that answers false after a look, where the last position is not reached
   pub push_is_false_after_a_look : (capacity : ℕ) (item : Item T) (v w : View T) → HasLooked v w → length (published w.seen) < 2 ^ 64 - 1
       → PushRefused capacity item v w
       → ⊥
@@ -123,7 +123,7 @@ module _ {T : Type 0} where
       (λ end. absurd (omega (arith, end.end)))
       push_refused
 
-  -- one that answers false since it did not get a lock
+  -- a push that answers false because it did not get a lock, without an operation on the words
   pub mutex_round_the_words : (capacity : ℕ) (item : Item T) (v : View T) → length (published v.seen) < 2 ^ 64 - 1
       → PushRefused capacity item v v
       → ⊥
@@ -134,7 +134,7 @@ module _ {T : Type 0} where
   pub pop_takes_nothing : (v w : View T) → HasLooked v w → PopEmpty v w → ⊥
   pop_takes_nothing v w look pop_empty = no_call _ _ _ _ v w look.made pop_empty.0.called
 
-  -- one that takes two out, and answers the second, or that there is none
+  -- a pop that takes two values out, and answers the second
   pub pop_skips_a_position : (first second : Item T) (u v w : View T) → PopDone first u v → PopDone second v w → PopDone second u w → ⊥
   pop_skips_a_position first second u v w one two three =
       absurd (omega (
@@ -203,7 +203,7 @@ module _ {T : Type 0} where
   pub split_is_a_step : (v left right : View T) → HasSplit v left right → HasSplit v (record left { aside = v.aside }) right → ⊥
   split_is_a_step v left right split wrong_split = let e : v.aside ≡ v.aside + 1 = wrong_split.aside in absurd (omega arith)
 
-  -- the run has no such step
+  -- a split that counts as a step is refused by the run, which has no such step
   pub split_steps_in_no_run : (code : Coding T) (kind : Kind) (capacity : ℕ) (v : View T) → IsAll v.share → Knows code kind capacity v
       → Knows code kind capacity (record (left_view v) { aside = v.aside })
       → ⊥
@@ -260,14 +260,14 @@ noted : {X : Type 0} (first xs last : List X) → FoldsTo notes first xs last �
 noted first [] last h = sym h ∙ sym (append-nil first)
 noted first (x ∷ xs) last h = noted h.0 xs last h.2 ∙ (ap (λ zs. zs ++ xs) h.1 ∙ append_assoc first (x ∷ []) xs)
 
--- what ascends below a number has none twice, and none from there on
+-- a list that ascends has no number twice
 none_twice : (before after : List ℕ) (place capacity : ℕ) → Ascends capacity (before ++ place ∷ place ∷ after) → ⊥
 none_twice before after place capacity up =
     let all = length-append before (place ∷ place ∷ after) in
     let less = up.0 (length before) (length before + 1) 0 (omega arith) (omega arith) in
     absurd (omega (arith, get_or-append_seam before place (place ∷ after) 0, get_or-append-add before (place ∷ place ∷ after) 1 0))
 
--- what ascends below a number has none from there on
+-- a list that ascends below the capacity has no number from the capacity on
 none_past : (before after : List ℕ) (place capacity : ℕ) → capacity ≤ place → Ascends capacity (before ++ place ∷ after) → ⊥
 none_past before after place capacity past up =
     let all = length-append before (place ∷ after) in
@@ -281,13 +281,14 @@ pub reset_all_visits_twice : (capacity place : ℕ) (before after : List ℕ) (v
 reset_all_visits_twice capacity place before after v w cleaned_out =
     none_twice before after place capacity (subst (Ascends capacity) (sym (noted [] cleaned_out.places _ cleaned_out.calls)) cleaned_out.ascend)
 
+-- The reset of all calls its closure with a place that is not below the capacity.
 pub reset_all_past_the_capacity : (capacity place : ℕ) (before after : List ℕ) (v w : View ℕ) → capacity ≤ place
     → HasCleanedOut notes capacity [] (before ++ place ∷ after) v w
     → ⊥
 reset_all_past_the_capacity capacity place before after v w past cleaned_out =
     none_past before after place capacity past (subst (Ascends capacity) (sym (noted [] cleaned_out.places _ cleaned_out.calls)) cleaned_out.ascend)
 
--- one of counts that hands out others than it took
+-- two lists of counts whose take-outs are equal are equal
 same_counts : (p q : ℕ) (xs ys : List BitState) → map (taken_by p) xs ≡ map (taken_by q) ys → xs ≡ ys
 same_counts p q [] [] e = refl
 same_counts p q [] (y ∷ ys) e = cc
@@ -319,11 +320,11 @@ acquire_hands_out_a_held_index index held v w other right wrong_acquire =
     let same : index ≡ held = cc in
     other same
 
--- one that looks twice beside its steps
+-- an acquire that makes two operations beside its steps
 pub acquire_looks_twice_aside : (old new : Pass) → (view new).aside ≡ (view old).aside + 2 → SamePass old new → ⊥
 acquire_looks_twice_aside old new two same_pass = absurd (omega (arith, same_pass.aside))
 
--- one that claims an index of a set which it has seen locked
+-- an acquire that claims an index of a set which its pass has seen locked
 pub acquire_goes_on_after_the_lock : (index : ℕ) (v w : View ℕ) → is_locked v.seen ≡ true → HasAcquired index v w → ⊥
 acquire_goes_on_after_the_lock index v w locked acquired =
     let still = ap is_locked acquired.free.since.is ∙ locked_later v.seen acquired.free.since.rest locked in
@@ -343,7 +344,7 @@ loan_looks_twice_aside old new two aside_once = absurd (omega (arith, aside_once
 pub loan_settle_looks_twice_aside : (index : ℕ) (v w : View ℕ) → w.aside ≡ v.aside + 2 → HasFreed index v w → ⊥
 loan_settle_looks_twice_aside index v w two freed = absurd (omega (arith, freed.aside))
 
--- a send that settles what came back before the index is Sent, where its own came back
+-- a Loaned index is within the table
 loaned_within : (places : List Place) (index : ℕ) → place_at places index ≡ Loaned → index < length places
 loaned_within [] index e = cc
 loaned_within (p ∷ places) zero e = omega arith
@@ -368,7 +369,7 @@ loan_send_settles_before_its_table places index loaned e =
     let is : Sent ≡ Free = sym sent ∙ (sym wrong ∙ (same ∙ free)) in
     cc
 
--- a reclaim that pops once, though something waits
+-- a list of pops adds four events for each pop that took something
 popped_all : (numbers : List ℕ) (v w : View ℕ) → InTurn HasPoppedOne numbers v w → length w.made ≡ length v.made + 4 * length numbers
 popped_all [] v w in_turn = omega (arith, ap (λ (u : View ℕ). length u.made) in_turn)
 popped_all (n ∷ numbers) v w in_turn = omega (arith, makes _ _ _ _ v in_turn.0 in_turn.1.called, popped_all numbers in_turn.0 w in_turn.2)
@@ -383,11 +384,12 @@ loan_reclaim_pops_once number v w one emptied =
       makes _ _ _ _ emptied.last w emptied.none.called,
     ))
 
--- one that looks twice beside the steps of its last pop, and once beside those of each other one
+-- a reclaim that makes two operations beside the steps of its last pop, and one beside
+-- those of each other pop
 pub loan_reclaim_looks_twice_aside : (v w : View ℕ) (k : HasEmptied v w) → w.aside ≡ v.aside + (length k.numbers + 2) → ⊥
 loan_reclaim_looks_twice_aside v w k more = absurd (omega (arith, k.aside))
 
--- one that pushes an index, where the queue takes it
+-- a reclaim that pushes an index that the queue takes
 pub loan_reclaim_pushes : (number : ℕ) (back : Option ℕ) (v w : View ℕ) → HasOverflowed number back v w → w ≡ v → ⊥
 loan_reclaim_pushes number back v w pushed k = no_call _ _ _ _ v w (ap (λ (u : View ℕ). u.made) k) pushed.called
 
@@ -404,7 +406,7 @@ pub find_looks_once_more : (capacity : ℕ) (old new : OwnerPass) → (robust.vi
 find_looks_once_more capacity old new more leaves_pass = absurd (omega (arith, leaves_pass.aside))
 
 module _ {T : Type 0} where
-  -- one whose looks count as steps of calls
+  -- a find whose looks count as steps of calls
   pub find_looks_in_a_run : (old new : View T) → new.asked ≡ old.asked + 1 → new.aside ≡ old.aside → OnlyLooked old new → ⊥
   find_looks_in_a_run old new asked aside k = absurd (omega (arith, k.aside))
 
@@ -415,6 +417,7 @@ module _ {T : Type 0} where
       let most : new.aside ≤ old.aside + (1 + to_settle old) = few_aside in
       absurd (omega arith)
 
+  -- An add where a find rested looks three times beside its steps; two are allowed.
   pub add_settles_twice : (call : Start T × Flight T) (old new : View T) → old.going ≡ Some call → new.aside ≡ old.aside + 3 → FewAside old new → ⊥
   add_settles_twice call old new rests three few_aside =
       let one : to_settle old ≡ 1 = ap one_if_some rests in
@@ -445,6 +448,7 @@ heard capacity owner number seen old new k =
     (λ end. end.stops ∙ (ap (λ (is : List ℕ). is ++ end.index ∷ []) (noted [] end.before end.now end.calls) ∙ sym end.is))
     k.calls
 
+-- The closure of a find is called twice in a row with the same index.
 pub find_visits_twice : (capacity owner number index : ℕ) (before after : List ℕ) (v w : View ℕ)
     → HasSearched hears capacity owner [] number (before ++ index ∷ index ∷ after) v w
     → ⊥

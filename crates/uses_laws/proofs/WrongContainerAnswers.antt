@@ -39,7 +39,7 @@ Saw before by start answer w = w.seen ≡ before ++ Finished by (Container start
 abbrev saw : List (Event ℕ) → ℕ → ContainerStart ℕ → Answer ℕ → View ℕ
 saw before by start answer = having_seen (before ++ Finished by (Container start) answer ∷ [])
 
--- what the answer says is said of just that
+-- what a contract says of an answer is said of the history before the call's end
 said : (start : ContainerStart ℕ) (answer : Answer ℕ) (Right : ℕ → List (Event ℕ) → Type 0) (before : List (Event ℕ)) (by : ℕ) (v w : View ℕ)
     → Saw before by start answer w
     → Answered start answer Right v w
@@ -54,7 +54,7 @@ said start answer Right before by v w is answered =
 
 -- ---- an add
 
--- it answers that the container is locked, which it is not, or that there is no space, though it is
+-- an add that answers that the container is locked, which it is not, is refused
 pub add_says_locked : (value owner by : ℕ) (before : List (Event ℕ)) (v w : View ℕ)
     → Saw before by (Add value owner) (NoPlace failures.IsLocked) w
     → is_locked before ≡ false
@@ -74,15 +74,17 @@ add_says_full value owner by before v w is locked was_not_added =
     let unlocked : is_locked before ≡ false = (said (Add value owner) (NoPlace failures.OutOfSpace) _ before by v w is was_not_added.answered).0 in
     cc
 
--- there is room, and the counter is not worn
+-- a history in which there is room, and the counter is not worn
 abbrev begun : List (Event ℕ)
 begun = Begun 0 (Container (Add 5 7)) ∷ []
 
+-- No two calls that may lock overlap in this history.
 adds_apart : LocksApart (begun ++ Finished 0 (Container (Add 5 7)) (NoPlace failures.OutOfSpace) ∷ [])
 adds_apart =
     Each-append BeginsAlone [] (begun ++ Finished 0 (Container (Add 5 7)) (NoPlace failures.OutOfSpace) ∷ []) (Each-nil BeginsAlone)
     ((λ locks. cc), (tt, tt))
 
+-- an add that answers that there is no space, where each index is free throughout, is refused
 pub add_fails_with_room : WasNotAdded 5 7 failures.OutOfSpace first (saw begun 0 (Add 5 7) (NoPlace failures.OutOfSpace)) → ⊥
 add_fails_with_room was_not_added =
     ⊎_elim (λ worn. let late : 2 ^ 64 - 2 ≤ 0 = worn adds_apart in absurd (omega arith))
@@ -106,7 +108,7 @@ remove_fails_of_its_owner index owner by mode failure before v w is within has r
     ⊎_elim (λ (past : v.capacity ≤ index). absurd (omega arith)) (λ other. other has)
     (said (Remove index owner mode) (NotRemoved failure) _ before by v w is right_remove)
 
--- it answers Locked where nothing is locked
+-- a remove that answers Locked where nothing is locked is refused
 pub remove_says_locked : (index owner by : ℕ) (mode : ReleaseMode) (before : List (Event ℕ)) (v w : View ℕ)
     → Saw before by (Remove index owner mode) (State Locked) w
     → is_locked before ≡ false
@@ -116,19 +118,21 @@ remove_says_locked index owner by mode before v w is unlocked right_remove =
     let locked : is_locked before ≡ true = said (Remove index owner mode) (State Locked) _ before by v w is right_remove in
     cc
 
--- it answers Unlocked in the mode that locks, where all was locked when it began
+-- a remove that may lock
 abbrev removes : ContainerStart ℕ
 removes = Remove 0 7 LockIfLastIndex
 
+-- a history in which all was locked before the call began
 abbrev locked_first : ContainerStart ℕ → List (Event ℕ)
 locked_first start = events.Locked 0 ∷ Begun 1 (Container start) ∷ []
 
+-- a remove that may lock and answers Unlocked, where all was locked before it began, is refused
 pub remove_says_unlocked : IsRightRemove (giving 0 7 LockIfLastIndex) (Ok Unlocked) first (saw (locked_first removes) 1 removes (State Unlocked)) → ⊥
 remove_says_unlocked right_remove =
     at_none_since 1 (Container removes) IsUnlocked (events.Locked 0 ∷ []) [] (λ e. cc)
     (said removes (State Unlocked) _ (locked_first removes) 1 first (saw (locked_first removes) 1 removes (State Unlocked)) refl right_remove).0
 
--- it has freed the last index, and did not lock
+-- a history in which the call has freed the last index, and did not lock
 abbrev emptied : ContainerStart ℕ → List (Event ℕ)
 emptied start = Filled 0 0 7 ∷ Begun 1 (Container start) ∷ FreedOf 1 0 7 ∷ []
 
@@ -136,6 +140,7 @@ no_call : (b : Bool) → is_locking {T = ℕ} (if b then Never else Never) ≡ f
 no_call true = refl
 no_call false = refl
 
+-- No two calls that may lock overlap in this history.
 apart : (start : ContainerStart ℕ) (answer : Answer ℕ) → LocksApart (emptied start ++ Finished 1 (Container start) answer ∷ [])
 apart start answer =
     Each-append BeginsAlone [] (emptied start ++ Finished 1 (Container start) answer ∷ []) (Each-nil BeginsAlone)
@@ -167,7 +172,7 @@ replace_fails_of_its_owner index value owner by failure before v w is within has
     ⊎_elim (λ (past : v.capacity ≤ index). absurd (omega arith)) (λ other. other has)
     (said (Replace index value owner) (NotRemoved failure) _ before by v w is right_replace)
 
--- it succeeds at an index that there is not, or that another owner has
+-- a replace that succeeds at an index past the capacity is refused
 pub replace_past_the_capacity : (index value owner by : ℕ) (before : List (Event ℕ)) (v w : View ℕ)
     → Saw before by (Replace index value owner) Done w
     → v.capacity ≤ index
@@ -177,9 +182,11 @@ replace_past_the_capacity index value owner by before v w is past right_replace 
     let within : index < v.capacity = (said (Replace index value owner) Done _ before by v w is right_replace).0 in
     absurd (omega arith)
 
+-- a history in which another owner has the index
 abbrev of_another : List (Event ℕ)
 of_another = Filled 0 0 9 ∷ Begun 1 (Container (Replace 0 5 7)) ∷ []
 
+-- a replace by an owner who never had the index is refused
 pub replace_of_another : IsRightReplace (replacing 0 5 7) (Ok tt) first (saw of_another 1 (Replace 0 5 7) Done) → ⊥
 replace_of_another right_replace =
     at_none_since 1 (Container (Replace 0 5 7)) (IsFilledWith 7 0) (Filled 0 0 9 ∷ []) [] (λ e. cc)
@@ -200,7 +207,7 @@ recovery_says_locked owner by mode before v w is unlocked right_recovery =
     let locked : is_locked before ≡ true = said (Recover owner mode) (State Locked) _ before by v w is right_recovery in
     cc
 
--- it answers Unlocked where all was locked when it began
+-- a recovery for owner 7
 abbrev recovers : ReleaseMode → ContainerStart ℕ
 recovers mode = Recover 7 mode
 
@@ -215,17 +222,19 @@ recovery_says_unlocked mode right_recovery =
     (events.Locked 0 ∷ []) [] (λ h. let e = h.0 in cc)
     right.0
 
--- it has asked about nothing, where an index had its owner through all of it
+-- a history in which a recovery asked about nothing, although an index had its owner throughout
 abbrev unasked : List (Event ℕ)
 unasked = Filled 0 0 7 ∷ Begun 1 (Container (recovers Default)) ∷ []
 
+-- a recovery that answers Unlocked and asked about no index, although its owner had one
+-- throughout, is refused
 pub recovery_asks_nothing : IsRightRecovery (dead 7 Default) Unlocked first (saw unasked 1 (recovers Default) (State Unlocked)) → ⊥
 recovery_asks_nothing right_recovery =
     let right = said (recovers Default) (State Unlocked) _ unasked 1 first (saw unasked 1 (recovers Default) (State Unlocked)) refl right_recovery in
     ⊎_elim (λ one. no_more one.before (Asks 0 7) one.after one.is) (λ one. no_more one.before (Sees 0) one.after one.is)
     (right.1.asked 0 (throughout 1 (Container (recovers Default)) (StillToFree 1 7 0) (Filled 0 0 7 ∷ []) [] (inl refl)))
 
--- it has freed the last index, and did not lock
+-- a recovery that has freed the last index, might lock and answers Unlocked is refused
 pub recovery_leaves_the_last : IsRightRecovery (dead 7 LockIfLastIndex) Unlocked first
     (saw (emptied (recovers LockIfLastIndex)) 1 (recovers LockIfLastIndex) (State Unlocked))
     → ⊥
@@ -252,22 +261,24 @@ length_of_a_locked_container number by before v w is locked right_length =
     let none : suc number ≡ 0 = (said Len (Number (suc number)) _ before by v w is right_length).none locked in
     cc
 
--- it counts two, or none, where one index had an owner at each moment of it
+-- a history in which one index had an owner at each moment of a call
 abbrev one : ContainerStart ℕ → List (Event ℕ)
 one start = Filled 0 0 7 ∷ Begun 1 (Container start) ∷ []
 
+-- a length of two, where only one index had an owner at any moment, is refused
 pub counts_two_of_one : IsRightLength 2 first (saw (one Len) 1 Len (Number 2)) → ⊥
 counts_two_of_one right_length =
     let right = (said Len (Number 2) _ (one Len) 1 first (saw (one Len) 1 Len (Number 2)) refl right_length).some refl in
     at_none_since 1 (Container Len) (IsFilled 1) (Filled 0 0 7 ∷ []) [] (λ e. cc)
     (right.once 1 (omega arith) (both_of_two right.chosen right.is))
 
+-- a length of none, where one index had an owner throughout, is refused
 pub counts_none_of_one : IsRightLength 0 first (saw (one Len) 1 Len (Number 0)) → ⊥
 counts_none_of_one right_length =
     let right = (said Len (Number 0) _ (one Len) 1 first (saw (one Len) 1 Len (Number 0)) refl right_length).some refl in
     one_of_two right.chosen (right.through 0 (omega arith) (throughout 1 (Container Len) (IsFilled 0) (Filled 0 0 7 ∷ []) [] refl)) right.is
 
--- it finds a locked container to hold something
+-- a test that answers that a locked container is not empty is refused
 pub test_of_a_locked_container : (by : ℕ) (before : List (Event ℕ)) (v w : View ℕ)
     → Saw before by IsEmpty (Truth false) w
     → is_locked before ≡ true

@@ -15,13 +15,13 @@ module _ {T : Type 0} where
 
   module _ (state : ContainerState T) (index : ℕ) (value : T) (below : index < state.capacity)
       (shown : shown_at state.shown.elements index ≡ Some value) where
-    -- it ends, though the index to which it comes shows a value, which may be the last
+    -- `next` ends although the index to which it has come shows a value, which may be the last
     pub next_ends_before_a_value : (rest : List (ℕ × T)) → Gives (entries_from state index) None rest → ⊥
     next_ends_before_a_value rest gives =
         let e = sym (entries_give state index value below shown) ∙ gives.0 in
         cc
 
-    -- it gives another index, and so passes over that value
+    -- `next` gives another index, and so passes over that value
     pub next_passes_over_a_value : (other : ℕ) (r : Bor T) (rest : List (ℕ × T)) → other ≢ index
         → Gives (entries_from state index) (Some (other, r)) rest → ⊥
     next_passes_over_a_value other r rest is gives =
@@ -29,7 +29,7 @@ module _ {T : Type 0} where
         let same : (index, value) ≡ (other, r.now) = cc in
         is (sym (ap (λ (entry : ℕ × T). entry.0) same))
 
-    -- it gives another value
+    -- `next` gives another value
     pub next_gives_another_value : (r : Bor T) (rest : List (ℕ × T)) → r.now ≢ value
         → Gives (entries_from state index) (Some (index, r)) rest → ⊥
     next_gives_another_value r rest is gives =
@@ -37,7 +37,7 @@ module _ {T : Type 0} where
         let same : (index, value) ≡ (index, r.now) = cc in
         is (sym (ap (λ (entry : ℕ × T). entry.1) same))
 
-    -- it stays where it was, and would give the same entry again
+    -- `next` stays where it was, and would give the same entry again
     pub next_stays : (r : Bor T) → Gives (entries_from state index) (Some (index, r)) (entries_from state index) → ⊥
     next_stays r gives = longer (entries_from state index) gives
       where

@@ -1,4 +1,4 @@
--- For fields of what contracts of threads say a history that this field refuses here.
+-- For fields of the contracts between threads: to each a history that the field refuses.
 use Rattle.std.proofs.Common.{◌≡◌, ◌≤◌, ◌<◌, ⊎_elim, ℕ, false, Some, List, [], ◌∷◌, ◌++◌, refl, ap, subst, ◌∙◌, append_assoc, arith}
 use Rattle.std.specs.List.{FoldsTo}
 use Rattle.model.specs.declared.event.Answer.TheVariants.{State}
@@ -27,7 +27,7 @@ use Rattle.uses_laws.specs.Wrong.{never_asked, may_be_asked, says_no, never_told
 
 -- ---- a pop of an overflowing queue
 
--- it has taken out the second of two
+-- a pop that has taken out the second of two is refused
 second_out : (before after : List (Event ℕ)) (by : ℕ) (rest : List (Item ℕ))
     → took_the_second.seen ≡ before ++ HandedOut by (Index 8) ∷ after
     → waiting before ≡ Index 8 ∷ rest
@@ -46,7 +46,7 @@ second_out (a ∷ b ∷ c ∷ before) after by rest is oldest =
 pub takes_the_second : HasTakenFirst (Index 8) first took_the_second → ⊥
 takes_the_second taken_first = second_out taken_first.before taken_first.after taken_first.by taken_first.rest taken_first.is taken_first.oldest
 
--- it has taken out what was out before
+-- a pop that took its value out before the call began is refused
 seen_before : (before after rest : List (Event ℕ)) (by : ℕ) → took_the_second.seen ≡ before ++ HandedOut by (Index 8) ∷ after
     → before ≡ took_the_second.seen ++ rest
     → ⊥
@@ -62,19 +62,19 @@ takes_again taken_first = seen_before taken_first.before taken_first.after taken
 
 -- ---- a close
 
--- the list is without a number that waits
+-- a `close` whose list is without a number that waits is refused
 pub loses_one : Closes Index 2 knows_of_one nothing_left → ⊥
 loses_one k = ⊎_elim (λ (below : 0 < 0). absurd (omega arith)) (λ there. let e = there.1 in cc) (k.published_there 0 7 refl)
 
--- it begins at what was taken out
+-- a `close` whose list begins at a number that was taken out is refused
 keeps_taken : Closes Index 2 took_the_second nothing_left → ⊥
 keeps_taken k = let e : 1 ≤ 0 = k.taken in absurd (omega arith)
 
--- it has another capacity
+-- a `close` whose list has another capacity is refused
 grows : Closes {T = ℕ} Index 3 first nothing_left → ⊥
 grows k = let e = k.same in cc
 
--- it has a number that was never pushed, and the pass knows all
+-- a `close` whose list has a number that was never pushed is refused, if the pass knows all
 invents : Closes {T = ℕ} Index 2 first (record nothing_left { values = 7 ∷ [] }) → ⊥
 invents k = let e = (k.whole refl).1 in cc
 
@@ -83,11 +83,11 @@ invents k = let e = (k.whole refl).1 in cc
 pub takes_the_party : HasSplit first stays same_party → ⊥
 takes_the_party split = let e = split.right_party in cc
 
--- the new pass has seen more or has made something, or keeps the whole share
+-- the view of the new pass after a split
 abbrev new : View ℕ
 new = right_view first
 
--- this is how a split is right
+-- a split that the contract admits; each of those below differs from it in one field
 splits_right : HasSplit first stays new
 splits_right =
     record {
@@ -118,7 +118,7 @@ has_made split = let e = split.right_made in cc
 has_all : HasSplit first stays (record new { share = all_shares }) → ⊥
 has_all split = let e = ap (λ (s : Share). s.parts) split.right_share in cc
 
--- the other one has forgotten what it saw, what it made or its party, or keeps the whole share
+-- refused: the pass that was split has forgotten what it saw
 forgets_seen : HasSplit (having_seen (Locked 0 ∷ [])) stays (record new { seen = Locked 0 ∷ [] }) → ⊥
 forgets_seen split = let e = split.seen in cc
 
@@ -131,14 +131,14 @@ forgets_party split = let e = split.party in cc
 keeps_all : HasSplit first first new → ⊥
 keeps_all split = let e = split.share in cc
 
--- either counts others' changes that it has not seen, or has forgotten them
+-- refused: the new pass counts changes by others that it has not seen
 counts_more : HasSplit first stays (record new { others = 1 }) → ⊥
 counts_more split = let e = split.right_others in cc
 
 forgets_others : HasSplit (record first { others = 1 }) stays new → ⊥
 forgets_others split = let e = split.others in cc
 
--- the split is not counted, or as a step of a call; the new pass counts it too, or what the other one did
+-- refused: the split is not counted among the operations of the pass
 asks_nothing : HasSplit first (record stays { asked = 0 }) new → ⊥
 asks_nothing split = let e = split.asked in cc
 
@@ -171,13 +171,14 @@ head_came by index owner WasTold more e rest is = let asked : Asked by index own
 head_came by index owner HasFreed more e rest is = let asked : Asked by index owner ≡ e = cc in subst Heads asked tt
 head_came by index owner HasLocked more e rest is = let asked : Asked by index owner ≡ e = cc in subst Heads asked tt
 
+-- The first event of what a recovery writes is a question, or its end.
 head_is : (by : ℕ) (visits : List Visit) (e : Event ℕ) (rest : List (Event ℕ)) → e ∷ rest ≡ wrote_by by visits ++ ends by → Heads e
 head_is by [] e rest is = let ended : Finished by (Robust (Recover Default)) (State Unlocked) ≡ e = cc in subst Heads ended tt
 head_is by (v ∷ visits) e rest is =
     head_came by v.index v.owner v.came (wrote_by by visits ++ ends by) e rest
     (is ∙ append_assoc (wrote_to by v.index v.owner v.came) (wrote_by by visits) (ends by))
 
--- it has asked about an index, and its closure was never called
+-- no list of what a recovery came to gives that it asked about an index and never called its closure
 none_asked : (by : ℕ) (visits : List Visit) → asked_of_one.made ≡ Begun by (Robust (Recover Default)) ∷ (wrote_by by visits ++ ends by)
     → FoldsTo (asks never_asked) [] (questions_of visits) []
     → ⊥
@@ -187,7 +188,7 @@ none_asked by (v ∷ visits) is asked = asked.1
 pub asks_nobody : HasRecovered never_asked never_told Default Unlocked [] [] [] [] first asked_of_one → ⊥
 asks_nobody recovered = none_asked recovered.by recovered.visits recovered.called.made recovered.visited.asked
 
--- it has freed an index, and its other closure was never called
+-- what a recovery wrote at an index that it freed gives a call of its second closure
 one_freed : (by index owner : ℕ) (came : Came) (visits : List Visit)
     → Asked 0 0 7 ∷ Told 0 0 7 ∷ FreedOf 0 0 7 ∷ ends 0 ≡ wrote_to by index owner came ++ (wrote_by by visits ++ ends by)
     → FoldsTo (tells never_told) [] (freed_of (visit index owner came ∷ visits)) []
@@ -212,7 +213,7 @@ none_told by (v ∷ visits) is told =
 pub tells_nobody : HasRecovered may_be_asked never_told Default Unlocked [] [] [] [] first freed_one → ⊥
 tells_nobody recovered = none_told recovered.by recovered.visits recovered.called.made recovered.visited.told
 
--- it has freed an index, and its closure had said no
+-- what a recovery wrote at an index that it freed gives that its closure said yes
 no_to_one : (by index owner : ℕ) (came : Came) (visits : List Visit)
     → Asked 0 0 7 ∷ Told 0 0 7 ∷ FreedOf 0 0 7 ∷ ends 0 ≡ wrote_to by index owner came ++ (wrote_by by visits ++ ends by)
     → was_told came ≡ false
@@ -235,7 +236,7 @@ none_agreed by (v ∷ visits) is asked =
 pub recover_tells_after_a_no : HasRecovered says_no may_be_told Default Unlocked [] [] [] [] first freed_one → ⊥
 recover_tells_after_a_no recovered = none_agreed recovered.by recovered.visits recovered.called.made recovered.visited.asked
 
--- it has asked about an index, though it had seen the lock
+-- a view that has seen the lock
 abbrev locked : View ℕ
 locked = having_seen (Locked 1 ∷ [])
 
@@ -248,7 +249,7 @@ asks_locked recovered =
     (recovered.nothing refl) recovered.called.made)
     refl
 
--- another party than the pass's made the call
+-- refused: another party than the pass's made the recovery
 not_mine : HasRecovered may_be_asked never_told Default Unlocked [] [] [] [] first (record asked_of_one { party = Some 1 }) → ⊥
 not_mine recovered =
     let by : recovered.by ≡ 0 = cc in

@@ -32,43 +32,44 @@ module _ {T : Type 0} (code : Coding T) (kind : Kind) (capacity bound aside : �
   abbrev all : ℕ
   all = steps_in (opening code kind capacity 0) new.turns
 
-  -- more than the bound since the pass knew the run before, and no call has ended
+  -- refused: more steps than the bound since `old`, and no call has ended
   pub none_ends : bound < since → ends new.seen ≡ ends old.seen → ⊥
   none_ends more none = absurd (omega (arith, k.ends_one more))
 
-  -- the first call has ended since, and they are more than twice the bound and its last one
+  -- refused: only one call has ended since `old`, after more than twice the bound and one step
   pub one_ends_late : 2 * bound + 1 < since → ends old.seen ≡ 0 → ends new.seen ≡ 1 → ⊥
   one_ends_late more none one =
       let most : AreWithinEnds bound since 0 1 =
       subst (λ n. AreWithinEnds bound since n 1) none (subst (λ n. AreWithinEnds bound since (ends old.seen) n) one k.ends_since) in
       absurd (omega arith)
 
-  -- more than the bound in all, and no call has ended
+  -- refused: more steps than the bound since the opening, and no call has ended
   pub none_has_ended : bound < all → ends new.seen ≡ 0 → ⊥
   none_has_ended more none =
       let most : AreWithinEnds bound all 0 0 = subst (λ n. AreWithinEnds bound all 0 n) none k.ends_all in
       absurd (omega arith)
 
-  -- one since then, where no call was pending, and none has begun
+  -- refused: a step since `old`, where no call was pending and none has begun
   pub steps_of_no_call : 0 < since → begun new.seen ≡ ends old.seen → ⊥
   steps_of_no_call more same =
       let none : begun new.seen - ends old.seen ≡ 0 = omega arith in
       let most : since ≤ load bound 0 = subst (λ n. since ≤ load bound n) none k.load_since in
       absurd (omega arith)
 
-  -- one, where no call has begun
+  -- refused: a step where no call has begun
   pub steps_before_any_call : 0 < all → begun new.seen ≡ 0 → ⊥
   steps_before_any_call more none =
       let most : all ≤ load bound 0 = subst (λ n. all ≤ load bound n) none k.load_all in
       absurd (omega arith)
 
-  -- an operation more than may be aside, where no call has begun
+  -- refused: one operation more than may be aside, where no call has begun
   pub asks_for_no_call : aside < new.asked → begun new.seen ≡ 0 → ⊥
   asks_for_no_call more none =
       let most : new.asked ≤ aside + load bound 0 = subst (λ n. new.asked ≤ aside + load bound n) none k.asked in
       absurd (omega arith)
 
-  -- rounds as many as the load and one more, in each of which a party steps on with a call, and has one as each begins
+  -- refused: one round more than the load, in each of which a party steps, with a call
+  -- under way as each begins
   pub never_rests : (rounds : List (List (Turn T))) (p : ℕ) → later.first.rest ≡ turns_of rounds
       → StepsInEach p (run_of code kind capacity old.turns) rounds
       → load bound (begun new.seen - ends old.seen) < length rounds
@@ -78,7 +79,7 @@ module _ {T : Type 0} (code : Coding T) (kind : Kind) (capacity bound aside : �
 
 -- ---- passes of a structure of capacity 2 that knew nothing before
 
--- one has asked for two operations, where no call has begun, and one may be aside
+-- refused: a pass that has asked for two operations, where no call has begun and one may be aside
 pub asks_twice : (bound : Bound) → GoesOn one_word kinds.Indices 2 bound 1 first (record first { asked = 2 }) → ⊥
 asks_twice bound goes_on =
     let most : 2 ≤ 1 + load (bound 0 2 one_word.size) 0 = (goes_on.within 0 tt).asked in
@@ -94,7 +95,7 @@ locking = Begun 0 (Robust (Release 0 7 LockIfLastIndex)) ∷ []
 by_default : load (default_bound 1 2 1) 1 ≡ 10
 by_default = refl
 
--- one more than such a call may take, and than may be aside
+-- refused: a lease that asks for one operation more than its load and what may be aside
 pub lease_asks_once_more :
     OwnersGoOn one_word kinds.Robust 2 room_bound default_bound 1 first (record first { seen = leasing; asked = 12 }) → ⊥
 lease_asks_once_more k =

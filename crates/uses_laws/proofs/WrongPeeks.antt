@@ -20,7 +20,7 @@ module _ {T : Type 0} where
       let first : None ≡ slice_get (item ∷ rest) 0 = peeked.oldest ∙ ap (λ xs. slice_get xs 0) waits in
       cc
 
-  -- one that answers another value than the oldest
+  -- a peek that answers another value than the oldest
   pub peek_answers_another : (item other : Item T) (rest : List (Item T)) (v w : View T) → waiting w.seen ≡ item ∷ rest → other ≢ item
       → HasPeeked (Some other) v w → ⊥
   peek_answers_another item other rest v w waits ne peeked =
@@ -28,18 +28,18 @@ module _ {T : Type 0} where
       let one : other ≡ item = cc in
       ne one
 
-  -- one that answers a value, though none waits
+  -- a peek that answers a value, though none waits
   pub peek_answers_what_is_gone : (item : Item T) (v w : View T) → waiting w.seen ≡ [] → HasPeeked (Some item) v w → ⊥
   peek_answers_what_is_gone item v w none peeked =
       let first : Some item ≡ None = peeked.oldest ∙ ap (λ xs. slice_get xs 0) none in
       cc
 
-  -- one that takes its value out, as a pop
+  -- a peek that takes its value out, as a pop does
   pub peek_takes_out : (item : Item T) (answer : Option (Item T)) (v w : View T) → PopDone item v w → HasPeeked answer v w → ⊥
   peek_takes_out item answer v w popped peeked =
       absurd (omega (arith, ap length popped.1.list, ap length peeked.list, length-append (handed_out v.seen) (item ∷ [])))
 
-  -- one that answers what it answered before, and takes no step
+  -- a peek that answers without a step
   pub peek_takes_no_step : (answer : Option (Item T)) (v : View T) → HasPeeked answer v v → ⊥
   peek_takes_no_step answer v peeked = no_call _ _ _ _ v v refl peeked.called
 
@@ -57,12 +57,12 @@ module _ {T : Type 0} where
       let clash : true ≡ false = seen_role.holder ∙ ap (λ o. not (is_none o)) none in
       cc
 
-  -- one that looks at the other role
+  -- a look at the producer's role that looks at the consumer's
   pub has_producer_looks_at_consumer : (taken : Bool) (v w : View T) → HasSeenRole Consumer taken v w → HasSeenRole Producer taken v w → ⊥
   has_producer_looks_at_consumer taken v w wrong seen_role =
       let same_end = append_cancel_left v.made _ _ (sym wrong.called.made ∙ seen_role.called.made) in
       absurd (cc)
 
-  -- one that answers without a step
+  -- a look at a role that answers without a step
   pub look_at_role_takes_no_step : (role : Role) (taken : Bool) (v : View T) → HasSeenRole role taken v v → ⊥
   look_at_role_takes_no_step role taken v seen_role = no_call _ _ _ _ v v refl seen_role.called

@@ -1,4 +1,5 @@
--- A find that does not rest as it should, and which calls that may lock overlap.
+-- A find that rests at a stage at which none may rest, or ends with another number than it has come to; and
+-- calls that may lock and overlap.
 use Rattle.std.proofs.Common.{◌≡◌, ◌≢◌, ℕ, ◌==◌, Bool, true, false, Option, Some, None, List, [], ◌∷◌, ◌++◌, if◌then◌else◌, refl, sym, subst, ◌∙◌}
 use Rattle.std.proofs.lemmas.List.{same_from_push}
 use Rattle.steps.specs.declared.container.find.FindStage.{FindStage}
@@ -36,28 +37,31 @@ find_ends (flights.Container (calls.Find run)) answer stage is ends =
     subst (λ (s : FindStage). FindEndsAs s answer) at ends
 find_ends flight answer stage is ends = absurd (cc)
 
--- it has not come to its question
+-- refused: a find that rests at the load of a cell, before its question
 pub rests_at_a_cell : (v : View ℕ) (k : IsResting v) (index found : ℕ)
     → stage_of k.flight ≡ Some (finds.LoadsCell index found)
     → ⊥
 rests_at_a_cell v k index found is = find_ends k.flight k.answer (finds.LoadsCell index found) is k.ends
 
+-- refused: a find that rests at the load of a count, before its question
 pub rests_at_a_count : (v : View ℕ) (k : IsResting v) (index found : ℕ)
     → stage_of k.flight ≡ Some (finds.LoadsCount index found)
     → ⊥
 rests_at_a_count v k index found is = find_ends k.flight k.answer (finds.LoadsCount index found) is k.ends
 
+-- refused: a find that rests at the load of a word, before its question
 pub rests_at_a_word : (v : View ℕ) (k : IsResting v) (index found count at : ℕ)
     → stage_of k.flight ≡ Some (finds.LoadsWord index found count at)
     → ⊥
 rests_at_a_word v k index found count at is = find_ends k.flight k.answer (finds.LoadsWord index found count at) is k.ends
 
+-- refused: a find that rests at the check of a count, before its question
 pub rests_at_a_check : (v : View ℕ) (k : IsResting v) (index found count : ℕ)
     → stage_of k.flight ≡ Some (finds.ChecksCount index found count)
     → ⊥
 rests_at_a_check v k index found count is = find_ends k.flight k.answer (finds.ChecksCount index found count) is k.ends
 
--- it ends with another number than it has come to
+-- refused: a find that rested ends with another number than it had come to
 pub ends_with_another_number : (v w : View ℕ) (k : Settles v w) (index found other p : ℕ) (start : Start ℕ) (before : List (Event ℕ))
     → stage_of k.resting.flight ≡ Some (finds.Asks index found)
     → w.seen ≡ before ++ Finished p start (Number other) ∷ []
@@ -83,14 +87,17 @@ keeps = Robust (Release 0 7 Default)
 pub one_locks : LocksApart (Begun 0 release ∷ [])
 one_locks = Each-append BeginsAlone [] (Begun 0 release ∷ []) (Each-nil BeginsAlone) ((λ locks q. refl), tt)
 
+-- Two calls that may lock overlap if the second begins before the first has ended.
 pub two_lock_at_once : LocksApart (Begun 0 release ∷ Begun 1 release ∷ []) → ⊥
 two_lock_at_once locks_apart = let clash : true ≡ false = locks_apart (Begun 0 release ∷ []) [] (Begun 1 release) refl refl 0 in cc
 
+-- A party whose call has ended has no call under way that may lock.
 ended_call : (b : Bool)
     → is_locking {T = ℕ} (if b then ended (if b then Open release [] else Never) (State Unlocked) else (if b then Open release [] else Never)) ≡ false
 ended_call true = refl
 ended_call false = refl
 
+-- They do not overlap if the second begins after the end of the first.
 pub one_locks_after_the_other : LocksApart (Begun 0 release ∷ Finished 0 release (State Unlocked) ∷ Begun 1 release ∷ [])
 one_locks_after_the_other =
     Each-append BeginsAlone [] (Begun 0 release ∷ Finished 0 release (State Unlocked) ∷ Begun 1 release ∷ []) (Each-nil BeginsAlone)

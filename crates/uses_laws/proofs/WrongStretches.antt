@@ -13,6 +13,7 @@ use Rattle.pages_threads.specs.Silent.{IsSilent}
 
 -- ---- what begins
 
+-- The call is none that may lock the set or the container.
 abbrev KeepsUnlocked : Start ℕ → Type 0
 KeepsUnlocked start = may_lock start ≡ false
 
@@ -36,6 +37,6 @@ invokes silent = silent.0 refl
 pub responds : IsSilent {Call = ℕ} {Answer = ℕ} 0 (Responded 0 5 ∷ []) → ⊥
 responds silent = silent.0 refl
 
--- while it is, another may do either
+-- while party 0 is silent, party 1 may call and respond
 pub is_silent : IsSilent {Call = ℕ} {Answer = ℕ} 0 (Invoked 1 5 ∷ Responded 1 5 ∷ [])
 is_silent = ((λ e. cc), ((λ e. cc), tt))

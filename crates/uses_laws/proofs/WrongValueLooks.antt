@@ -13,14 +13,14 @@ module _ {T : Type 0} where
   pub version_answers_the_role : (word : ℕ) (v w : View T) → word ≤ 1 → 0 < length (stored w.seen) → HasSeenVersion word v w → ⊥
   version_answers_the_role word v w few some seen_version = absurd (omega (arith, seen_version.count))
 
-  -- one that answers the version that it found before a store, of which its pass knows
+  -- a look that answers the version of before a store that its pass knows of
   pub version_keeps_the_old_one : (x : T) (version : ℕ) (u v w : View T) → HasSeenVersion version u v → HasStored x v w
       → HasSeenVersion version v w
       → ⊥
   version_keeps_the_old_one x version u v w old store seen_version =
       absurd (omega (arith, old.count, seen_version.count, ap length store.list, length-append (stored v.seen) (x ∷ [])))
 
-  -- one that answers and has not called
+  -- a look that answers without a call
   pub version_without_a_step : (version : ℕ) (v : View T) → HasSeenVersion version v v → ⊥
   version_without_a_step version v seen_version = no_call _ _ _ _ v v refl seen_version.called
 

@@ -22,8 +22,8 @@ StepsAreWithinLoad capacity v =
     (n : ℕ) → AreBelow n v.seen
     → steps_in (opening one_word IndexQueue capacity 0) v.turns ≤ begun v.seen * (5 * n + 1)
 
--- The pass has asked for at most n · n · (capacity + 4) + 1 operations for each call that has begun, where parties
--- below n have begun them, and so many aside.
+-- If parties below n have begun all calls, the pass has asked for at most n · n · (capacity + 4) + 1
+-- operations for each call that has begun, and `aside` more.
 abbrev pub AsksAreWithinLoad : (capacity aside : ℕ) → View ℕ → Type 0
 AsksAreWithinLoad capacity aside v =
     (n : ℕ) → AreBelow n v.seen → v.asked ≤ aside + begun v.seen * (n * n * (capacity + 4) + 1)

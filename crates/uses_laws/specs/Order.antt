@@ -1,4 +1,4 @@
--- Two pushes, or two stores, in an order of the calls of all threads.
+-- Two pushes of a queue, or two stores of a value, in a linearization of all threads' calls.
 use Rattle.std.specs.Prelude.{◌≡◌, ◌<◌, ℕ, true, Some, List}
 use Rattle.std.specs.List.{slice_get}
 use Rattle.model.specs.declared.event.Answer.{Answer}
@@ -12,12 +12,12 @@ use Rattle.model.specs.Linearizable.{Call, IsLinearizable}
 use Rattle.model.specs.Linearized.{as_list, as_value}
 use Rattle.lock_free.specs.Coding.{one_word}
 
--- at this place stands a push of this number, which answers true
+-- the call at this place of the sequential order is a push of this number that answers true
 abbrev pub IsPushAt : List (Call ℕ × Answer ℕ) → (place number : ℕ) → Type 0
 IsPushAt sequential place number =
     (call : Call ℕ) × (slice_get sequential place ≡ Some (call, Truth true)) × (call.start ≡ Queues (PushIndex number))
 
--- the calls have a linearization in which a push of the one number stands before a push of the other
+-- The calls have a linearization in which a push of `first` stands before a push of `second`.
 pub record PushedInOrder (capacity first second : ℕ) (events : List (Event ℕ)) : Type 0 where
   pub order : IsLinearizable (as_list IndexQueue capacity) events
   pub place : ℕ
@@ -26,12 +26,12 @@ pub record PushedInOrder (capacity first second : ℕ) (events : List (Event ℕ
   pub first_push : IsPushAt order.sequential place first
   pub second_push : IsPushAt order.sequential later second
 
--- at this place stands a store of this number, which answers true
+-- the call at this place of the sequential order is a store of this number that answers true
 abbrev pub IsStoreAt : List (Call ℕ × Answer ℕ) → (place number : ℕ) → Type 0
 IsStoreAt sequential place number =
     (call : Call ℕ) × (slice_get sequential place ≡ Some (call, Truth true)) × (call.start ≡ Atomic (Store number))
 
--- the stores and loads have a linearization in which a store of the one number stands before a store of the other
+-- The stores and loads have a linearization in which a store of `first` stands before a store of `second`.
 pub record StoredInOrder (first second : ℕ) (events : List (Event ℕ)) : Type 0 where
   pub order : IsLinearizable (as_value one_word) events
   pub place : ℕ

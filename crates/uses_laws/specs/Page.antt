@@ -1,4 +1,5 @@
--- Two pushes in the words of the index queue's page.
+-- Two pushes in the words of the index queue's page (`pages/specs/IndexQueue.antt`): the history of all
+-- threads' calls as a run of the page's machine.
 use Rattle.std.specs.Prelude.{◌≡◌, ◌<◌, ◌^◌, ℕ, true, List, [], ◌∷◌, ◌++◌, fold, length}
 use Rattle.pages.specs.IndexQueue.{Answer, Call, Push, Pushed, bounded_list, index_queue}
 use Rattle.pages.specs.Machine.{Event, Invoked, IsLinearizable, Responded, Turn, opening, turned}
@@ -8,8 +9,8 @@ use Rattle.pages_threads.specs.Silent.{IsSilent}
 abbrev pub history_of : ℕ → List (Turn Call) → List (Event Call Answer)
 history_of capacity turns = (fold (turned (index_queue capacity)) (opening (index_queue capacity)) turns).history
 
--- This history ends with the response to a push of this value, which was taken: from the invocation of that push on the
--- producer does nothing else.
+-- This history ends with the response to a push of this value, which answers true. From the invocation of
+-- that push on the producer, party 0, makes no other call.
 pub record EndsWithPush (value : ℕ) (history : List (Event Call Answer)) : Type 0 where
   pub before : List (Event Call Answer)
   pub during : List (Event Call Answer)

@@ -12,10 +12,9 @@ use Rattle.lock_free.specs.HistoryView.View.{View}
 use Rattle.headline_threads.specs.Ends.{AreBelow, BeginSuch, steps_between}
 
 module _ {T : Type 0} where
-  -- What a bound on steps says, of all steps that the table took and of those that it took since: how many there are at
-  -- most, by the calls that have ended, and by those that have begun. All that the pass has asked for is at most so
-  -- much too, beside so many operations aside. Cut what the table did since into more rounds than that, and a party
-  -- that took a step in each had no call under way as one of them began.
+  -- What a bound on the steps of one call says of all threads' steps at the table since it was opened, and of
+  -- those between `old` and `new`: how many there are at most, by the calls that have ended and by those that
+  -- have begun. `aside` is how many operations of the pass may be no steps of calls.
   pub record EndsWithin (code : Coding T) (kind : Kind) (capacity bound aside : ℕ) (old new : View T)
       (later : Continues code kind capacity old new) : Type 0 where
     -- in more steps than the bound a call ends
@@ -30,19 +29,22 @@ module _ {T : Type 0} where
     pub load_all : steps_in (opening code kind capacity 0) new.turns ≤ load bound (begun new.seen)
     -- what the pass has asked for, by all calls that have begun
     pub asked : new.asked ≤ aside + load bound (begun new.seen)
-    -- a party that takes a step in each of so many rounds has no call under way at one of them
+    -- if the turns between are cut into more rounds than the bound allows steps, a party that takes a step in
+    -- each round has no call under way as one of them begins
     pub rests : (rounds : List (List (Turn T))) → later.first.rest ≡ turns_of rounds
         → (p : ℕ) → StepsInEach p (run_of code kind capacity old.turns) rounds
         → load bound (begun new.seen - ends old.seen) < length rounds
         → RestsInOne p (run_of code kind capacity old.turns) rounds
 
-  -- It goes on, and where all calls that the pass has seen are of parties below n the bound is that of n parties.
+  -- The run that the pass knew goes on to the one that it knows. If all calls that the pass has seen are of
+  -- parties below n, the steps are within the bound for n parties (`EndsWithin`).
   pub record GoesOn (code : Coding T) (kind : Kind) (capacity : ℕ) (bound : Bound) (aside : ℕ) (old new : View T) : Type 0 where
     pub later : Continues code kind capacity old new
     pub within : (n : ℕ) → AreBelow n new.seen
         → EndsWithin code kind capacity (bound n capacity code.size) aside old new later
 
-  -- The same by two bounds: the smaller one holds where the pass has seen no call begin that may lock.
+  -- The run that the pass knew goes on to the one that it knows, within two bounds: `bound` always, and the
+  -- smaller `by_default` if the pass has seen no call begin that may lock.
   pub record OwnersGoOn (code : Coding T) (kind : Kind) (capacity : ℕ) (bound by_default : Bound) (aside : ℕ)
       (old new : View T) : Type 0 where
     pub later : Continues code kind capacity old new

@@ -1,4 +1,4 @@
--- How many places were cleared, and how much was taken out of all places.
+-- How many bits were cleared, and how much was taken out of all counts, by a list of events.
 use Rattle.std.specs.Prelude.{ℕ, List, sum_by}
 use Rattle.model.specs.declared.event.Event.{Event}
 use Rattle.model.specs.declared.event.Event.TheVariants.{Cleared, TakenOut}

@@ -1,4 +1,5 @@
--- What a pass would know of histories that contracts refuse.
+-- Views of histories that contracts have to refuse: the lemmas of `proofs/WrongHistories.antt` show of each
+-- that a contract does not hold of it.
 use Rattle.std.specs.Prelude.{◌≡◌, ℕ, Bool, false, Some, List, [], ◌∷◌, ◌++◌}
 use Rattle.steps.specs.Objects.Lists.{Bounded}
 use Rattle.model.specs.declared.event.Event.{Event}

@@ -1,5 +1,5 @@
-//! Calls on a bit set are no single acts: each acts place by place. What a caller did itself stands in an order of all
-//! these acts.
+//! A call of a bit set acts place by place, not at once. The two calls that a caller made itself stand in an
+//! order of all these acts, in which they come in the order in which it made them.
 
 ghost use Rattle.std.specs.Prelude.{◌<◌};
 ghost use Rattle.lock_free.specs.Bits.Calls.{capacity_of, IsPassOf, view};

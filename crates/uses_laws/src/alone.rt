@@ -1,4 +1,4 @@
-//! With the whole share a call takes no more steps than alone.
+//! A `set` by a pass with the whole share takes no more steps than the call takes alone.
 
 ghost use Rattle.std.specs.Prelude.{◌<◌};
 ghost use Rattle.lock_free.specs.Bits.Calls.{capacity_of, IsPassOf, view};

@@ -1,6 +1,7 @@
-//! Values that stand whole in a container. A copy is whole where nobody acts for an owner in recovery, each gives back
-//! what is his, and no number has come round: conditions on the events of the history. Who has the whole right to know
-//! has seen all of them, and where he has only added, they hold.
+//! Values that are copied whole from a container. A copy is whole if nobody acts for an owner that is being
+//! recovered, each owner gives back only its own indices, and no counter has come round. These are conditions
+//! on the events of the history. A pass with the whole share has seen all events, and if it has only added,
+//! the conditions hold.
 ghost use Rattle.std.specs.Prelude.{◌≡◌, None};
 ghost use Rattle.lock_free.specs.Container.Names.{history, made, share, view, IsPassOf};
 ghost use Rattle.lock_free.specs.Shares.{IsAll};
@@ -11,8 +12,8 @@ use lock_free::laws::containers;
 use lock_free::mpmc::container::{Container, ContainerAddFailure, ContainerHandle, OwnerId, Pass};
 use std::sync::Wait;
 
-/// Adds two values for the owner, to a container to which alone was added so far, by who has its whole history: each
-/// that was added has been placed, and what is copied stands there, whole.
+/// Adds two values for the owner to a container whose history has only adds, by a pass with the whole share.
+/// Each value that was added was placed, and each that is copied then was placed whole.
 pub fn add_both(
     rt: &impl Wait,
     container: &Container<u64>,

@@ -1,4 +1,5 @@
-//! What a closure counts is what the call has done that it was lent to.
+//! A closure that is lent to a call counts what the call does: how many flags a reset of all cleared, how
+//! much was taken out of the counts.
 
 ghost use Rattle.std.specs.Prelude.{◌≡◌, ◌+◌};
 ghost use Rattle.lock_free.specs.Bits.Calls.{IsPassOf, made};
@@ -20,7 +21,7 @@ pub fn clear(set: &BitSet, pass: &mut Pass) -> usize
     number
 }
 
-/// Takes all counts out: how much that is in all.
+/// Takes all counts out, and returns their sum.
 pub fn take(counts: &mut Handle<'_>) -> u128
     ensures { taken (made (pass_in counts.new)) ≡ taken (made (pass_in counts.old)) + result }
 {

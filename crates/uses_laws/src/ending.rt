@@ -1,5 +1,5 @@
-//! All steps that threads take at a queue are bounded by how many of their calls have ended, and by how many have begun.
-//! So are all operations on words that a pass asks for.
+//! All steps that threads take at a queue are bounded by how many of their calls have ended, and by how many
+//! have begun. The operations on words that a pass asks for are bounded by the calls that have begun.
 
 ghost use Rattle.std.specs.Prelude.{◌≡◌, ◌+◌};
 ghost use Rattle.lock_free.specs.Queues.Calls.{queue_of, view};
@@ -37,10 +37,10 @@ pub fn join_load(pass: &mut Pass, other: Pass)
 
 /// Splits the pass, takes an index with each half, and joins the two. None where the pass cannot be split.
 ///
-/// If all calls that the pass has seen then are of parties below n, it has asked for at most n·n·(capacity + 4) + 1
-/// operations on words times the number of these calls, of whichever threads. Beside these it has asked for those that
-/// were no steps of calls: as many as before, and at most 5 more. That is 1 for the split, 1 for each index, and 2
-/// for the join.
+/// If all calls that the pass has seen in the end are of parties below n, it has asked for at most
+/// n·n·(capacity + 4) + 1 operations on words for each of these calls, of whichever threads, and for those
+/// that were no steps of calls. Of the latter there are at most 5 more than before: 1 for the split, 1 for
+/// each index, and 2 for the join.
 pub fn take_by_halves(
     rt: &impl Wait,
     set: &UniqueIndexSet,

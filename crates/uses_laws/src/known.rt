@@ -1,4 +1,5 @@
-//! What a pass knows of the run says more of a call than its own counts do.
+//! What a pass knows of the run says more of a call than the pass's own counts do: how many steps it took,
+//! and which index was freed.
 
 ghost use Rattle.std.specs.Prelude.{◌≡◌, ℕ, Some, List};
 ghost use Rattle.model.specs.declared.party.Progress.{Progress};
@@ -17,7 +18,8 @@ ghost use Rattle.lock_free.specs.Loan.Contracts.{HasFreed, HasFreedInRun};
 use lock_free::laws::histories::steps_are_bounded;
 use lock_free::laws::loans::frees_are_known;
 
-/// A call while which the run counts no change by others takes no more steps than alone.
+/// A call during which the run counts no change by other parties takes no more steps than
+/// the call takes alone.
 pub fn takes_alone()
     ensures { (code : Coding ℕ) (kind : Kind) (capacity alone retry p : ℕ) (start : Start ℕ) (answer : Answer ℕ) (wrote : List (Event ℕ))
         (old new : View ℕ) → Called p start answer wrote old new → new.party ≡ Some p → Knows code kind capacity new
@@ -28,7 +30,7 @@ pub fn takes_alone()
     steps_are_bounded::<u64>();
 }
 
-/// One free between two moments at which the pass knew a run is a free in that run.
+/// If one index was freed between two moments at which the pass knew a run, the run has this free.
 pub fn free_is_known()
     ensures { (index capacity : ℕ) (old new : View ℕ) → HasFreed index old new
         → Knows one_word kinds.Indices capacity old → Knows one_word kinds.Indices capacity new

@@ -1,6 +1,7 @@
-//! A pool of indices that can be told to be full. An acquire answers `OutOfIndices` also where the set's counter is at its
-//! end, so by itself the answer tells nothing of the indices. In a history of few changes it does, and who has the whole
-//! right to know counts the changes by what he made.
+//! A pool of indices that can be told to be full. An acquire answers `OutOfIndices` also where the
+//! set's counter is at its end, so by itself the answer tells nothing of the indices. In a history of
+//! few changes it says that the pool was full, and a pass with the whole share counts the changes by
+//! the events that it made.
 ghost use Rattle.std.specs.Prelude.{◌≡◌, ℕ, Err, None, Ok};
 ghost use Rattle.steps.specs.declared.indices.enums.UniqueIndexSetAcquireFailure.TheVariants.{OutOfIndices};
 ghost use Rattle.model.specs.Families.Indices.Robust.Reading.{holder_of};
@@ -34,9 +35,9 @@ pub fn lease(
     pool.acquire(rt, owner, pass)
 }
 
-/// Leases an index to the owner. If nobody has given it back before, and no recovery has freed it, it was granted only where
-/// nobody held it, whatever became of other indices and of their owners. Who has the whole right to know counts that by what he
-/// made.
+/// Leases an index to the owner. If nobody has given it back before, and no recovery has freed it, it was
+/// granted only where nobody held it, whatever became of other indices and of their owners. A pass with the
+/// whole share counts both by the events that it made.
 pub fn lease_apart(
     rt: &impl Wait,
     pool: &RobustUniqueIndexSet,

@@ -1,4 +1,5 @@
-//! What a caller did itself stands in a linearization of the calls of all threads, in the order in which it was done.
+//! Two calls that a caller made itself, pushes or stores, stand in a linearization of the calls of all
+//! threads in the order in which it made them.
 
 ghost use Rattle.std.specs.Prelude.{IsTrue};
 ghost use Rattle.lock_free.specs.Queues.Calls.{producer_queue, producer_view};

@@ -1,4 +1,4 @@
-//! What a thread knows of an index queue, in the words of the queue's page.
+//! What a thread knows of an index queue, in the words of the queue's page (`pages/specs/IndexQueue.antt`).
 
 ghost use Rattle.std.specs.Prelude.{IsTrue};
 ghost use Rattle.lock_free.specs.Queues.Calls.{producer_queue, producer_view};

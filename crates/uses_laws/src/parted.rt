@@ -1,4 +1,4 @@
-//! Both ends of a queue, out of one pass.
+//! Both ends of an index queue, made of one pass.
 
 ghost use Rattle.std.specs.Prelude.{◌≡◌, IfSome};
 ghost use Rattle.lock_free.specs.Queues.Calls.{consumer_queue, consumer_view, producer_queue, producer_view};

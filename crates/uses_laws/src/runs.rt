@@ -1,6 +1,6 @@
-//! The run that a pass knows is one with the run that it knew, over calls, splits and joins, and by the calls that began and
-//! ended meanwhile the steps of all threads are bounded. So it is at each moment of a pass, and from the opening of the table
-//! on.
+//! The run that a pass knows goes on from the run that it knew before, over calls, splits and joins. The
+//! steps that all threads took in between are bounded by the calls that began and by those that ended in
+//! between, and so are all steps since the table was opened.
 
 ghost use Rattle.std.specs.Prelude.{◌+◌, IfSome};
 ghost use Rattle.model.specs.declared.turn.Kind.TheVariants as kinds;
@@ -73,8 +73,9 @@ pub fn lease_within(
     leased
 }
 
-/// Adds a value for the owner, and the same is so of all steps at the container. If the last call of the pass was a find that
-/// rests, one operation more was no step of a call.
+/// Adds a value for the owner. All steps that threads took at the container meanwhile, and since it was
+/// opened, are bounded as for `lease_within`. If the last call of the pass was a find that rests, one
+/// operation more was no step of a call.
 pub fn add_within(
     rt: &impl Wait,
     container: &Container<u64>,

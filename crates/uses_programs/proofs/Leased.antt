@@ -69,14 +69,14 @@ leased_both is others mine theirs one two =
 
 -- ---- a history in which no lease ended
 
--- none of its events ends one
+-- no event of a history in which no lease ended ends one
 no_end : (before after : List (Event ℕ)) (e : Event ℕ) → sum_by ends (before ++ e ∷ after) ≡ 0 → (ends e ≡ 0) × (sum_by ends before ≡ 0)
 no_end before after e none =
     let a = sum_by-append ends before (e ∷ after) in
     let b = sum_by-cons ends e after in
     (omega arith, omega arith)
 
--- and nobody is gone
+-- an event that ends no lease makes no owner gone
 stays : (owner : ℕ) (e : Event ℕ) → ends e ≡ 0 → gone_after owner false e ≡ false
 stays owner (Died o) none = absurd (omega arith)
 stays owner (Told p index o) none = absurd (omega arith)
@@ -103,9 +103,11 @@ acts_right before (Granted p index owner) none free = free owner
 acts_right before (Finished p (Container (containers.Add value owner)) (Index index)) none free = free owner
 acts_right before e none free = tt
 
+-- A history in which no lease ended is well-formed.
 well_formed : (es : List (Event ℕ)) → sum_by ends es ≡ 0 → IsWellFormed es
 well_formed es none before after e is = frees_right before e (no_end before after e (ap (sum_by ends) (sym is) ∙ none)).0
 
+-- A history in which no lease ended is honest.
 honest : (es : List (Event ℕ)) → sum_by ends es ≡ 0 → IsHonest es
 honest es none before after e is =
     let h = no_end before after e (ap (sum_by ends) (sym is) ∙ none) in
@@ -118,7 +120,7 @@ held None = 0
 held (Some owner) = 1
 
 module _ (i : ℕ) where
-  -- whom an index is granted to holds it on
+  -- the event leaves the holder of the index as its holder
   abbrev HoldsOn : List (Event ℕ) → Event ℕ → Type 0
   HoldsOn before e = held (holder_after i (holder_of i before) e) ≡ grants i e + held (holder_of i before)
 
@@ -126,6 +128,7 @@ module _ (i : ℕ) where
   holds_on : (before : List (Event ℕ)) (e : Event ℕ) → ends e ≡ 0 → HoldsRight before e → HoldsOn before e
   holds_on before (Granted p index owner) none free = ⊎_elim here there (cases_eq index i)
     where
+      -- An index that is granted had no holder before, and now has one.
       here : index ≡ i → HoldsOn before (Granted p index owner)
       here e =
           let t : (index == i) ≡ true = grind (arith, nat_tests) in
@@ -137,7 +140,7 @@ module _ (i : ℕ) where
   holds_on before (FreedOf p index owner) none free = absurd (omega arith)
   holds_on before e none free = omega arith
 
-  -- behind such a history the index is granted at most once more, where nobody holds it
+  -- after a history in which no lease ended an index is granted at most once, and only if nobody holds it
   at_most_once : (before es : List (Event ℕ)) → sum_by ends es ≡ 0 → Each HoldsRight (before ++ es)
       → sum_by (grants i) es + held (holder_of i before) ≤ 1
   at_most_once before [] none each = at_most_one (holder_of i before)

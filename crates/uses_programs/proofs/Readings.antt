@@ -24,7 +24,7 @@ module _ {T : Type 0} where
   made_more : (old new more : List (Event T)) → new ≡ old ++ more → stores_in new ≡ stores_in old + stores_in more
   made_more old new more is = ap stores_in is ∙ sum_by-append (λ e. length (stores e)) old more
 
-  -- what is stored in a beginning is stored in the whole, in front
+  -- the values stored in a beginning of a history are the first of those stored in the whole
   stored_on : (old new : List (Event T)) (b : IsBeginning old new) → stored new ≡ stored old ++ stored b.rest
   stored_on old new b = ap stored b.is ∙ flat_map-append stores old b.rest
 
@@ -70,7 +70,8 @@ module _ {T : Type 0} where
       subst (λ xs. HasWritten xs v u) (ap (λ z. take n all ++ z ∷ []) is ∙ sym (take_more all n d lt))
       (written_more (take n all) x v w u k goes h)
 
-  -- a writer that gives the role back has written all, if it has written so many
+  -- a writer that gives the role back has written the whole list, if it has written as many
+  -- values as the list has
   pub written_all : (all : List T) (n : ℕ) (v w u : View T) → length all ≤ n
       → HasWritten (take n all) v w → Goes w u → HasReleased w u → HasWritten all v u
   written_all all n v w u past k goes h =
@@ -158,6 +159,7 @@ module _ {T : Type 0} where
         let no_rest : stored h.ours.rest ≡ [] = none_left (stored h.ours.rest) (omega arith) in
         list ∙ (ap (λ ys. ((first ∷ s.others) ++ all) ++ ys) no_rest ∙ (append-nil ((first ∷ s.others) ++ all) ∙ ap (λ ys. (first ∷ ys) ++ all) no_others))
 
+    -- Each value that was read is one that was written.
     pub all_seen : All (Contains (first ∷ all)) seen
     all_seen =
         subst (λ ys. All (Contains ys) seen) all_stored

@@ -47,12 +47,14 @@ rings_again xs b answer old new stood h was =
       cleared = λ bell. (set_adds_none old new b added bell).1 ∙ was.cleared bell;
     }
 
+-- Bells that were set still were, once more was seen.
 pub rang_still : (bells : List ℕ) (seen then : List (Event ℕ)) → IsBeginning seen then → WereSet bells seen → WereSet bells then
 rang_still bells seen then begins all =
     All-weaker (λ b. 1 ≤ sets b seen) (λ b. 1 ≤ sets b then)
     (λ b some. let grown = sum_grows (λ e. cond (is_set_of b e) 1 0) seen then begins in omega arith) bells all
 
--- each of the bells so far was set, and so is one more, whichever the set answered
+-- if the first n bells were set, and then the next one is set, the first n + 1 were set,
+-- whatever the set answered
 pub rang_on : (bells : List ℕ) (n b : ℕ) (answer : Bool) (old new : View ℕ) → n < length bells
     → b ≡ get_or bells n 0 → HasSet b answer old new → (answer ≡ false → StoodOnce b new)
     → WereSet (take n bells) old.seen → WereSet (take (n + 1) bells) new.seen
@@ -84,7 +86,7 @@ hears_none xs ys first old new h was =
       cleared = λ bell. ap (λ n. n + times bell xs) (reset_adds_none old new h bell).1 ∙ was.cleared bell;
     }
 
--- who found none at last has heard all that stood
+-- a listener whose last look found no bell has heard all that rang
 pub rest_heard : (ys : List ℕ) (first : List (Event ℕ)) (old new : View ℕ) (bell : ℕ)
     → HearsMore [] ys first old.made → HasReset None old new → sets bell new.made ≡ clears bell new.made
     → sets bell first ≡ clears bell first + times bell ys
@@ -106,7 +108,7 @@ none_heard events = record { set = λ bell. refl; cleared = λ bell. refl }
 
 -- ---- all passes joined
 
--- what two made together
+-- what two threads have rung together
 pub both_rung : (one two : List ℕ) (xs ys : List (Event ℕ)) → HasRung one xs → HasRung two ys → BothRung one two (xs ++ ys)
 both_rung one two xs ys h g =
     record {
@@ -117,7 +119,7 @@ both_rung one two xs ys h g =
 module _ (one two heard left : List ℕ) (rung start listened joined : List (Event ℕ)) (rang : BothRung one two rung)
     (fresh : start ≡ []) (listens : HearsMore [] heard start listened) (is : joined ≡ rung ++ listened)
     (rest : (bell : ℕ) → sets bell joined ≡ clears bell joined + times bell left) where
-  -- all that was set
+  -- each bell was set as often as the two lists have it
   set_in_all : (bell : ℕ) → sets bell joined ≡ times bell one + times bell two
   set_in_all bell =
       let s = ap (sets bell) is ∙ sum_by-append (λ e. cond (is_set_of bell e) 1 0) rung listened in
@@ -139,7 +141,7 @@ module _ (one two heard left : List ℕ) (rung start listened joined : List (Eve
       let clear : clears {T = ℕ} bell [] ≡ 0 = refl in
       omega arith
 
-  -- whoever was seen to be set by then was heard, or still rang
+  -- each bell that was set by a certain view was heard, or still rang
   pub none_lost : (bells : List ℕ) (then : List (Event ℕ)) → ((f : Event ℕ → ℕ) → sum_by f then ≡ sum_by f joined)
       → WereSet bells then → All (λ b. 1 ≤ times b heard + times b left) bells
   none_lost bells then same all =

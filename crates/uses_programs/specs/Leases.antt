@@ -11,7 +11,7 @@ abbrev pub grants : ℕ → Event ℕ → ℕ
 grants i (Granted p index owner) = one_if index i
 grants i e = 0
 
--- 1 of what gives an index back, or says that an owner is gone
+-- 1 for an event that gives an index back, or says that an owner is gone
 abbrev pub ends : Event ℕ → ℕ
 ends (FreedOf p index owner) = 1
 ends (Told p index owner) = 1

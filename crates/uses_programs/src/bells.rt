@@ -1,5 +1,6 @@
-//! Two threads ring bells, flags that stand until they are heard, and a third looks for those that ring. Proved: bell by
-//! bell, what was heard and what still rings at the end is what began to ring, and no bell that was rung is missing.
+//! Two threads ring bells, and a third listens. A bell is a flag of a bit set: to ring it sets the flag, to
+//! hear it clears the flag. Proved: each bell began to ring as often as it was heard or still rings at the
+//! end, and no bell that was rung is missing.
 
 ghost use Rattle.std.specs.Prelude.{◌≡◌, ◌+◌, ℕ, [], IfSome};
 ghost use Rattle.lock_free.specs.Bits.Calls.{set_of, IsPassOf, history, made, share, MissesNothing};
@@ -13,10 +14,11 @@ use std::sync::Wait;
 use std::thread::Threads;
 use std::{io, thread};
 
-/// A thread's pass, and the bells that it began to ring or heard.
+/// A thread's pass of the bit set, and the bells that it set or cleared.
 type Part = (Pass, Vec<usize>);
 
-/// Rings these bells, one after another, and notes those that did not ring yet. None where there is no such bell.
+/// Rings these bells, one after another, and notes those that did not ring before. None where the set has no
+/// such bell, or there is no memory.
 fn ring(rt: &impl Wait, alloc: Global, set: &BitSet, pass: Pass, bells: &[usize]) -> Option<Part>
     requires { IsPassOf set.now pass × (made pass ≡ []) }
     ensures set { IfSome result (λ r. set_of r.0 ≡ set_of pass) }
@@ -39,7 +41,7 @@ fn ring(rt: &impl Wait, alloc: Global, set: &BitSet, pass: Pass, bells: &[usize]
     Some((pass, rung))
 }
 
-/// Looks so many times for a bell that rings, and hears it.
+/// Looks `looks` times for a bell that rings, and hears each that it finds.
 fn listen(rt: &impl Wait, alloc: Global, set: &BitSet, mut pass: Pass, looks: usize) -> Option<Part>
     requires { IsPassOf set.now pass }
     ensures set { IfSome result (λ h. set_of h.0 ≡ set_of pass) }
@@ -56,7 +58,7 @@ fn listen(rt: &impl Wait, alloc: Global, set: &BitSet, mut pass: Pass, looks: us
     Some((pass, heard))
 }
 
-/// Hears all bells that still ring, where nobody else has a pass.
+/// Hears all bells that still ring, once nobody else has a pass.
 fn hear_rest(rt: &impl Wait, alloc: Global, set: &BitSet, mut pass: Pass) -> Option<Vec<usize>>
     requires { IsPassOf set.now pass × IsAll (share pass) × MissesNothing pass }
     ensures { IfSome result (λ h. (bell : ℕ) → sets bell (made pass) ≡ clears bell (made pass) + times bell h.items) }
@@ -74,7 +76,8 @@ fn hear_rest(rt: &impl Wait, alloc: Global, set: &BitSet, mut pass: Pass) -> Opt
     unreachable!()
 }
 
-/// Rings bells in two threads: the passes joined, and the bells of each that did not ring yet.
+/// Rings bells in two threads. Returns the joined pass, and for each thread the bells that
+/// did not ring before.
 fn ring_both<R: Threads + Wait + Sync>(
     rt: &R,
     alloc: Global,
@@ -101,7 +104,8 @@ fn ring_both<R: Threads + Wait + Sync>(
     Some((pass, (rung, also)))
 }
 
-/// The bells that began to ring, by who rang them, those that were heard, and those that still rang at the end.
+/// The bells that began to ring, by the thread that rang them, those that were heard, and those that still
+/// rang at the end.
 #[derive(Drop)]
 pub struct Bells {
     pub began: (Vec<usize>, Vec<usize>),
@@ -109,8 +113,9 @@ pub struct Bells {
     pub left: Vec<usize>,
 }
 
-/// Two threads ring bells while a third looks so many times for one that rings. Each bell is heard, or rings at the
-/// end, as often as it began to ring; and each one that a thread rang is among them. None: no memory, or no such bell.
+/// Two threads ring bells while a third looks `looks` times for a bell that rings. Each bell is heard, or
+/// rings at the end, as often as it began to ring, and each bell that a thread rang is among them. None where
+/// memory or a further pass is refused, or the set has no such bell.
 pub fn ring_bells<R: Threads + Wait + Sync>(
     rt: &R,
     alloc: Global,

@@ -8,7 +8,7 @@ use std::alloc::Global;
 use std::io;
 use thiserror::Error;
 
-/// Why nothing comes of it.
+/// Why the program did not get to its end.
 #[derive(Debug, Drop, Error)]
 pub enum ClosingError {
     #[error("not made: {0}")]
@@ -23,7 +23,7 @@ pub enum ClosingError {
     Empty,
 }
 
-/// What was popped of the queue that is shared, and then of the one that it is in the end.
+/// What was popped of the shared queue, and then of the sequential queue that its `close` returns.
 #[derive(Drop)]
 pub struct Popped {
     pub shared: u64,

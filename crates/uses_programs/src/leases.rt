@@ -14,7 +14,8 @@ use std::sync::Wait;
 use std::thread::Threads;
 use std::{io, thread};
 
-/// Leases so many indices, for this owner: they are all that the pass has leased. None where fewer are free.
+/// Leases `number` indices for this owner, which are then all that the pass has leased. None where fewer are
+/// free, or there is no memory.
 fn lease(
     rt: &impl Wait,
     alloc: Global,
@@ -38,7 +39,7 @@ fn lease(
     Some((pass, indices))
 }
 
-/// Recovers what the dead one had leased: how many came back.
+/// Recovers the indices that the dead owner had leased. Returns how many came back.
 fn recover(rt: &impl Wait, pool: &RobustUniqueIndexSet, pass: &mut Pass, dead: OwnerId) -> usize
     requires { IsPassOf pool.now pass.old }
     ensures { set_of pass.new ≡ set_of pass.old }
@@ -54,7 +55,7 @@ fn recover(rt: &impl Wait, pool: &RobustUniqueIndexSet, pass: &mut Pass, dead: O
     number
 }
 
-/// Gives back what the owner has leased: the last one closes the pool.
+/// Gives back all indices that the owner has leased. The release of the last one closes the pool.
 fn give_back(
     rt: &impl Wait,
     pool: &RobustUniqueIndexSet,
@@ -108,7 +109,8 @@ fn outlive(
     }
 }
 
-/// What both held at the same time, so many the first and then those of the second, and what became of it.
+/// The indices that both held at the same time, those of the first owner before those of the second, and what
+/// became of them.
 #[derive(Drop)]
 pub struct Leases {
     pub first: usize,
@@ -116,8 +118,9 @@ pub struct Leases {
     pub end: End,
 }
 
-/// Two lease indices of one pool, so many each, and hold them until both have theirs: no two are the same one. Then the
-/// second one dies. None where there is no memory, or a thread did not get its indices.
+/// Two owners lease `first` and `second` indices of one pool, and hold them until both have theirs: no two
+/// indices are the same. Then the second owner dies. None where memory or a further pass is refused, or a
+/// thread did not get its indices.
 pub fn lend_and_recover<R: Threads + Wait + Sync>(
     rt: &R,
     alloc: Global,

@@ -57,7 +57,7 @@ fn run<R: Threads + Wait + Print + Sync>(rt: &R, alloc: Global, name: &str) -> i
     Ok(false)
 }
 
-/// Runs all, each below a line with its name.
+/// Runs all programs, each below a line with its name.
 fn run_all<R: Threads + Wait + Print + Sync>(rt: &R, alloc: Global) -> io::Result<()> {
     for number in 0..NAMES.len() {
         println!(rt; "== {}", NAMES[number])?;
@@ -66,6 +66,8 @@ fn run_all<R: Threads + Wait + Print + Sync>(rt: &R, alloc: Global) -> io::Resul
     Ok(())
 }
 
+/// Runs the program that the first argument names, or all of them if there is none. It exits with 2 if no
+/// program has that name.
 fn main(rt: HostRuntime) -> io::Result<ExitCode> {
     let mut args = env::args(&rt)?;
     let _program = args.next();

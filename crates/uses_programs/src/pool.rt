@@ -41,7 +41,8 @@ fn fill(buffers: &[Mutex<[u8; BYTES]>], index: u32, byte: u8) -> Option<()> {
     Some(())
 }
 
-/// Takes the buffers of an order, and fills them: they are all that the pass holds then. None where fewer are free.
+/// Takes as many buffers as the order asks for, and fills them. They are then all that the pass holds. None
+/// where fewer are free, or there is no memory.
 fn take(
     rt: &impl Wait,
     alloc: Global,

@@ -1,5 +1,6 @@
-//! Sends numbers from one thread to another, through a queue that holds a few of them. Proved: the numbers that came are
-//! the first of those that were sent, in their order, and all of them just where none waits at the end.
+//! Sends numbers from one thread to another, through a queue that holds a few of them. Proved: the
+//! numbers that came are the first of those that were sent, in their order, and all of them exactly if
+//! none waits at the end.
 
 ghost use Rattle.std.specs.Prelude.{◌≡◌, IfOk, length};
 ghost use Rattle.lock_free.specs.Queues.Calls.{IsPassOf};
@@ -12,7 +13,7 @@ use std::sync::Wait;
 use std::thread::Threads;
 use std::{io, thread};
 
-/// Why something does not come through.
+/// Why not all numbers came through.
 #[derive(Debug, Drop)]
 pub enum RelayError {
     NoMemory,
@@ -42,14 +43,14 @@ fn send(rt: &impl Wait, queue: &IndexQueue, pass: Pass, numbers: &[u64]) -> Resu
     unreachable!()
 }
 
-/// What a receiver has.
+/// A receiver's pass, and the numbers that it popped.
 #[derive(Drop)]
 struct Receipt {
     pass: Pass,
     numbers: Vec<u64>,
 }
 
-/// Pops so many numbers, each as soon as it is there.
+/// Pops `count` numbers, each as soon as it is there.
 fn receive(
     rt: &impl Wait,
     alloc: Global,
@@ -89,9 +90,10 @@ pub struct Relayed {
     pub emptied: bool,
 }
 
-/// Sends the numbers from one thread to another, which takes so many of them. What comes is a beginning of them, in
-/// their order, and all of them just where nothing waits at the end. At most four are left over, which is what the queue
-/// has room for: where there are more, or more are asked for than there are, it waits for good.
+/// Sends the numbers from one thread to another, which takes `count` of them. What comes is a beginning
+/// of them, in their order, and all of them exactly if nothing waits at the end. At most four may be
+/// left over, since the queue has room for four: if more are left, or more are asked for than there
+/// are, it waits for good.
 pub fn relay<R: Threads + Wait + Sync>(
     rt: &R,
     alloc: Global,

@@ -13,7 +13,7 @@ use std::sync::Wait;
 use std::thread::Threads;
 use std::{io, thread};
 
-/// Pushes all numbers: the pass, and those that were handed back.
+/// Pushes all numbers. Returns the pass, and the numbers that were handed back.
 fn push_all(
     alloc: Global,
     queue: &SafelyOverflowingIndexQueue,
@@ -39,7 +39,7 @@ fn push_all(
     Some((pass, handed_back))
 }
 
-/// Pops so many times: the pass, and what was there.
+/// Pops `times` times. Returns the pass, and the numbers that came.
 fn pop_some(
     rt: &impl Wait,
     alloc: Global,
@@ -66,7 +66,7 @@ fn pop_some(
     Some((pass, numbers))
 }
 
-/// Pops until nothing waits.
+/// Pops until a pop finds the queue empty.
 fn drain(rt: &impl Wait, consumer: &mut Consumer<'_>, numbers: &mut Vec<u64>) -> Option<()>
     ensures queue { consumer_queue consumer.new ≡ consumer_queue consumer.old }
     ensures drained { 0 < (consumer_queue consumer.old).capacity
@@ -92,8 +92,9 @@ pub struct Overflowed {
     pub handed_back: Vec<u64>,
 }
 
-/// Sends the numbers from one thread to another, which pops so many times; what waits then is popped too. Each number
-/// is popped or handed back, once, and both stand in their order. None where there is no memory.
+/// Sends the numbers from one thread to another, which pops `times` times; what waits then is popped too.
+/// Each number is popped or handed back, once, and both lists are in the order of sending. None where memory
+/// or a further pass is refused.
 pub fn overflow<R: Threads + Wait + Sync>(
     rt: &R,
     alloc: Global,

@@ -77,7 +77,7 @@ fn write(
     Some(producer.release())
 }
 
-/// Loads so many times: the pass, and what it saw.
+/// Loads the value `count` times. Returns the pass, and the readings that it saw.
 fn load_some(
     rt: &impl Wait,
     alloc: Global,
@@ -98,15 +98,15 @@ fn load_some(
     Some((pass, readings))
 }
 
-/// What was seen while the value was written, and what it is in the end.
+/// The readings that were seen while the value was written, and the value in the end.
 #[derive(Drop)]
 pub struct Shown {
     pub seen: Vec<Reading>,
     pub last: Reading,
 }
 
-/// Keeps a value up to date in one thread, and loads it so many times in another. Each reading that is seen is the first
-/// one or one of those that were stored, and the value in the end is the last of them.
+/// Stores readings in one thread, and loads the value `count` times in another. Each reading that is seen is
+/// the first one or one of those that were stored, and the value in the end is the last of them.
 pub fn show<R: Threads + Wait + Sync>(
     rt: &R,
     alloc: Global,

@@ -11,7 +11,7 @@ const ROUNDS: u64 = 1000;
 
 type Totals = [u64; EVENTS];
 
-/// Counts each event so often.
+/// Counts each event `ROUNDS` times.
 fn count(mut page: Handle<'_>) {
     for _ in 0..ROUNDS {
         for event in 0..EVENTS {
@@ -31,7 +31,7 @@ fn collect(page: &mut Handle<'_>, totals: &mut Totals) {
     });
 }
 
-/// Does so again and again.
+/// Takes all counts out `ROUNDS` times, and adds them up.
 fn collect_all(page: &mut Handle<'_>) -> Totals {
     let mut totals = [0; EVENTS];
     for _ in 0..ROUNDS {
@@ -55,6 +55,7 @@ fn run<R: Threads + Sync>(rt: &R, alloc: Global) -> Option<Totals> {
     Some(totals)
 }
 
+/// Counts the events, and prints the totals that were taken out.
 pub fn report<R: Threads + Print + Sync>(rt: &R, alloc: Global) -> io::Result<()> {
     match run(rt, alloc) {
         Some(totals) => println!(rt; "events counted: {totals:?}"),

@@ -87,6 +87,7 @@ fn run<R: Threads + Wait + Sync>(rt: &R, alloc: Global) -> Option<Vec<u8>>
     back.is_empty().then_some(came)
 }
 
+/// Sends the images, and prints how many were read whole and in order.
 pub fn report<R: Threads + Wait + Print + Sync>(rt: &R, alloc: Global) -> io::Result<()> {
     match run(rt, alloc) {
         Some(came) => println!(rt; "images sent: {IMAGES}; whole and in order: {}", came.len()),

@@ -11,6 +11,7 @@ mod sensor;
 
 use std::io;
 
+/// Runs all seven programs.
 fn main(rt: HostRuntime) -> io::Result<()> {
     jobs::report(&rt, rt.alloc())?;
     sensor::report(&rt, rt.alloc())?;

@@ -9,7 +9,7 @@ use std::sync::Wait;
 use std::thread::Threads;
 use std::{io, thread};
 
-/// Takes up to so many as this owner, and gives none back: how many it got.
+/// Takes up to `number` indices as this owner, and gives none back. Returns how many it got.
 fn take(rt: &impl Wait, mut pool: Handle<'_>, owner: OwnerId, number: usize) -> usize {
     for got in 0..number {
         if pool.acquire(rt, owner).is_err() {
@@ -19,8 +19,8 @@ fn take(rt: &impl Wait, mut pool: Handle<'_>, owner: OwnerId, number: usize) -> 
     number
 }
 
-/// How many one took who died, how many of them came back, and how many could be had then. None where there is no memory, or no
-/// further pass.
+/// Returns how many indices the owner that died had taken, how many of them came back, and how many could be
+/// had in the end. None where there is no memory, or no further pass.
 fn run<R: Threads + Wait + Sync>(rt: &R, alloc: Global) -> Option<(usize, usize, usize)> {
     let (living, dying) = (OwnerId::new(1).ok()?, OwnerId::new(2).ok()?);
     let (pool, mut pass) = RobustUniqueIndexSet::new(alloc, 4).ok()?;
@@ -37,6 +37,7 @@ fn run<R: Threads + Wait + Sync>(rt: &R, alloc: Global) -> Option<(usize, usize,
     Some((taken, freed, take(rt, pool.handle(pass), living, 5)))
 }
 
+/// Has one owner die with indices in hand, and prints how many came back, and how many could be had.
 pub fn report<R: Threads + Wait + Print + Sync>(rt: &R, alloc: Global) -> io::Result<()> {
     match run(rt, alloc) {
         Some((taken, freed, had)) => println!(rt;

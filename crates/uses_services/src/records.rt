@@ -10,7 +10,7 @@ use zero_copy_bus::subscriber::Subscriber;
 
 const RECORDS: u64 = 500;
 
-/// Nobody loses a record, since a queue is as long as there are slots.
+/// A queue has as much room as there are slots, so that nobody loses a record.
 const SIZES: Sizes = Sizes {
     slots: 8,
     subscribers: 2,
@@ -76,6 +76,7 @@ fn run<R: Threads + Wait + Sync>(rt: &R, alloc: Global) -> Option<(u64, u64, usi
     hear(rt, &mut publisher)
 }
 
+/// Publishes all records, and prints how many each subscriber read, and how many slots are out.
 pub fn report<R: Threads + Wait + Print + Sync>(rt: &R, alloc: Global) -> io::Result<()> {
     match run(rt, alloc) {
         Some((one, other, out)) => println!(rt;

@@ -75,6 +75,7 @@ fn run<R: Threads + Wait + Sync>(rt: &R, alloc: Global) -> Option<(bool, usize)>
     Some((whole?, mine.len(rt)))
 }
 
+/// Replaces the entries, and prints whether each that was seen was whole, and how many are left.
 pub fn report<R: Threads + Wait + Print + Sync>(rt: &R, alloc: Global) -> io::Result<()> {
     match run(rt, alloc) {
         Some((whole, left)) => println!(rt; "entries whole: {whole}; left: {left}"),

@@ -10,6 +10,7 @@ use std::{io, thread};
 /// The number of the last measurement.
 const LAST: u64 = 1000;
 
+/// A measurement, of five words: its number, a position and a speed.
 #[derive(Clone, Copy, PartialEq, Eq)]
 struct Measurement {
     number: u64,
@@ -115,6 +116,8 @@ fn run<R: Threads + Wait + Sync>(rt: &R, alloc: Global) -> Option<bool> {
     Some(first && second && third && stored)
 }
 
+/// Stores the measurements, and prints whether each that was seen was whole and never older
+/// than the one before.
 pub fn report<R: Threads + Wait + Print + Sync>(rt: &R, alloc: Global) -> io::Result<()> {
     match run(rt, alloc) {
         Some(well) => println!(rt; "measurements whole and never older, seen by three: {well}"),

@@ -1,4 +1,4 @@
--- What calls of a queue's ends have done after one value more.
+-- What the loops of `push_all`, `pop_all` and the calls that wait have done after one value more.
 use Rattle.std.proofs.Common.{◌≡◌, ◌+◌, ◌-◌, ◌<◌, ◌≤◌, ℕ, true, Some, None, List, [], ◌∷◌, ◌++◌, length, take, drop, set, get_or}
 use Rattle.std.proofs.Common.{refl, sym, ap, subst, ◌∙◌, length-drop, arith}
 use Rattle.std.proofs.lemmas.Grind.{drop_more_same}
@@ -15,7 +15,7 @@ use Rattle.lock_free_queues.specs.Queues.Rings.{producer_view, consumer_view, Sa
 use Rattle.lock_free_queues.proofs.Queues.Relays.{sending_one, receiving_one}
 use Rattle.uses_streams.specs.Tries.{InTurn, WerePushed, WasStopped, WerePushedUpTo, WasEmptied, WerePopped, WerePoppedUpTo}
 
--- one step more
+-- a list of steps goes on by one more element
 in_turn_more : {A B : Type 0} (Step : B → A → A → Type 0) (xs : List B) (x : B) (old now new : A) → InTurn Step xs old now
     → Step x now new → InTurn Step (xs ++ x ∷ []) old new
 in_turn_more Step [] x old now new same next = (new, subst (λ v. Step x v new) same next, refl)
@@ -26,6 +26,7 @@ module _ {T V : Type 0} (named : V → Item T) where
 
   module _ (values : List V) (n : ℕ) (value : V) (below : n < length values) (is : value ≡ get_or values n value) (old now new : View T)
       (so_far : WerePushed named (take n values) old now) where
+    -- A push of the next value after those before it has pushed one value more of the list.
     pub pushed_next : PushDone (named value) now new → WerePushed named (take (n + 1) values) old new
     pushed_next pushed =
         subst (λ xs. WerePushed named xs old new)
@@ -95,6 +96,7 @@ rest_stays first values n value same = drop-set-lt (n + 1) values n value (omega
 
 module _ {E T : Type 0} {kind : kinds.Ghosts E} {words : Ghosts T} (named : T → Item T) (values : List T) (n : ℕ) (value : T)
     (below : n < length values) where
+  -- A producer that pushes one value more has sent one more of the list.
   pub sends_next : (first was now : Producer E T kind words) → Sending named first (take n values) was → value ≡ get_or values n value
       → SameProducer was now → PushDone (named value) (producer_view was) (producer_view now) → Sending named first (take (n + 1) values) now
   sends_next first was now s is same pushed =

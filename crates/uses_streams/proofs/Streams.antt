@@ -35,7 +35,7 @@ module _ {A : Type 0} where
   pub last_none : (n : ℕ) (xs : List A) → n ≡ 0 → last_ones n xs ≡ []
   last_none n xs none = drop_all (length xs - n) xs (omega arith)
 
-  -- with one element more in the list, the last ones are one more too
+  -- the last k + 1 elements of a list with one more are the last k of the list and that one
   pub last_push : (k n : ℕ) (xs ys : List A) (x : A) → k ≤ length xs → n ≡ k + 1 → ys ≡ xs ++ x ∷ []
       → last_ones n ys ≡ last_ones k xs ++ x ∷ []
   last_push k n xs ys x few more is =
@@ -71,13 +71,14 @@ module _ {A : Type 0} where
 -- ---- values and the end
 
 module _ {T : Type 0} where
+  -- The values of a list are the first ones of any list that goes on from it.
   pub begins : (xs ys : List (Item (Element T))) → values_in xs ≡ take (length (values_in xs)) (values_in (xs ++ ys))
   begins [] ys = refl
   begins (Value (elements.Value x) ∷ xs) ys = ap (λ ws. x ∷ ws) (begins xs ys)
   begins (Value elements.End ∷ xs) ys = refl
   begins (Index i ∷ xs) ys = refl
 
-  -- behind the end no value counts, and the end stays
+  -- after the end no value counts, and the end stays
   pub end_stays : (xs ys : List (Item (Element T))) → has_end xs ≡ true
       → (values_in (xs ++ ys) ≡ values_in xs) × (has_end (xs ++ ys) ≡ true)
   end_stays [] ys ended = absurd (true≢false (sym ended))
@@ -85,7 +86,7 @@ module _ {T : Type 0} where
   end_stays (Value elements.End ∷ xs) ys ended = (refl, refl)
   end_stays (Index i ∷ xs) ys ended = absurd (true≢false (sym ended))
 
-  -- a value behind values alone is the last of them
+  -- a value after values alone is the last of them
   pub one_value : (xs : List (Item (Element T))) (x : T) → has_values xs ≡ true
       → (values_in (xs ++ Value (elements.Value x) ∷ []) ≡ values_in xs ++ x ∷ [])
       × (has_values (xs ++ Value (elements.Value x) ∷ []) ≡ true) × (has_end (xs ++ Value (elements.Value x) ∷ []) ≡ false)
@@ -94,7 +95,7 @@ module _ {T : Type 0} where
   one_value (Value elements.End ∷ xs) x only_values = absurd (true≢false (sym only_values))
   one_value (Index i ∷ xs) x only_values = absurd (true≢false (sym only_values))
 
-  -- the end behind values alone adds no value, and comes once
+  -- the end after values alone adds no value, and comes once
   pub one_end : (xs : List (Item (Element T))) → has_values xs ≡ true
       → (values_in (xs ++ Value elements.End ∷ []) ≡ values_in xs)
       × (has_values (xs ++ Value elements.End ∷ []) ≡ false) × (has_end (xs ++ Value elements.End ∷ []) ≡ true)
@@ -104,6 +105,7 @@ module _ {T : Type 0} where
   one_end (Value elements.End ∷ xs) only_values = absurd (true≢false (sym only_values))
   one_end (Index i ∷ xs) only_values = absurd (true≢false (sym only_values))
 
+  -- A list of values alone has no end in it.
   pub none_ended : (xs : List (Item (Element T))) → has_values xs ≡ true → has_end xs ≡ false
   none_ended [] only_values = refl
   none_ended (Value (elements.Value y) ∷ xs) only_values = none_ended xs only_values
@@ -294,12 +296,14 @@ module _ {T : Type 0} where
       (one.0, (one.1.0 ∙ ap not off, one.1.1 ∙ off), one.2, one.3)
   receives v w goes (Some elements.End) ended off only_pops came popped empty = receives_end v w goes ended off only_pops came popped
 
+  -- A pop that found nothing has found the queue empty, told of what arrived.
   pub found_nothing : (v w : View (Element T)) (found : Option (Element T)) → IfNone found (PopEmpty v w)
       → IfNothing (arrival_of found) (PopEmpty v w)
   found_nothing v w None empty = empty
   found_nothing v w (Some (elements.Value x)) empty = tt
   found_nothing v w (Some elements.End) empty = tt
 
+  -- A pop that found a value has popped it, told of what arrived.
   pub found_value : (v w : View (Element T)) (found : Option (Element T)) → IfSome found (λ x. PopDone (Value x) v w)
       → IfValue (arrival_of found) (λ x. PopDone (Value (elements.Value x)) v w)
   found_value v w None popped = tt
@@ -337,6 +341,7 @@ module _ {T : Type 0} where
 
   -- ---- both ends together
 
+  -- two halves are the whole share
   halves_are_all : (v w : View (Element T)) → HasHalf v → HasHalf w → IsAll (both_of v.share w.share)
   halves_are_all v w first_half second_half =
       subst IsAll (λ i. both_of (record { part = sym first_half.0 i; parts = sym first_half.1 i })
@@ -348,6 +353,7 @@ module _ {T : Type 0} where
       → HasJoined mine theirs new → MissesNothing new → IsHistory code kinds.Queue capacity new.seen
       → pushed_by mine ≡ popped_by theirs ++ waiting new.seen
   together code capacity mine theirs new pushes pops has_joined missing history =
+      -- the joined pass has the whole share, so all that was pushed and popped is what it made
       let whole : IsAll new.share = subst IsAll (sym has_joined.share) (halves_are_all mine theirs pushes.0 pops.0) in
       let counted = whole_counted new whole missing in
       let put : sum_by puts new.made ≡ sum_by puts mine.made + sum_by puts theirs.made =
@@ -360,6 +366,7 @@ module _ {T : Type 0} where
       let none_got = pushes.2 in
       let few_got = pops.1 in
       let none_put = pops.2 in
+      -- nothing was published that the sender did not see, and nothing taken that the receiver did not see
       let list : published new.seen ≡ published mine.seen ++ published has_joined.ours.rest =
       ap published has_joined.ours.is ∙ flat_map-append publishes mine.seen has_joined.ours.rest in
       let taken : handed_out new.seen ≡ handed_out theirs.seen ++ handed_out has_joined.others.rest =
@@ -374,6 +381,7 @@ module _ {T : Type 0} where
       none_more (published mine.seen) (published has_joined.ours.rest) (published new.seen) list (omega arith) in
       let took : handed_out new.seen ≡ handed_out theirs.seen =
       none_more (handed_out theirs.seen) (handed_out has_joined.others.rest) (handed_out new.seen) taken (omega arith) in
+      -- what was published is what was taken out, and what waits
       let book = (listed_always code capacity new.seen queues.Queue history new.seen [] (sym (append-nil new.seen))).book in
       last_all (sum_by puts mine.made) (published mine.seen) all_put
       ∙ (sym same
@@ -383,23 +391,28 @@ module _ {T : Type 0} where
 
   module _ (code : Coding (Element T)) (capacity : ℕ) (mine theirs new came : View (Element T)) (same : came ≡ theirs) (pushes : OnlyPushes mine)
       (pops : OnlyPops theirs) (h : HasJoined mine came new) (missing : MissesNothing new) (history : IsHistory code kinds.Queue capacity new.seen) where
+    -- the same join, said of the receiver's pass
     joined : HasJoined mine theirs new
     joined = subst (λ v. HasJoined mine v new) same h
 
+    -- the joined pass has the whole share
     pub joined_whole : IsAll new.share
     joined_whole = subst IsAll (sym joined.share) (halves_are_all mine theirs pushes.0 pops.0)
 
+    -- what was received is a beginning of what was sent
     pub joined_begins : values_in (popped_by theirs) ≡ take (length (values_in (popped_by theirs))) (values_in (pushed_by mine))
     joined_begins =
         begins (popped_by theirs) (waiting new.seen)
         ∙ ap (λ xs. take (length (values_in (popped_by theirs))) (values_in xs))
         (sym (together code capacity mine theirs new pushes pops joined missing history))
 
+    -- if the end came, all that was sent was received
     pub joined_all : has_end (popped_by theirs) ≡ true → values_in (popped_by theirs) ≡ values_in (pushed_by mine)
     joined_all ended =
         sym (end_stays (popped_by theirs) (waiting new.seen) ended).0
         ∙ ap values_in (sym (together code capacity mine theirs new pushes pops joined missing history))
 
+    -- if the end came, the sender had sent it
     pub joined_ends : has_end (popped_by theirs) ≡ true → has_end (pushed_by mine) ≡ true
     joined_ends ended =
         ap has_end (together code capacity mine theirs new pushes pops joined missing history)

@@ -12,6 +12,7 @@ use Rattle.lock_free_queues.specs.Queues.Rings.{QueueId, consumer_queue, consume
 use Rattle.uses_streams.specs.Tries.{Times, WereRefused, WereEmpty, WasPushedWithin, WasPoppedWithin, WasTakenWithin}
 
 module _ {A : Type 0} (Step : A → A → Type 0) where
+  -- `n` steps and then one more are `n + 1` steps.
   times_more : (n : ℕ) (old between new : A) → Times n Step old between → Step between new → Times (n + 1) Step old new
   times_more n old between new so_far next =
       let more : n + 1 ≡ suc n = omega arith in
@@ -24,6 +25,7 @@ module _ {T : Type 0} where
   -- the queue of the last push is that of the first
   module _ (first queue : QueueId) (same : queue ≡ first) (item : Item T) (n : ℕ) (old between new : View T)
       (so_far : WereRefused n first.capacity item old between) where
+    -- `n` pushes that were refused and then one more are `n + 1`.
     pub refused_more : PushRefused queue.capacity item between new → WereRefused (n + 1) first.capacity item old new
     refused_more full =
         times_more (PushRefused first.capacity item) n old between new so_far
@@ -46,9 +48,9 @@ module _ {T : Type 0} where
   pub empty_all : (n tries : ℕ) (old new : View T) → n ≡ tries → WereEmpty n old new → WereEmpty tries old new
   empty_all n tries old new all so_far = times_all PopEmpty n tries old new all so_far
 
-  -- the steps of tries, each of which takes so many at most
+  -- the steps of n tries, each of which takes at most `each`
   module _ (each n : ℕ) (old : View T) where
-    -- one try more takes the steps of one try more
+    -- n + 1 tries take at most (n + 1) * each steps
     pub steps_more : (between new : View T) → TakesAtMost (n * each) old between → TakesAtMost each between new
         → TakesAtMost ((n + 1) * each) old new
     steps_more between new so_far next =

@@ -102,7 +102,7 @@ it_pushed = refl
 it_popped_none : popped_by knows ≡ []
 it_popped_none = refl
 
--- the same of the one that popped
+-- the pass that popped 3 has popped one element, that with the value 3
 it_popped : popped_by (record knows { made = HandedOut 2 three ∷ [] }) ≡ three ∷ []
 it_popped = refl
 

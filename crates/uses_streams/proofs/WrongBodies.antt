@@ -28,11 +28,11 @@ use Rattle.uses_streams.specs.Tries.{WereRefused, WereEmpty, Times, WasPushedWit
 use Rattle.uses_streams.specs.Values.{GivesNext, given_so_far, has_given_all}
 use Rattle.uses_streams.proofs.Streams.{pushes_value, pushes_none, stops_pushing, none_ended, receives_value, receives_end, receives_nothing}
 
--- a list is not itself with one more
+-- a list is not itself with one more element
 one_more : {A : Type 0} (xs : List A) (x : A) → xs ≡ xs ++ x ∷ [] → ⊥
 one_more xs x is = (absurd (omega (arith, ap length is, length-append xs (x ∷ []))))
 
--- the first of a list, or else this
+-- the first element of a list, or `z` if it is empty
 abbrev head : {A : Type 0} → A → List A → A
 head z [] = z
 head z (x ∷ xs) = x
@@ -40,14 +40,14 @@ head z (x ∷ xs) = x
 module _ {T : Type 0} (v w : View (Element T)) (goes : Goes v w) where
   -- ---- `send`
 
-  -- it answers true where the push was refused
+  -- `send` answers true although the push was refused
   pub send_says_true_of_a_refusal : (x : T) (capacity : ℕ) → OnlyPushes v → PushRefused capacity (Value (elements.Value x)) v w
       → values_in (pushed_by w) ≡ values_in (pushed_by v) ++ x ∷ [] → ⊥
   send_says_true_of_a_refusal x capacity only_pushes full says =
       one_more (values_in (pushed_by v)) x
       (sym (ap values_in (pushes_none v w goes capacity (Value (elements.Value x)) only_pushes full).1) ∙ says)
 
-  -- it answers false where it pushed
+  -- `send` answers false although it pushed
   pub send_says_false_of_a_push : (x : T) → OnlyPushes v → has_values (pushed_by v) ≡ true → PushDone (Value (elements.Value x)) v w
       → values_in (pushed_by w) ≡ values_in (pushed_by v) → ⊥
   send_says_false_of_a_push x only_pushes going pushed says =
@@ -61,14 +61,14 @@ module _ {T : Type 0} (v w : View (Element T)) (goes : Goes v w) where
 
   -- ---- `finish`
 
-  -- it gives the role back, and writes no end
+  -- `finish` gives the role back, and pushes no end
   pub finish_writes_no_end : (role : Role) → OnlyPushes v → has_values (pushed_by v) ≡ true → HasReleased role v w
       → published w.seen ≡ published v.seen → has_end (pushed_by w) ≡ true → ⊥
   finish_writes_no_end role only_pushes going released list says =
       let left = (stops_pushing v w goes role only_pushes released list).1 in
       true≢false (sym says ∙ (ap has_end left ∙ none_ended (pushed_by v) going))
 
-  -- it says that it finished where the end was refused
+  -- `finish` answers that it finished although the push of the end was refused
   pub finish_says_so_of_a_refusal : (capacity : ℕ) → OnlyPushes v → has_values (pushed_by v) ≡ true
       → PushRefused capacity (Value elements.End) v w → has_end (pushed_by w) ≡ true → ⊥
   finish_says_so_of_a_refusal capacity only_pushes going full says =
@@ -77,25 +77,25 @@ module _ {T : Type 0} (v w : View (Element T)) (goes : Goes v w) where
 
   -- ---- `receive`
 
-  -- it answers the end where the queue is empty
+  -- `receive` answers the end where the queue is empty
   pub receive_ends_an_empty_queue : OnlyPops v → CameUpTo false (popped_by v) → PopEmpty v w → has_end (popped_by w) ≡ true → ⊥
   receive_ends_an_empty_queue only_pops came empty says =
       true≢false (sym says ∙ (receives_nothing v w goes false refl only_pops came empty).3)
 
-  -- it answers the end where it popped a value
+  -- `receive` answers the end where it popped a value
   pub receive_ends_at_a_value : (x : T) → OnlyPops v → CameUpTo false (popped_by v) → PopDone (Value (elements.Value x)) v w
       → has_end (popped_by w) ≡ true → ⊥
   receive_ends_at_a_value x only_pops came popped says =
       true≢false (sym says ∙ (receives_value v w goes x false refl only_pops came popped).3)
 
-  -- it pops a value, and answers nothing
+  -- `receive` pops a value, and answers nothing
   pub receive_drops_a_value : (x : T) → OnlyPops v → CameUpTo false (popped_by v) → PopDone (Value (elements.Value x)) v w
       → values_in (popped_by w) ≡ values_in (popped_by v) ++ [] → ⊥
   receive_drops_a_value x only_pops came popped says =
       one_more (values_in (popped_by v)) x
       (sym (append-nil (values_in (popped_by v))) ∙ (sym says ∙ (receives_value v w goes x false refl only_pops came popped).2))
 
-  -- it pops the end, and answers nothing
+  -- `receive` pops the end, and answers nothing
   pub receive_drops_the_end : OnlyPops v → CameUpTo false (popped_by v) → PopDone (Value elements.End) v w
       → has_end (popped_by w) ≡ false → ⊥
   receive_drops_the_end only_pops came popped says = true≢false (sym (receives_end v w goes false refl only_pops came popped).3 ∙ says)
@@ -103,21 +103,21 @@ module _ {T : Type 0} (v w : View (Element T)) (goes : Goes v w) where
 -- ---- `next` of `Values`
 
 module _ {T R : Type 0} {words : Ghosts (Element T)} (s t : Values T R words) where
-  -- it gives a value that did not come
+  -- `next` gives a value that did not come
   pub next_gives_what_did_not_come : (x : T) → GivesNext s (Some x) t → given_so_far t ≡ given_so_far s → ⊥
   next_gives_what_did_not_come x next none = one_more (given_so_far s) x (sym none ∙ next.1)
 
-  -- it gives another value
+  -- `next` gives another value
   pub next_gives_another : (x y : T) → y ≢ x → GivesNext s (Some x) t → given_so_far t ≡ given_so_far s ++ y ∷ [] → ⊥
   next_gives_another x y other next came =
       other (ap (head y) (append_cancel_left (given_so_far s) (y ∷ []) (x ∷ []) (sym came ∙ next.1)))
 
-  -- it drops a value, and gives the one after it
+  -- `next` drops a value, and gives the one after it
   pub next_drops_a_value : (x y : T) → GivesNext s (Some x) t → given_so_far t ≡ given_so_far s ++ y ∷ x ∷ [] → ⊥
   next_drops_a_value x y next came =
       absurd (omega (arith, ap length (sym came ∙ next.1), length-append (given_so_far s) (y ∷ x ∷ []), length-append (given_so_far s) (x ∷ [])))
 
-  -- it ends before the end came
+  -- `next` ends before the end came
   pub next_ends_early : GivesNext s None t → has_given_all t ≡ false → ⊥
   next_ends_early next more = true≢false (sym next.1.1 ∙ more)
 
@@ -129,7 +129,7 @@ module _ {T : Type 0} (v w : View T) where
     pub send_within_pushes_without_a_try : WasPushedWithin 0 capacity item v w → ⊥
     send_within_pushes_without_a_try was_pushed_within = (absurd (omega (arith, was_pushed_within.few)))
 
-    -- it was refused before, though one try is allowed: that push is the first
+    -- with one try allowed, the push that was taken is the first one
     pub one_try_is_the_first : WasPushedWithin 1 capacity item v w → PushDone item v w
     one_try_is_the_first was_pushed_within =
         let few = was_pushed_within.few in
@@ -138,7 +138,7 @@ module _ {T : Type 0} (v w : View T) where
         (subst (λ n. WereRefused n capacity item v was_pushed_within.last) none was_pushed_within.before)
         was_pushed_within.pushed
 
-    -- it goes on after a refusal, though one try is allowed
+    -- with one try allowed, only one push was refused
     pub one_try_is_refused_once : WereRefused 1 capacity item v w → PushRefused capacity item v w
     one_try_is_refused_once were_refused = subst (λ u. PushRefused capacity item u w) were_refused.1 were_refused.2
 
@@ -150,7 +150,7 @@ module _ {T : Type 0} (v w : View T) where
   pub receive_within_pops_without_a_try : (item : Item T) → WasPoppedWithin 0 item v w → ⊥
   receive_within_pops_without_a_try item was_popped_within = (absurd (omega (arith, was_popped_within.few)))
 
-  -- it found the queue empty before, though one try is allowed: that pop is the first
+  -- with one try allowed, the pop that took the item is the first one
   pub one_try_pops_first : (item : Item T) → WasPoppedWithin 1 item v w → PopDone item v w
   one_try_pops_first item was_popped_within =
       let few = was_popped_within.few in
@@ -158,7 +158,7 @@ module _ {T : Type 0} (v w : View T) where
       subst (λ u. PopDone item u w) (subst (λ n. WereEmpty n v was_popped_within.last) none was_popped_within.before) was_popped_within.popped
 
 module _ {T : Type 0} (v w : View T) where
-  -- it pops once where two tries are allowed
+  -- `receive_within` pops once where two tries are allowed
   pub receive_within_gives_up_early : WereEmpty 2 v w → length w.made ≡ length v.made + 3 → ⊥
   receive_within_gives_up_early were_empty once =
       absurd (omega (
@@ -168,7 +168,7 @@ module _ {T : Type 0} (v w : View T) where
         ap (λ (u : View T). length u.made) were_empty.1.1,
       ))
 
-  -- it pops twice where one is
+  -- `receive_within` pops twice where one try is allowed
   pub receive_within_pops_on : WereEmpty 1 v w → length w.made ≡ length v.made + 6 → ⊥
   receive_within_pops_on were_empty twice =
       absurd (omega (arith, finds_nothing were_empty.0 w were_empty.2, ap (λ (u : View T). length u.made) were_empty.1))
@@ -205,7 +205,7 @@ module _ {E T : Type 0} {kind : kinds.Ghosts E} {words : Ghosts T} (named : T �
     push_waiting_pushes_another item other s came =
         other (ap (head item) (append_cancel_left (published (producer_view first).seen) (item ∷ []) (named x ∷ []) (sym came ∙ s.list)))
 
-    -- it pushes the value twice
+    -- `push_waiting` pushes the value twice
     pub push_waiting_pushes_twice : Sending named first (x ∷ []) now
         → published (producer_view now).seen ≡ published (producer_view first).seen ++ named x ∷ named x ∷ [] → ⊥
     push_waiting_pushes_twice s came =
@@ -249,7 +249,7 @@ module _ {T : Type 0} (item : Item T) (v w : View T) where
   pub pop_overflowing_within_takes_without_a_try : WasTakenWithin 0 item v w → ⊥
   pop_overflowing_within_takes_without_a_try was_taken_within = (absurd (omega (arith, was_taken_within.few)))
 
-  -- it gives a number where the queue has no capacity, or looks there
+  -- `pop_overflowing_within` gives a number where the queue has no capacity
   pub pop_overflowing_within_gives_one_without_capacity : (capacity x : ℕ) → capacity ≡ 0 → (capacity ≡ 0 → Some x ≡ None) → ⊥
   pop_overflowing_within_gives_one_without_capacity capacity x none says = true≢false (ap is_some (says none))
 
@@ -278,7 +278,7 @@ module _ {T : Type 0} (old taken new : View T) where
 
 -- ---- `receive_all`
 
--- it drops a value that came
+-- `receive_all` drops a value that came
 pub receive_all_drops_a_value : {A : Type 0} (xs ys : List A) (x : A) → GainAlike xs (xs ++ x ∷ []) ys ys → ⊥
 receive_all_drops_a_value xs ys x gain_alike =
     absurd (omega (
@@ -290,7 +290,7 @@ receive_all_drops_a_value xs ys x gain_alike =
       length-append ys gain_alike.0,
     ))
 
--- it puts another value into the vector
+-- `receive_all` puts another value into the vector
 pub receive_all_puts_another : {A : Type 0} (xs ys : List A) (x y : A) → y ≢ x → GainAlike xs (xs ++ x ∷ []) ys (ys ++ y ∷ []) → ⊥
 receive_all_puts_another xs ys x y other gain_alike =
     let came = append_cancel_left xs (x ∷ []) gain_alike.0 gain_alike.1 in
@@ -299,15 +299,15 @@ receive_all_puts_another xs ys x y other gain_alike =
 
 -- ---- `receive_each`, with a worker that notes what it takes
 
--- it does not hand a value on
+-- `receive_each` does not hand a value on
 pub receive_each_drops_a_value : {A : Type 0} (xs : List A) (x : A) → (xs ≡ xs → xs ≡ xs ++ x ∷ []) → ⊥
 receive_each_drops_a_value xs x taken = one_more xs x (taken refl)
 
--- it hands another value on
+-- `receive_each` hands another value on
 pub receive_each_hands_another : {A : Type 0} (xs : List A) (x y : A) → y ≢ x → (xs ≡ xs → xs ++ y ∷ [] ≡ xs ++ x ∷ []) → ⊥
 receive_each_hands_another xs x y other taken = other (ap (head y) (append_cancel_left xs (y ∷ []) (x ∷ []) (taken refl)))
 
--- it hands a later value on first
+-- `receive_each` hands a later value on first
 pub receive_each_hands_a_later_one_first : {A : Type 0} (xs : List A) (x y : A) → y ≢ x
     → (xs ≡ xs → xs ++ y ∷ x ∷ [] ≡ xs ++ x ∷ y ∷ []) → ⊥
 receive_each_hands_a_later_one_first xs x y other taken =
@@ -326,19 +326,19 @@ seven = Value (elements.Value 7)
 differ : (xs : List ℕ) → [] ≡ xs → 7 ∷ [] ≡ xs → ⊥
 differ xs none one = (absurd (omega (arith, ap length (none ∙ sym one))))
 
--- one list for whatever was pushed
+-- no one list is what was sent, whatever the pass pushed
 pub join_knows_what_was_sent : (xs : List ℕ) → ((v : View (Element ℕ)) → OnlyPushes v → values_in (pushed_by v) ≡ xs) → ⊥
 join_knows_what_was_sent xs same =
     differ xs (same (half_with []) ((refl, refl), omega arith, refl))
     (same (half_with (Published 0 seven ∷ [])) ((refl, refl), omega arith, refl))
 
--- one for whatever was popped
+-- no one list is what was received, whatever the pass popped
 pub join_knows_what_was_received : (xs : List ℕ) → ((v : View (Element ℕ)) → OnlyPops v → values_in (popped_by v) ≡ xs) → ⊥
 join_knows_what_was_received xs same =
     differ xs (same (half_with []) ((refl, refl), omega arith, refl))
     (same (half_with (HandedOut 0 seven ∷ [])) ((refl, refl), omega arith, refl))
 
--- one answer for whether the end was sent
+-- no one answer says whether the end was sent, whatever the pass pushed
 pub join_knows_whether_it_ended : (b : Bool) → ((v : View (Element ℕ)) → OnlyPushes v → has_end (pushed_by v) ≡ b) → ⊥
 join_knows_whether_it_ended b same =
     true≢false (same (half_with (Published 0 (Value elements.End) ∷ [])) ((refl, refl), omega arith, refl)

@@ -1,4 +1,5 @@
--- What clauses see of the ends of a stream.
+-- What clauses see of the ends of a stream: which values a sender has sent and a receiver has received, and
+-- whether the end was sent or has come.
 use Rattle.std.specs.Prelude.{◌≡◌, ℕ, Bool, true, false, Option, Some, None, List, [], ◌∷◌, ◌++◌}
 use Rattle.history.specs.declared.view.View.{View}
 use Rattle.lock_free_queues.specs.Queues.Rings.{QueueId, producer_queue, consumer_queue, queue_of, producer_view, consumer_view, view}
@@ -14,7 +15,7 @@ use Rattle.uses_streams.specs.declared.ends.Received.{Received}
 use Rattle.uses_streams.specs.Streams.{values_in, has_end, ends_once, pushed_by, popped_by}
 
 module _ {T : Type 0} where
-  -- what a pop has found
+  -- what the receiver finds by a pop: nothing, a value or the end
   abbrev pub arrival_of : Option (Element T) → Arrival T
   arrival_of None = arrivals.Nothing
   arrival_of (Some (elements.Value x)) = arrivals.Value x
@@ -30,12 +31,12 @@ module _ {T : Type 0} where
   is_end arrivals.End = true
   is_end arrival = false
 
-  -- this holds where nothing came
+  -- `P` holds if nothing came
   abbrev pub IfNothing : Arrival T → Type 0 → Type 0
   IfNothing arrivals.Nothing P = P
   IfNothing arrival P = Unit {0}
 
-  -- this holds of the value, where one came
+  -- `P` holds of the value, if one came
   abbrev pub IfValue : Arrival T → (T → Type 0) → Type 0
   IfValue (arrivals.Value x) P = P x
   IfValue arrival P = Unit {0}

@@ -1,4 +1,5 @@
--- What a stream carried, by what a pass of its queue knows.
+-- What a stream carried, by what a pass of its queue knows: the values before the end, and which elements the
+-- pass itself pushed or popped.
 use Rattle.std.specs.Prelude.{◌≡◌, ◌-◌, ◌≤◌, ℕ, Bool, true, false, not, List, [], ◌∷◌, length, drop, sum_by}
 use Rattle.model.specs.declared.event.Item.{Item}
 use Rattle.model.specs.declared.event.Item.TheVariants.{Value}
@@ -8,7 +9,7 @@ use Rattle.lock_free_queues.specs.Queues.Sums.{puts, gets}
 use Rattle.uses_streams.specs.declared.element.Element.{Element}
 use Rattle.uses_streams.specs.declared.element.Element.TheVariants as elements
 
--- the last so many
+-- the last n elements of the list
 abbrev pub last_ones : {A : Type 0} → ℕ → List A → List A
 last_ones n xs = drop (length xs - n) xs
 
@@ -60,6 +61,6 @@ module _ {T : Type 0} where
   abbrev pub OnlyPops : View (Element T) → Type 0
   OnlyPops v = HasHalf v × (sum_by gets v.made ≤ length (handed_out v.seen)) × (sum_by puts v.made ≡ 0)
 
-  -- just values came, or the end came after values alone
+  -- if `ended`, the end came after values alone; else only values came
   abbrev pub CameUpTo : Bool → List (Item (Element T)) → Type 0
   CameUpTo ended items = (has_values items ≡ not ended) × (has_end items ≡ ended)

@@ -1,4 +1,4 @@
-//! What a stream's queue holds.
+//! An element of a stream's queue: a value or the end, and how it is coded as words.
 ghost use Rattle.std.specs.Prelude.{◌≤◌};
 
 use steps::words::Words;
@@ -39,7 +39,7 @@ pub enum Element<T> {
     End,
 }
 
-/// A word that is 1 for a value and 0 for the end, and then the words of the value.
+/// The words of an element: one that is 1 for a value and 0 for the end, and then the words of the value.
 impl<T: Short> Words for Element<T> {
     ghost use Rattle.std.specs.Prelude.{ℕ, ◌+◌};
     ghost use Rattle.std.proofs.Common.{arith};

@@ -29,7 +29,7 @@ where
     ghost unended: { has_values (pushed_by (producer_view producer)) ≡ true },
 }
 
-/// What a sender leaves: a pass of the queue.
+/// What a sender that has ended leaves: its pass of the queue, for `Sent::join`.
 pub struct Sent<T: Copy>
 where
     Element<T>: Words,
@@ -49,7 +49,7 @@ where
     ghost came: { CameUpTo ended (popped_by (consumer_view consumer)) },
 }
 
-/// What a receiver leaves: a pass of the queue.
+/// What a receiver that has ended leaves: its pass of the queue, for `Sent::join`.
 pub struct Received<T: Copy>
 where
     Element<T>: Words,
@@ -58,7 +58,7 @@ where
     ghost alone: { OnlyPops (view pass) },
 }
 
-/// What a receiver finds.
+/// What a receiver finds: the next value, the end, or nothing yet.
 #[derive(Debug, Clone, Copy, PartialEq, Eq)]
 pub enum Arrival<T> {
     /// The next value.

@@ -1,5 +1,6 @@
-//! A stream between two threads: a queue of values whose end is in the same history as the values. So a receiver to which the end
-//! came has received all that was sent. And calls of a plain queue's ends that wait, try so often, or push or pop many values.
+//! A stream between two threads: a queue of values whose end is in the same history as the values. So a
+//! receiver to which the end came has received all that was sent. The crate also has calls of a plain queue's
+//! ends that wait, that try up to a limit, or that push or pop many values.
 #![tactic(auto)]
 
 pub mod element;

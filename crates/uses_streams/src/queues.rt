@@ -1,5 +1,6 @@
-//! Calls of a queue's ends that push or pop many values, that wait, or that try so many times: for the queue of numbers and that of
-//! values, which refuse a push where they are full. Two of them are for the consumer of an overflowing queue.
+//! Calls of a queue's ends that push or pop many values, that wait, or that try up to a limit. They are for
+//! the queue of numbers and the queue of values, which refuse a push when they are full. Two calls are for
+//! the consumer of an overflowing queue.
 ghost use Rattle.std.specs.Prelude.{◌≡◌, ℕ, IsTrue, IsFalse, IfSome, IfNone};
 ghost use Rattle.model.specs.declared.event.Item.{Item};
 ghost use Rattle.history.specs.Steps.{TakesAtMost};
@@ -18,7 +19,7 @@ pub use overflowing::{pop_overflowing_waiting, pop_overflowing_within};
 pub use pops::{pop_all, pop_waiting, pop_within};
 pub use pushes::{push_all, push_waiting, push_within};
 
-/// A kind of queue that refuses a push where it is full: how it is pushed to and popped from.
+/// A kind of queue that refuses a push when it is full, with its push and its pop.
 pub trait BoundedKind<T: Words>: Kind + Sized {
     /// What a value is in the queue's history.
     ghost named: { T → Item T };

@@ -6,6 +6,7 @@ use std::io;
 use thiserror::Error;
 use zero_copy_bus::error::{BusError, LoanFailure};
 
+/// Why a run of the topics ends before its end.
 #[derive(Debug, Drop, Error)]
 pub enum RunError {
     #[error("no bus: {0}")]

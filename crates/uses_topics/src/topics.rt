@@ -16,7 +16,7 @@ const RECORDS: u64 = 1000;
 
 const WORDS: usize = 64;
 
-/// A queue is as long as the slots are many, so that nobody loses one.
+/// A queue has as much room as there are slots, so that nobody loses a record.
 const SIZES: Sizes = Sizes {
     slots: 16,
     subscribers: 1,
@@ -209,7 +209,7 @@ fn tell(
     Ok(())
 }
 
-/// The same of a publisher of each topic.
+/// Has both publishers publish in two threads while a third thread reads both topics, and prints what came.
 fn talk_and_tell<R: Threads + Wait + Print + Sync>(
     rt: &R,
     alloc: Global,

@@ -12,6 +12,7 @@ use zero_copy_bus::publisher::Publisher;
 use zero_copy_bus::subscriber::{Sample, Subscriber};
 use zero_copy_slots::Keeps;
 
+/// The bus of the walk: 4 slots, at most 2 subscribers, and a queue of 2 for each.
 const SIZES: Sizes = Sizes {
     slots: 4,
     subscribers: 2,

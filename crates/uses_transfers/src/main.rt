@@ -77,6 +77,7 @@ fn transfer<R: Threads + Wait + Sync>(rt: &R, alloc: Global, numbers: &[u64]) ->
     Some(came)
 }
 
+/// Sends twelve numbers, and prints those that came.
 fn main(rt: HostRuntime) -> io::Result<ExitCode> {
     let numbers = [3, 1, 4, 1, 5, 9, 2, 6, 5, 3, 5, 8];
     let Some(came) = transfer(&rt, rt.alloc(), &numbers) else {

@@ -52,7 +52,7 @@ pub fn begin_both<'a>(
     both_ends(queue, pass)
 }
 
-/// A number is pushed by the last of so many tries, or by none.
+/// A number is pushed by the last of at most `tries` tries, or each of `tries` tries was refused.
 pub fn send_within(sender: &mut Sender<'_, u64>, number: u64, tries: u64) -> bool
     ensures queue { sender_queue sender.new ≡ sender_queue sender.old }
     ensures sent { IsTrue result → sent_so_far sender.new ≡ sent_so_far sender.old ++ number ∷ [] }
@@ -82,7 +82,8 @@ pub fn finish<'a>(sender: Sender<'a, u64>) -> Result<Sent<u64>, Sender<'a, u64>>
     sender.finish()
 }
 
-/// The same with so many tries.
+/// The end is sent once and after all numbers, by the last of at most `tries` tries, or each
+/// of them was refused.
 pub fn finish_within<'a>(sender: Sender<'a, u64>, tries: u64) -> Result<Sent<u64>, Sender<'a, u64>>
     ensures queue { IfOk result (λ s. sent_queue s ≡ sender_queue sender.entry) }
     ensures sent { IfOk result (λ s. sent s ≡ sent_so_far sender.entry) }
@@ -131,7 +132,8 @@ pub fn receive(receiver: &mut Receiver<'_, u64>) -> Arrival<u64>
     receiver.receive()
 }
 
-/// What comes was popped by the last of so many tries, or each found the queue empty.
+/// What comes was popped by the last of at most `tries` tries, or each of `tries` tries
+/// found the queue empty.
 pub fn receive_within(receiver: &mut Receiver<'_, u64>, tries: u64) -> Arrival<u64>
     ensures queue { receiver_queue receiver.new ≡ receiver_queue receiver.old }
     ensures received { received_so_far receiver.new ≡ received_so_far receiver.old ++ arrived result }

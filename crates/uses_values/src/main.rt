@@ -24,7 +24,7 @@ const WORDS: usize = 8192;
 /// How many numbers have a mark here.
 const NUMBERS: u64 = 1 << 60;
 
-/// How often a thread lets the other one run before it gives up.
+/// How many times a thread tries, and lets the other one run, before it gives up.
 const TRIES: u64 = 1 << 26;
 
 /// The rule that a block is full of the mark of its number.
@@ -36,7 +36,8 @@ impl Keeps<Vec<u64>> for Marked {
     ghost holds = { λ number block. IsBlockOf number block.items };
 }
 
-/// Who fills blocks with the marks of their numbers, and reads the marks.
+/// The writer and reader of this program: it fills blocks with the marks of their numbers,
+/// and reads the marks.
 #[derive(Drop)]
 struct Marks;
 
@@ -63,7 +64,7 @@ impl Reads<Vec<u64>, Marked, u64> for Marks {
     }
 }
 
-/// So many blocks to write.
+/// Makes `number` blocks to write, each of 64 KiB.
 fn blocks(alloc: Global, number: usize) -> Option<Vec<Vec<u64>>> {
     let mut blocks = Vec::new(alloc);
     for _ in 0..number {
@@ -93,8 +94,8 @@ fn run<R: Threads + Wait + Sync>(
     Some((back?, marks?))
 }
 
-/// Sends the blocks of the first numbers from one thread to another, which reads so many of them: their marks, and the numbers of
-/// those that came back.
+/// Sends blocks with the first numbers from one thread to another, which reads a number of them. Returns
+/// their marks, and the numbers of the blocks that came back.
 fn relay<R: Threads + Wait + Sync>(
     rt: &R,
     alloc: Global,
@@ -116,6 +117,7 @@ fn relay<R: Threads + Wait + Sync>(
     Some((marks, back))
 }
 
+/// Sends twelve blocks to a reader of ten, and prints the marks that were read.
 fn main(rt: HostRuntime) -> io::Result<ExitCode> {
     let Some((marks, _)) = relay(&rt, rt.alloc(), 12, 10) else {
         eprintln!(rt; "no memory, or no place")?;

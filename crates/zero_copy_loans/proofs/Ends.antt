@@ -36,7 +36,7 @@ use Rattle.zero_copy_loans.proofs.Numbers.{sends_all, sends_back, sends_one, sen
 use Rattle.zero_copy_loans.proofs.Relayed.{are_passed_on, passed_on, range_then, relays}
 use Rattle.zero_copy_slots.specs.declared.Keeps.{Ghosts}
 
--- one more is told, and in the end all
+-- a reader that told of each number, and then of one more, has told of all
 told_then : {A : Type 0} (tells : ℕ → A → Type 0) (ns : List ℕ) (told : List A) (n : ℕ) (one : A) → AreTold tells ns told → tells n one
     → AreTold tells (ns ++ n ∷ []) (told ++ one ∷ [])
 told_then tells [] [] n one all is = (is, tt)
@@ -44,6 +44,7 @@ told_then tells [] (a ∷ told) n one all is = absurd all
 told_then tells (m ∷ ns) [] n one all is = absurd all
 told_then tells (m ∷ ns) (a ∷ told) n one all is = (all.0, told_then tells ns told n one all.1 is)
 
+-- If of each number its value of `f` is told, what is told is the list of those values.
 told_by : {A : Type 0} (f : ℕ → A) (ns : List ℕ) (told : List A) → AreTold (λ n a. a ≡ f n) ns told → told ≡ map f ns
 told_by f [] [] all = refl
 told_by f [] (a ∷ told) all = absurd all
@@ -139,7 +140,7 @@ module _ {X K : Type 0} {rule : Ghosts K X} where
   sends_next n xs ys s t u w first_sent keeps second_sent =
       sent_then n 1 xs ys s t w first_sent (sent_then 0 1 [] ys t u w (sent_nothing t u keeps) second_sent)
 
-  -- the same, where what came back is noted
+  -- after calls that send nothing, a value more is sent, and what came back is appended to a list
   pub sent_next : (n : ℕ) (xs ys zs : List ℕ) (s t u w : Sender X K rule) → zs ≡ xs ++ ys → HasSent n xs s t → KeepsSends t u
       → HasSent 1 ys u w → HasSent (n + 1) zs s w
   sent_next n xs ys zs s t u w is first_sent keeps second_sent =
@@ -160,7 +161,7 @@ module _ {X K : Type 0} {rule : Ghosts K X} where
             (has_sent_all.sends (subst (λ (q : QueueId). 0 < q.capacity) (sym has_sent.same.1) some)))));
       }
 
-  -- its role was taken, and given back
+  -- a sender that has only acquired its role has sent nothing (`HasBegun`)
   pub begins : (s : Sender X K rule) (p : SenderParts) (w : View ℕ) → IsOfSender s p → next_of s ≡ p.next → sends_view s ≡ w
       → Goes (sent_view p) w → HasAcquired roles.Producer true (sent_view p) w → HasBegun p s
   begins s p w of next is goes acquired =
@@ -228,6 +229,8 @@ module _ {X K : Type 0} {rule : Ghosts K X} where
             λ some. subst (λ a. ReceivesOn (receives_shape old) (numbers_of a) (receives_view old) (receives_view new)) (sym is) (none h some);
       }
     where
+      -- Where nothing was received the queue gave no number: it was empty, has no room at all, or
+      -- gave a word of no place.
       none : ReceivedNone old new → 0 < (receives_queue old).capacity → ReceivesOn (receives_shape old) [] (receives_view old) (receives_view new)
       none (inl p) some = receives_nothing (receives_shape old) (receives_view old) (receives_view new) (goes some) p.0
       none (inr (inl p)) some = receives_still (receives_shape old) (receives_view old) (receives_view new) p.1
@@ -270,7 +273,7 @@ module _ {X K : Type 0} {rule : Ghosts K X} where
             (has_received_all.receives (subst (λ (q : QueueId). 0 < q.capacity) (sym has_received.same.0) some))));
       }
 
-  -- what was told of what was received: nothing yet, then of one more, and in the end of all
+  -- nothing was received, and nothing was told
   pub none_read : {A : Type 0} (tells : ℕ → A → Type 0) (told : List A) (r : Receiver X K rule) → told ≡ [] → HasRead tells told r r
   none_read tells told r none =
       record {
@@ -290,12 +293,13 @@ module _ {X K : Type 0} {rule : Ghosts K X} where
         received = receives_next read.numbers (number ∷ []) s t u w read.received has_received keeps;
       }
 
+  -- A receiver that gives its role back after reads has told of what they received.
   pub read_all : {A : Type 0} (tells : ℕ → A → Type 0) (told : List A) (s t : Receiver X K rule) (p : ReceiverParts) → HasRead tells told s t
       → HasReceivedAll [] t p → HasReadAll tells told s p
   read_all tells told s t p read has_received_all =
       record { numbers = read.numbers; of_each = read.of_each; received = received_all read.numbers s t p read.received has_received_all }
 
-  -- its role was taken, and given back
+  -- a receiver that has only acquired its role has received nothing (`HasWaited`)
   pub waits : (r : Receiver X K rule) (p : ReceiverParts) (w : View ℕ) → IsOfReceiver r p → receives_view r ≡ w
       → Goes (received_view p) w → HasAcquired roles.Consumer true (received_view p) w → HasWaited p r
   waits r p w of is goes acquired =
@@ -342,6 +346,7 @@ module _ {X K : Type 0} {rule : Ghosts K X} where
         → HasRejoined left last sends' receives' → IsSameChannel left last
         → HasPassedOn (sent ++ range_with_len (next_in first) count) (back ++ others) (received ++ came) last
     relayed known opened same begun waited shapes some fits all_sent all_received rejoined kept =
+        -- the channel and both ends have one shape
         let shape : shape_of last ≡ shape_of first =
         (λ i. record {
           room = ((kept.3 ∙ same.3) i).room;
@@ -353,6 +358,7 @@ module _ {X K : Type 0} {rule : Ghosts K X} where
         let theirs : receives_shape r ≡ shape_of first = shapes.1 ∙ before in
         let room : 0 < (shape_of first).capacity = some in
         let first_number : next_of s ≡ next_in first = begun.next ∙ opened.next in
+        -- what the sender sent, and what the receiver received, in the channel's shape
         let sends_on : SendsOn (shape_of first) (range_with_len (next_in first) count) others (sends_view s) (sent_view sends') =
         subst (λ n. SendsOn (shape_of first) (range_with_len n count) others (sends_view s) (sent_view sends')) first_number
         (subst (λ shape. SendsOn shape (range_with_len (next_of s) count) others (sends_view s) (sent_view sends')) ours
@@ -360,6 +366,7 @@ module _ {X K : Type 0} {rule : Ghosts K X} where
         let receives_on : ReceivesOn (shape_of first) came (receives_view r) (received_view receives') =
         subst (λ shape. ReceivesOn shape came (receives_view r) (received_view receives')) theirs
         (all_received.receives (subst (λ (shape : Shape). 0 < shape.capacity) (sym theirs) room)) in
+        -- the law of two joined ends
         subst (λ shape. HasAll shape (sent ++ range_with_len (next_in first) count) (back ++ others) (received ++ came) (sending_view last)) (sym shape)
         (relays (shape_of first) (submission_in left).capacity sent back received (range_with_len (next_in first) count) others came
         (sending_view first) opened.half (sent_view sends) (sending_view left) (received_view receives) (sends_view s) (receives_view r)
@@ -387,7 +394,7 @@ module _ {X K : Type 0} {rule : Ghosts K X} where
       (subst (λ n. IsPassedOn (range_with_len n count) read.numbers others) none
       (passed_on (shape_of last) (range_with_len (next_in first) count) others read.numbers (sending_view last) known))
 
-  -- the same, of what both ends have done until they were taken apart
+  -- What `first_relayed` says, for ends that sent and read until they were taken apart.
   pub all_relayed : {A : Type 0} (f : ℕ → A) (made : List A) (others : List ℕ) (count : ℕ) (first left last : Channel X K rule)
       (sends sends' : SenderParts) (receives receives' : ReceiverParts) (s s' : Sender X K rule) (r r' : Receiver X K rule)
       → HasPassedOn [] [] [] first → next_in first ≡ 0 → HasOpened first left sends receives → IsSameChannel first left
@@ -400,7 +407,7 @@ module _ {X K : Type 0} {rule : Ghosts K X} where
       first_relayed f made others count first left last sends sends' receives receives' s r fresh none opened same begun waited shapes
       some fits (sent_all count others s s' sends' sent ended) (read_all (λ n a. a ≡ f n) made r r' receives' read over) rejoined kept
 
-  -- the same, of ends that each thread has made of its parts
+  -- What `first_relayed` says, for ends that each thread has made of its parts.
   pub relayed_through : {A : Type 0} (f : ℕ → A) (made : List A) (others : List ℕ) (count : ℕ) (first left last : Channel X K rule)
       (sends sends' : SenderParts) (receives receives' : ReceiverParts) → HasPassedOn [] [] [] first → next_in first ≡ 0
       → HasOpened first left sends receives → IsSameChannel first left → 0 < (submission_in first).capacity → count < 2 ^ 64 - 1

@@ -46,6 +46,7 @@ merges_none xs [] merges = merges.0
 merges_none xs (z ∷ zs) (inl h) = h.1 ∙ ap (λ ws. z ∷ ws) (merges_none h.0 zs h.2)
 merges_none xs (z ∷ zs) (inr h) = (let none : [] ≡ z ∷ h.0 = h.1 in absurd (cc))
 
+-- What holds of all of a list holds of its first `k`.
 all_taken : {A : Type 0} (P : A → Type 0) (k : ℕ) (xs : List A) → All P xs → All P (take k xs)
 all_taken P zero xs all = All-nil P
 all_taken P (suc k) [] all = All-nil P
@@ -93,7 +94,7 @@ module _ (n : ℕ) (words words_back words_received all back came : List ℕ) (w
   put_z : length (published z.seen) ≡ length words + length all
   put_z = omega (arith, counted.0, puts_all, none_put, pushed.added.done.puts_more)
 
-  -- what was published is that of before, and then all of it
+  -- what was published: the words known before, others' words, the sender's words, and what came later
   parted : published z.seen ≡ ((map Index words ++ pushed.added.others) ++ map Index all) ++ flat_map publishes since.rest
   parted =
       ap published since.is
@@ -101,7 +102,7 @@ module _ (n : ℕ) (words words_back words_received all back came : List ℕ) (w
       ∙ ap (λ xs. xs ++ flat_map publishes since.rest)
       (pushed.added.list ∙ ap (λ xs. (xs ++ pushed.added.others) ++ map Index all) (ap published left_seen ∙ known.list)))
 
-  -- what was published is as long as all that was sent, and what came behind
+  -- the number of words published, as a sum of what was sent before, by others, by this sender and later
   sizes : length (published z.seen) ≡ ((length words + length pushed.added.others) + length all) + length (flat_map publishes since.rest)
   sizes =
       let one = ap length parted in
@@ -125,7 +126,7 @@ module _ (n : ℕ) (words words_back words_received all back came : List ℕ) (w
       ∙ (ap (λ xs. (map Index words ++ xs) ++ map Index all) no_others
       ∙ (ap (λ xs. xs ++ map Index all) (append-nil (map Index words)) ∙ sym (map-append Index words all)))))
 
-  -- what was taken out is as much as was received and came back
+  -- as many words were taken out as were received and came back
   gets_all : length (handed_out z.seen) ≡ length (words_received ++ came) + length (words_back ++ back)
   gets_all =
       let size = counted.1 in

@@ -1,4 +1,5 @@
--- One call more of a sender and of a receiver, by numbers.
+-- What one more call of a sender or a receiver adds to the numbers that were sent and
+-- received (`SendsOn`, `ReceivesOn`).
 use Rattle.std.proofs.Common.{◌≡◌, ℕ, true, ◌+◌, ◌-◌, ◌/◌, ◌%◌, ◌<◌, ◌≤◌, List, [], ◌∷◌, ◌++◌, length, map, take, sym, refl, ap, subst, ◌∙◌, arith}
 use Rattle.std.proofs.Common.{append-nil, append_assoc}
 use Rattle.std.proofs.lemmas.List.{take_all}
@@ -52,7 +53,7 @@ module _ (s : Shape) where
   -- ---- sends
 
   module _ (c : ℕ) (some : 0 < c) (w u : View ℕ) (goes : Goes w u) (number place : ℕ) (lt : place < s.places) (within : place < s.room) where
-    -- a value more is sent, and nothing comes back
+    -- a push that was taken sends one number, and nothing comes back
     pub sends_one : PushAdded (word_of s.room number place) w u → SendsOn s (number ∷ []) [] w u
     sends_one p v sent back h =
         record {
@@ -64,7 +65,7 @@ module _ (s : Shape) where
           pushed = adds c some h.words h.words_back (word_of s.room number place) v w u h.pushed goes p;
         }
 
-    -- a value more is sent, and one comes back
+    -- a push that handed a word back sends one number, and the number of that word comes back
     pub sends_back : (other at : ℕ) → at < s.room → PushHandedBack c (word_of s.room number place) (word_of s.room other at) w u
         → SendsOn s (number ∷ []) (other ∷ []) w u
     sends_back other at below p v sent back h =
@@ -78,14 +79,14 @@ module _ (s : Shape) where
               returns_one c some h.words h.words_back (word_of s.room number place) v w u h.pushed goes (word_of s.room other at) p;
         }
 
-  -- nothing is sent: the views are the same
+  -- with the same view nothing was sent
   pub sends_still : (w u : View ℕ) → u ≡ w → SendsOn s [] [] w u
   sends_still w u is v sent back h =
       subst (λ t. HasSentNumbers s (sent ++ []) (back ++ []) v t) (sym is)
       (subst (λ xs. HasSentNumbers s xs (back ++ []) v w) (sym (append-nil sent))
       (subst (λ xs. HasSentNumbers s sent xs v w) (sym (append-nil back)) h))
 
-  -- the role is given back
+  -- a release of the role sends nothing
   pub sends_all : (role : Role) (w u : View ℕ) → Goes w u → HasReleased role w u → published u.seen ≡ published w.seen
       → SendsOn s [] [] w u
   sends_all role w u goes h is v sent back k =
@@ -101,6 +102,7 @@ module _ (s : Shape) where
             (subst (λ xs. HasPushedUpTo xs k.words_back v w) (sym all) k.pushed) goes h is;
       }
 
+  -- Sends one after the other send the numbers of both, and take back what both took back.
   pub sends_then : (xs ys zs ws : List ℕ) (w u t : View ℕ) → SendsOn s xs ys w u → SendsOn s zs ws u t → SendsOn s (xs ++ zs) (ys ++ ws) w t
   sends_then xs ys zs ws w u t first next v sent back h =
       subst (λ ns. HasSentNumbers s ns (back ++ (ys ++ ws)) v t) (append_assoc sent xs zs)
@@ -109,7 +111,7 @@ module _ (s : Shape) where
 
   -- ---- receives
 
-  -- a value more is received
+  -- a pop that took a word with a place receives its number
   pub receives_one : (w u : View ℕ) (number place : ℕ) → place < s.room → Goes w u
       → HasPopped (Some (Index (word_of s.room number place))) w u → ReceivesOn s (number ∷ []) w u
   receives_one w u number place within goes p v received h =
@@ -119,12 +121,13 @@ module _ (s : Shape) where
         taken = takes_one h.words (word_of s.room number place) v w u h.taken goes p;
       }
     where
+      -- If all numbers of two lists have places, those of the first do.
       earlier_ones : (xs ys : List ℕ) → HavePlaces s (xs ++ ys) → HavePlaces s xs
       earlier_ones [] ys all = All-nil (HasPlace s)
       earlier_ones (x ∷ xs) ys all =
           All-cons (HasPlace s) x xs (All-head (HasPlace s) x (xs ++ ys) all) (earlier_ones xs ys (All-tail (HasPlace s) x (xs ++ ys) all))
 
-  -- what came has no place, and is none that was sent
+  -- a pop that took a word without a place receives no number: it is no word that was sent
   pub receives_other : (w u : View ℕ) (word : ℕ) → s.places ≤ word % s.room → Goes w u
       → HasPopped (Some (Index word)) w u → ReceivesOn s [] w u
   receives_other w u word past goes p v received h =
@@ -138,7 +141,7 @@ module _ (s : Shape) where
       later_ones [] ys all = all
       later_ones (x ∷ xs) ys all = later_ones xs ys (All-tail (HasPlace s) x (xs ++ ys) all)
 
-  -- a pop found nothing
+  -- a pop that found nothing receives no number
   pub receives_nothing : (w u : View ℕ) → Goes w u → HasPopped None w u → ReceivesOn s [] w u
   receives_nothing w u goes p v received h =
       record {
@@ -147,6 +150,7 @@ module _ (s : Shape) where
         taken = takes_nothing h.words v w u h.taken goes p;
       }
 
+  -- From a view to the same view nothing was received.
   pub receives_still : (w u : View ℕ) → u ≡ w → ReceivesOn s [] w u
   receives_still w u is v received h =
       subst (λ t. HasReceivedNumbers s (received ++ []) v t) (sym is)

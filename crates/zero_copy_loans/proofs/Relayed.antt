@@ -92,6 +92,7 @@ module _ (s : Shape) (capacity : ℕ) (sent back received numbers others came : 
   abbrev read : ℕ → ℕ
   read word = word / s.room
 
+  -- There are as many words as numbers.
   long : length known.words + length pushed.words ≡ length sent + length numbers
   long =
       let x : length known.words ≡ length sent = sym (length_named read known.words) ∙ ap length known.numbers in
@@ -160,13 +161,13 @@ passed_on s sent back received v has_all =
 
 -- ---- numbers that follow one another
 
--- a beginning of them
+-- the first k numbers of a range are the shorter range
 take_range : (first n k : ℕ) → k ≤ n → take k (range_with_len first n) ≡ range_with_len first k
 take_range first n zero le = refl
 take_range first zero (suc k) le = absurd (omega arith)
 take_range first (suc n) (suc k) le = ap (λ xs. first ∷ xs) (take_range (first + 1) n k (omega arith))
 
--- the numbers of a later sender come behind those of the first
+-- the range of a later sender's numbers, appended to that of the first, is one range
 pub range_then : (first n m : ℕ) → range_with_len first n ++ range_with_len (first + n) m ≡ range_with_len first (n + m)
 range_then first zero m =
     ap (λ k. range_with_len k m) (let e : first + 0 ≡ first = omega arith in e) ∙ ap (range_with_len first) (let e : m ≡ 0 + m = omega arith in e)
@@ -176,7 +177,7 @@ range_then first (suc n) m =
     ap (λ xs. first ∷ xs) (ap (λ k. range_with_len (first + 1) n ++ range_with_len k m) start ∙ range_then (first + 1) n m)
     ∙ ap (range_with_len first) size
 
--- where nothing came back, the numbers that were received follow one another from the first one on
+-- if nothing came back, the numbers that were received are `first`, `first + 1` and so on
 pub first_received : (first n : ℕ) (received : List ℕ) → IsPassedOn (range_with_len first n) received []
     → received ≡ range_with_len first (length received)
 first_received first n received is_passed_on =
@@ -185,7 +186,7 @@ first_received first n received is_passed_on =
     ∙ (ap (λ k. take k (range_with_len first n)) (let e : length received + 0 ≡ length received = omega arith in e)
     ∙ take_range first n (length received) few)
 
--- what was made of them, where nothing came back
+-- what was made of the received numbers, as `ArePassedOn` says it
 pub are_passed_on : {A : Type 0} (f : ℕ → A) (sent : ℕ) (made : List A) (back received : List ℕ) → made ≡ map f received
     → IsPassedOn (range_with_len 0 sent) received back → ArePassedOn f sent made back
 are_passed_on f sent made back received of_each passed =

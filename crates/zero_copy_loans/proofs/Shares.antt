@@ -1,8 +1,9 @@
--- A share that was halved and joined again is as much as before.
+-- A share that was halved, and whose halves were joined, is the same fraction as before.
 use Rattle.std.proofs.Common.{◌≡◌, ◌*◌, sym, subst, arith}
 use Rattle.threaded.specs.declared.share.Share.{Share}
 use Rattle.threaded.specs.Shares.{half_of, both_of}
 
+-- The two shares are the same fraction.
 IsAsMuch : Share → Share → Type 0
 IsAsMuch t w = w.part * t.parts ≡ t.part * w.parts
 

@@ -19,17 +19,17 @@ use Rattle.zero_copy_slots.specs.Words.{emptied_number, emptied_slot}
 
 -- ---- the sender
 
--- another slot is left empty than that of the place, as slot 0
+-- `regain` empties another slot than the place's
 pub regain_empties_another_slot : (place other : ℕ) (e : Emptied) → other ≢ place → emptied_slot e ≡ other → emptied_slot e ≡ place → ⊥
 regain_empties_another_slot place other e differs is k = differs (sym is ∙ k)
 
 module _ {X K : Type 0} {rule : Ghosts K X} where
-  -- a loan of another channel is counted as sent
+  -- `send` uses a number up for a loan of another channel
   pub send_counts_a_foreign_loan : (place : ℕ) (back : Back) (old new : Sender X K rule) → next_of new ≡ next_of old + 1
       → IsForeign place back old new → ⊥
   send_counts_a_foreign_loan place back old new counted foreign = absurd (omega (arith, foreign.4, counted))
 
-  -- another place is said to come back
+  -- `send` answers that another place came back than that of the loan of another channel
   pub send_hands_another_place_back : (place : ℕ) (back : Back) (old new : Sender X K rule) → back.place ≢ place
       → IsForeign place back old new → ⊥
   send_hands_another_place_back place back old new differs foreign = differs foreign.2
@@ -37,7 +37,7 @@ module _ {X K : Type 0} {rule : Ghosts K X} where
 -- ---- the receiver
 
 module _ {X K : Type 0} where
-  -- what lies in another slot is read, or with another number
+  -- `read` reads what lies in another slot than the sample's
   pub read_takes_another_slot : (reading : Reading X K) (sample : Sample) (other : ℕ) → other ≢ received sample → slot_in reading ≡ other
       → (number_in reading ≡ number_of sample) × (slot_in reading ≡ received sample) → ⊥
   read_takes_another_slot reading sample other differs is k = differs (sym is ∙ k.1)
@@ -46,27 +46,27 @@ module _ {X K : Type 0} where
       → (number_in reading ≡ number_of sample) × (slot_in reading ≡ received sample) → ⊥
   read_takes_another_number reading sample differs k = differs k.0
 
--- the answer has something of each value that is read
+-- `read_each` tells nothing of a value that was read
 pub read_each_tells_too_little : {A : Type 0} (tells : ℕ → A → Type 0) (number : ℕ) (numbers : List ℕ) → AreTold tells (number ∷ numbers) [] → ⊥
 read_each_tells_too_little tells number numbers told = told
 
--- what is told holds with no such number
+-- `read_each` tells of a value what is not true of its number
 pub read_each_tells_of_another : {A : Type 0} (tells : ℕ → A → Type 0) (number : ℕ) (numbers : List ℕ) (one : A) (told : List A)
     → ¬ tells number one → AreTold tells (number ∷ numbers) (one ∷ told) → ⊥
 read_each_tells_of_another tells number numbers one told wrong are_told = wrong are_told.0
 
 -- ---- the pool
 
--- an acquire that waits ends where no place is free
+-- `acquire_waiting` ends by a refusal for want of a free place
 pub acquire_waiting_finds_no_place : HasPlaces (NoPlace OutOfIndices) → ⊥
 acquire_waiting_finds_no_place places = places
 
 module _ {X K : Type 0} {rule : Ghosts K X} where
-  -- the value comes out of another slot than that of the place
+  -- `acquire` takes the value out of another slot than the place's
   pub acquire_takes_another_slot : (b : Buffer X K rule) → emptied_slot b.came ≢ place_in b → IsTakenOut b → ⊥
   acquire_takes_another_slot b differs taken_out = differs taken_out.0
 
-  -- it is said to have another number than it lay there with
+  -- `acquire` returns the value with another number than it lay in the slot with
   pub acquire_tells_another_number : (b : Buffer X K rule) (value : X) (number : ℕ) → b.value ≡ Some value → emptied_number b.came ≡ Some number
       → number ≢ b.number → IsTakenOut b → ⊥
   acquire_tells_another_number b value number some was differs taken_out =
@@ -75,10 +75,10 @@ module _ {X K : Type 0} {rule : Ghosts K X} where
       let same : number ≡ b.number = cc in
       differs same
 
-  -- something is said to lie there, and there was no value
+  -- `give_back` answers that a value was laid down, and there was none
   pub give_back_lays_nothing : (b : Buffer X K rule) (laid : Laid) → b.value ≡ None → IsGivenBack b (Some laid) → ⊥
   give_back_lays_nothing b laid none given_back = true≢false (sym given_back.0 ∙ ap is_some none)
 
-  -- the value is laid into another slot
+  -- `give_back` lays the value into another slot
   pub give_back_lays_elsewhere : (b : Buffer X K rule) (laid : Laid) → laid_slot laid ≢ place_in b → IsGivenBack b (Some laid) → ⊥
   give_back_lays_elsewhere b laid differs given_back = differs given_back.1

@@ -70,11 +70,12 @@ module _ {X K : Type 0} {rule : Ghosts K X} where
   abbrev pub steps_in : Channel X K rule → ℕ
   steps_in c = (set_view c).asked + (sending_view c).asked + (returning_view c).asked
 
-  -- it knows that values of these numbers were sent, came back and were received, and no others
+  -- the channel's pass of its submission queue knows that values of exactly these numbers were sent, came
+  -- back and were received
   abbrev pub HasPassedOn : List ℕ → List ℕ → List ℕ → Channel X K rule → Type 0
   HasPassedOn sent back received c = HasAll (shape_of c) sent back received (sending_view c)
 
-  -- the parts are passes of its set and its queues
+  -- a sender's parts are passes of this channel's set and queues
   abbrev pub IsSenderOf : Channel X K rule → SenderParts → Type 0
   IsSenderOf c parts =
       IsPassOf (set_in c) parts.pass × (sent_queue parts ≡ submission_in c) × (queue_of parts.completion ≡ completion_in c)
@@ -83,7 +84,7 @@ module _ {X K : Type 0} {rule : Ghosts K X} where
   abbrev pub IsReceiverOf : Channel X K rule → ReceiverParts → Type 0
   IsReceiverOf c parts = (received_queue parts ≡ submission_in c) × (queue_of parts.completion ≡ completion_in c)
 
-  -- its parts stay
+  -- the set, both queues and the layout are the same
   abbrev pub IsSameChannel : Channel X K rule → Channel X K rule → Type 0
   IsSameChannel old new =
       (set_in new ≡ set_in old) × (submission_in new ≡ submission_in old) × (completion_in new ≡ completion_in old)
@@ -91,30 +92,39 @@ module _ {X K : Type 0} {rule : Ghosts K X} where
 
   -- Passes were split off for both ends, one after the other: of the set, and two of each queue.
   pub record HasOpened (old new : Channel X K rule) (sends : SenderParts) (receives : ReceiverParts) : Type 0 where
+    -- of the set's pass one was split off for the sender
     pub set : HasSplit (set_view old) (set_view new) (sets.view sends.pass)
+    -- of the submission queue's pass one was split off for the sender, and then one for the receiver
     pub half : View ℕ
     pub cut : HasSplit (sending_view old) half (sent_view sends)
     pub again : HasSplit half (sending_view new) (received_view receives)
+    -- of the completion queue's pass one was split off for the sender, and then one for the receiver
     pub other_half : View ℕ
     pub takes : HasSplit (returning_view old) other_half (taken_view sends)
     pub returns : HasSplit other_half (returning_view new) (returned_view receives)
+    -- the sender's numbers go on from the channel's
     pub next : sends.next ≡ next_in old
 
   -- The passes of both were taken in again, that of the set and those of both queues: with the whole share it knows all
   -- that they sent and received, and that nothing else was.
   pub record HasRejoined (old new : Channel X K rule) (sends : SenderParts) (receives : ReceiverParts) : Type 0 where
+    -- the sender's pass of the set was joined into the channel's
     pub set : HasJoined (set_view old) (sets.view sends.pass) (set_view new)
+    -- both ends' passes of the submission queue were joined into the channel's
     pub half : View ℕ
     pub taken_in : HasJoined (sending_view old) (sent_view sends) half
     pub both : HasJoined half (received_view receives) (sending_view new)
+    -- both ends' passes of the completion queue were joined into the channel's
     pub other_half : View ℕ
     pub took : HasJoined (returning_view old) (taken_view sends) other_half
     pub returned : HasJoined other_half (returned_view receives) (returning_view new)
+    -- the channel's pass has a history of the queue's kind, and with the whole share it misses nothing
     pub history : HasHistory (submission_in old).capacity (sending_view new)
     pub all : MissesNothing (sending_view new)
     pub next : next_in new ≡ sends.next
 
-  -- A sender of these parts sent so many values, those came back, and those parts are left.
+  -- A sender made of the parts `sends` sent `count` values, of which those with the numbers `back` came back,
+  -- and was taken apart into the parts `left`.
   pub record HasSentThrough (c : Channel X K rule) (sends : SenderParts) (count : ℕ) (back : List ℕ) (left : SenderParts) : Type 0 where
     pub of : IsSenderOf c left
     pub sender : Sender X K rule
@@ -122,7 +132,8 @@ module _ {X K : Type 0} {rule : Ghosts K X} where
     pub shape : sends_shape sender ≡ shape_of c
     pub sent : HasSentAll count back sender left
 
-  -- A receiver of these parts received values, what stands here was told of them, and those parts are left.
+  -- A receiver made of the parts `receives` received values, of which its reader told `told`, and was taken
+  -- apart into the parts `left`.
   pub record HasReadThrough {A : Type 0} (c : Channel X K rule) (receives : ReceiverParts) (tells : ℕ → A → Type 0) (told : List A)
       (left : ReceiverParts) : Type 0 where
     pub of : IsReceiverOf c left

@@ -1,4 +1,6 @@
--- What clauses see of the ends of a channel.
+-- What clauses see of the ends of a channel: what a sender has sent and has in its table of places, what a
+-- receiver has received, and the parts of which both are made. A *view* is all that a pass or a guard knows
+-- of its queue.
 use Rattle.std.specs.Prelude.{◌≡◌, ◌≢◌, ◌⊎◌, ℕ, ◌+◌, ◌%◌, ◌^◌, ◌<◌, ◌≤◌, Option, Some, None, List, [], ◌∷◌, slice_set, vec_len}
 use Rattle.std.specs.List.{range_with_len}
 use Rattle.history.specs.declared.view.View.{View}
@@ -30,7 +32,7 @@ use Rattle.zero_copy_loans.specs.Words.{word_of, IsWord}
 use Rattle.zero_copy_slots.specs.Slots.{slots_in, IsUnreadable}
 use Rattle.zero_copy_slots.specs.declared.Keeps.{Ghosts}
 
--- the place that is read, and the number that its value was sent with
+-- the place of a sample, in which its value lies
 abbrev pub received : Sample → ℕ
 received sample = sample.place
 
@@ -137,8 +139,9 @@ module _ {X K : Type 0} {rule : Ghosts K X} where
       (¬ loans.IsLoaned place (sender_of old)) × (back.number ≡ next_of old) × (back.place ≡ place)
       × (sender_of new ≡ sender_of old) × (next_of new ≡ next_of old)
 
-  -- what the queue handed back, by its number and place: the oldest that waited, or its own where the queue takes none;
-  -- or there is no such number, or the place is not Loaned here, and nothing was sent
+  -- What `send` answers when a value comes back. Either the queue handed its word back (the oldest that
+  -- waited, or this one, if the queue takes none), or nothing was sent: there is no next number for the place
+  -- (`IsUnsent`), or the place is not Loaned at this sender (`IsForeign`).
   abbrev pub HandsBack : ℕ → Back → Sender X K rule → Sender X K rule → Type 0
   HandsBack place back old new =
       (back.place < (layout_of old).room)
@@ -153,11 +156,14 @@ module _ {X K : Type 0} {rule : Ghosts K X} where
       (sends_view new ≡ sends_view old) × loans.IsSame (sender_of old) (sender_of new) × (layout_of new ≡ layout_of old)
       × (next_of new ≡ next_of old)
 
-  -- The sender has sent so many values, with the numbers that came next, and those came back.
+  -- The sender has sent `count` values, with the numbers that came next, and the values with the numbers
+  -- `back` came back.
   pub record HasSent (count : ℕ) (back : List ℕ) (old new : Sender X K rule) : Type 0 where
+    -- the set, the queues and the layout are the same
     pub same : loans.IsSame (sender_of old) (sender_of new)
     pub layout : layout_of new ≡ layout_of old
     pub next : next_of new ≡ next_of old + count
+    -- if the queue has room: whatever was sent before, these were sent next (`SendsOn`)
     pub sends : 0 < (sends_queue old).capacity
         → SendsOn (sends_shape old) (range_with_len (next_of old) count) back (sends_view old) (sends_view new)
 
@@ -173,14 +179,16 @@ module _ {X K : Type 0} {rule : Ghosts K X} where
     pub next : next_of s ≡ parts.next
     pub sent : HasSentNumbers (sends_shape s) [] [] (sent_view parts) (sends_view s)
 
-  -- the sender has sent so many values until it was taken apart
+  -- The sender has sent `count` values, of which those with the numbers `back` came back, until it was taken
+  -- apart into these parts.
   pub record HasSentAll (count : ℕ) (back : List ℕ) (s : Sender X K rule) (parts : SenderParts) : Type 0 where
     pub of : IsOfSender s parts
     pub next : parts.next ≡ next_of s + count
     pub sends : 0 < (sends_queue s).capacity
         → SendsOn (sends_shape s) (range_with_len (next_of s) count) back (sends_view s) (sent_view parts)
 
-  -- no value was left, and nothing changed; or the set refused; or a place that was free is loaned, and there is no loan of it
+  -- Why there is no loan: no value was left to write, and no place changed; the set handed out no index, and
+  -- the table stays; or, at `StillRead`, a place that was Free is Loaned, and there is no loan of it.
   abbrev pub IsRefused : Sender X K rule → Sender X K rule → LoanFailure → Type 0
   IsRefused old new NoValue = (spares_in old ≡ 0) × (sender_of new ≡ sender_of old)
   IsRefused old new (NoPlace e) =
@@ -223,7 +231,8 @@ module _ {X K : Type 0} {rule : Ghosts K X} where
   abbrev pub word_in : Receiver X K rule → Sample → ℕ
   word_in r sample = word_of (layout_in r).room (number_of sample) (received sample)
 
-  -- nothing waited; or the queue has no room at all, and nothing is written; or what came is no place
+  -- Why `receive` gave no sample: the queue was empty; or it has no room at all, and nothing happened; or a
+  -- word was popped that names no place.
   abbrev pub ReceivedNone : Receiver X K rule → Receiver X K rule → Type 0
   ReceivedNone old new =
       PopFoundNone (receives_view old) (receives_view new)
@@ -249,7 +258,7 @@ module _ {X K : Type 0} {rule : Ghosts K X} where
     pub receives : 0 < (receives_queue old).capacity
         → ReceivesOn (receives_shape old) numbers (receives_view old) (receives_view new)
 
-  -- The receiver has received values, and what stands here was told of them, one of each, in their order.
+  -- The receiver has received values, and its reader told `told` of them, one of each, in their order.
   pub record HasRead {A : Type 0} (tells : ℕ → A → Type 0) (told : List A) (old new : Receiver X K rule) : Type 0 where
     pub numbers : List ℕ
     pub of_each : AreTold tells numbers told
@@ -271,7 +280,8 @@ module _ {X K : Type 0} {rule : Ghosts K X} where
     pub receives : 0 < (receives_queue r).capacity
         → ReceivesOn (receives_shape r) numbers (receives_view r) (received_view parts)
 
-  -- the receiver has received values until it was taken apart, and what stands here was told of them, one of each
+  -- The receiver has received values until it was taken apart, and its reader told `told`
+  -- of them, one of each.
   pub record HasReadAll {A : Type 0} (tells : ℕ → A → Type 0) (told : List A) (r : Receiver X K rule) (parts : ReceiverParts) : Type 0 where
     pub numbers : List ℕ
     pub of_each : AreTold tells numbers told
@@ -282,6 +292,6 @@ module _ {X K : Type 0} {rule : Ghosts K X} where
   IsUnread r sample (Slot failure) = IsUnreadable r.slots.now (received sample) failure
   IsUnread r sample (Other number) = number ≢ number_of sample
 
-  -- the place was not taken back: as many waited as the queue has room for, or its last position is reached
+  -- the place was not given back: the queue was full, or its last position is reached
   abbrev pub TookNoneBack : ℕ → Receiver X K rule → Receiver X K rule → Type 0
   TookNoneBack place old new = PushRefused (returns_queue old).capacity (Index place) (returns_view old) (returns_view new)

@@ -48,23 +48,25 @@ module _ {X K : Type 0} {rule : Ghosts K X} where
   KeepsShare old new =
       (share_lent new).part * (share_lent old).parts ≡ (share_lent old).part * (share_lent new).parts
 
-  -- somebody had the slot of a place, which there is
+  -- what a refusal of `acquire` says: only `InUse` says something, that the slot of some
+  -- place was read or written
   abbrev pub IsRefusedBuffer : Lender X K rule → PoolFailure → Type 0
   IsRefusedBuffer l (NoPlace failure) = Unit {0}
   IsRefusedBuffer l NoPass = Unit {0}
   IsRefusedBuffer l (InUse failure) = (place : ℕ) × (place < places_lent l) × IsUntaken (slots_lent l) place failure
 
-  -- the slot of its place was left empty, in which the value lay with the number; or nothing lay there
+  -- the slot of the buffer's place was left empty, and the buffer has the value that lay in it with its
+  -- number; or nothing lay in it
   abbrev pub IsTakenOut : Buffer X K rule → Type 0
   IsTakenOut b =
       (emptied_slot b.came ≡ place_in b)
       × MatchOption b.value ((emptied_number b.came ≡ None) × (b.number ≡ 0)) (λ value. emptied_number b.came ≡ Some b.number)
 
-  -- its value was laid into the slot of the place, with its number; or there was none
+  -- the buffer's value was laid into the slot of its place, with its number; or the buffer had none
   abbrev pub IsGivenBack : Buffer X K rule → Option Laid → Type 0
   IsGivenBack b (Some laid) = IsSome b.value × (laid_slot laid ≡ place_in b) × (laid_number laid ≡ b.number)
   IsGivenBack b None = b.value ≡ None
 
-  -- the value comes back, since its slot was not to be had
+  -- the buffer's value comes back, since the slot of its place was read or written
   abbrev pub IsNotLaid : Buffer X K rule → X × TakeFailure → Type 0
   IsNotLaid b back = (b.value ≡ Some back.0) × IsUntaken b.slots.now (place_in b) back.1

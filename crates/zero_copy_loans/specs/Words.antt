@@ -11,6 +11,6 @@ IsRoomFor places room = (places ≤ room) × (2 < room → room < 2 * places)
 abbrev pub word_of : (room number place : ℕ) → ℕ
 word_of room number place = number * room + place
 
--- there is such a place, and the number is not past the last one that a word can have
+-- there is a place of this index, and the word of the number and the place is below 2^64
 abbrev pub IsWord : (room places number place : ℕ) → Type 0
 IsWord room places number place = (place < places) × (word_of room number place < 2 ^ 64)

@@ -1,4 +1,5 @@
-//! What the ends of a channel share.
+//! A loan channel for values (`Channel`): the set of places, the two queues and the slots that its sender and
+//! its receiver share, and how both ends are made and taken in.
 ghost use Rattle.std.specs.Prelude.{◌≡◌, ◌≤◌, ◌+◌, ◌-◌, ◌^◌, None, IfOk, IfSome, OnOk, List, [], ℕ, replicate};
 ghost use Rattle.steps.specs.Enums.{capacity_refusal};
 ghost use Rattle.lock_free_loans.specs.Loan.Sender.{completion_of, submission_of};
@@ -25,16 +26,18 @@ use lock_free_sets::mpmc::unique_index_set_enums::UniqueIndexCreationError;
 use std::alloc::Global;
 use zero_copy_slots::{Anything, Keeps, Slots};
 
-/// A channel of places, each with a slot, and of two queues: one by which they are sent, and one, with room for all of them, by
-/// which they come back. A value lies in its slot until a loan of the place is sent, given up or dropped, the place is regained,
-/// or the channel is dropped.
+/// A channel of places, each with a slot for a value, and of two queues: one by which places are sent, and
+/// one, with room for all places, by which they come back. A value lies in its slot until a loan of the place
+/// is sent, given up or dropped, the place is regained, or the channel is dropped.
 ///
-/// The channel keeps its queues to itself, so its sender cannot `reclaim`. What is Loaned or Sent when the sender ends is out for
-/// good, and what waits then comes to the next receiver with its old number. If a sender is to outlive its receivers, its user
-/// makes the parts, and the ends over them (`Sender::new`, `Receiver::new`), so that `reclaim` frees what was Sent.
+/// The channel keeps its queues to itself, so its sender cannot `reclaim`. A place that is Loaned or Sent
+/// when the sender ends is out for good, and a value that waits then comes to the next receiver with its old
+/// number. If a sender is to outlive its receivers, its user makes the parts, and the ends over them
+/// (`Sender::new`, `Receiver::new`), so that `reclaim` frees what was Sent.
 ///
-/// `ends` makes both ends at once, and lets the channel go. A caller who wants to know in the end what went through calls `open`,
-/// `ends_with`, and with what both ends leave `relayed`: then the channel knows all of it, and the numbers go on with its next ends.
+/// `ends` makes both ends at once. A caller who wants to know in the end what went through calls `open` and
+/// `ends_with`, and then `relayed` with what both ends leave: the channel then knows all values that went
+/// through, and the numbers go on with its next ends.
 pub struct Channel<X: Drop, K: Keeps<X> = Anything> {
     set: UniqueIndexSet,
     pass: Pass,
@@ -159,7 +162,8 @@ impl<X: Drop, K: Keeps<X>> Channel<X, K> {
         Some((sends, receives))
     }
 
-    /// The two ends, as `ends`, of their parts. The numbers go on from that of the parts.
+    /// The two ends of these parts. The values to write are given as to `ends`. The numbers go on from the
+    /// one in the parts.
     pub fn ends_with(
         &self,
         alloc: Global,
@@ -269,8 +273,8 @@ impl<X: Drop, K: Keeps<X>> Channel<X, K> {
         self.sending.history();
     }
 
-    /// Tells a caller's proof that what was received and what came back merge, each once and in its order, to a beginning of what
-    /// was sent. It does nothing.
+    /// Does nothing at run time. It tells a caller's proof that the values that were received and those that
+    /// came back merge, each once and in its order, to a beginning of what was sent.
     pub fn passes_on(&self)
         ensures { (sent back received : List ℕ) → HasPassedOn sent back received self.now → IsPassedOn sent received back }
     {}

@@ -1,4 +1,4 @@
-//! What `Debug` shows of each type: the place or the number with the value in hand, and of the others the name.
+//! What `Debug` shows of each type: the place or the number with the value in hand, or the type's name alone.
 
 use crate::channel::Channel;
 use crate::pool::{Buffer, Lender, Pool};

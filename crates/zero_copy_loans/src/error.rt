@@ -3,6 +3,7 @@ use lock_free_sets::mpmc::unique_index_set_enums::UniqueIndexSetAcquireFailure;
 use thiserror::Error;
 use zero_copy_slots::error as slots;
 
+/// Why a sender has no loan.
 #[derive(Debug, Drop, Error)]
 pub enum LoanFailure {
     #[error("no place: {0}")]

@@ -1,5 +1,5 @@
-//! A pool of buffers: who takes a place of it has the value that lies there, in plain memory and alone, and lays it back or hands
-//! it on to another thread.
+//! A pool of buffers: a thread that takes a place owns the value that lies in the place's slot, in plain
+//! memory, and lays it back or hands it on to another thread.
 ghost use Rattle.std.specs.Prelude.{◌≡◌, ◌<◌, Some, None, IfOk, IfErr, IfSome, MatchOption, OnOk};
 ghost use Rattle.lock_free_sets.specs.UniqueIndexSet.{set_refusal, value_of, IsPassOf};
 ghost use Rattle.zero_copy_slots.specs.Slots.{laid_number, laid_slot, IsUntaken};
@@ -17,7 +17,8 @@ use zero_copy_slots::error::TakeFailure;
 use zero_copy_slots::words::Emptied;
 use zero_copy_slots::{Anything, Keeps, Laid, Slots};
 
-/// Places, each with a slot in which a value lies, or nothing. What lies there keeps the user's rule with its number.
+/// Places, each with a slot in which a value lies, or nothing. A value in a slot keeps the user's
+/// rule with its number.
 pub struct Pool<X: Drop, K: Keeps<X> = Anything> {
     set: UniqueIndexSet,
     pass: Pass,
@@ -38,7 +39,8 @@ impl<X: Drop, K: Keeps<X>> Drop for Pool<X, K> {
 impl<X: Drop, K: Keeps<X>> Pool<X, K> {
     ghost use Rattle.zero_copy_loans.specs.Pools.{places_lent, places_of};
 
-    /// A pool of so many places, from 1 to 2^24 - 2, in which nothing lies. Refused as `UniqueIndexSet::new`. No atomic step.
+    /// A pool of `places` empty places, from 1 to 2^24 - 2. Refused where `UniqueIndexSet::new` refuses that
+    /// capacity. No atomic step.
     pub fn new(alloc: Global, places: usize) -> Result<Pool<X, K>, UniqueIndexCreationError>
         ensures places { IfOk result (λ p. places_of p ≡ places) }
         ensures admitted { OnOk result (set_refusal places ≡ None) }
@@ -50,7 +52,8 @@ impl<X: Drop, K: Keeps<X>> Pool<X, K> {
         Ok(Pool { set, pass, slots })
     }
 
-    /// One who takes buffers of the pool; `split` makes more of them. None where no further pass can be counted.
+    /// A lender, by which buffers of the pool are taken; `split` makes more lenders. None where no further
+    /// pass can be counted.
     pub fn lender(&mut self) -> Option<Lender<'_, X, K>>
         ensures places { IfSome result (λ l. places_lent l ≡ places_of self.old) }
     {
@@ -58,7 +61,7 @@ impl<X: Drop, K: Keeps<X>> Pool<X, K> {
         Some(self.lender_with(pass))
     }
 
-    /// The same, with a pass of the set.
+    /// A lender of this pool, with this pass of its set.
     fn lender_with(&self, pass: Pass) -> Lender<'_, X, K>
         requires { IsPassOf self.now.set pass }
         ensures places { places_lent result ≡ places_of self.now }
@@ -71,7 +74,8 @@ impl<X: Drop, K: Keeps<X>> Pool<X, K> {
     }
 }
 
-/// One who takes buffers of a pool. Each thread has its own, by `split`, which may be sent to it.
+/// The end of a pool by which buffers are taken. Each thread has its own lender, made by `split`, which may
+/// be sent to it.
 pub struct Lender<'a, X, K: Keeps<X> = Anything> {
     set: &'a UniqueIndexSet,
     pass: Pass,
@@ -89,14 +93,14 @@ impl<'a, X, K: Keeps<X>> Drop for Lender<'a, X, K> {
     }
 }
 
-/// A place of a pool, and what lay there, which nobody else has. It may be sent to another thread. Where it is dropped, its value
-/// is dropped too, and its place is free with nothing in it.
+/// A place of a pool that is taken, and the value that lay in its slot. It may be sent to another thread. If
+/// it is dropped, its value is dropped too, and its place is free and empty.
 ///
-/// Where one is forgotten (`std::mem::forget`), its place is never handed out again.
+/// If a buffer is forgotten (`std::mem::forget`), its place is never handed out again.
 pub struct Buffer<'a, X, K: Keeps<X> = Anything> {
     index: UniqueIndex<'a>,
     slots: &'a Slots<X, K>,
-    /// That its slot was left empty as the place was taken.
+    /// Says that the slot was left empty as the place was taken.
     came: Emptied,
     /// The number that the value lay there with; 0 where nothing lay there.
     pub number: u64,
@@ -122,7 +126,7 @@ impl<'a, X: Drop, K: Keeps<X>> Drop for Buffer<'a, X, K> {
 impl<'a, X, K: Keeps<X>> Lender<'a, X, K> {
     ghost use Rattle.zero_copy_loans.specs.Pools.{place_in, places_lent, slots_lent, IsRefusedBuffer, IsTakenOut, KeepsShare};
 
-    /// Another one of the same pool. None where no further pass can be counted.
+    /// Another lender of the same pool. None where no further pass can be counted.
     pub fn split(&mut self) -> Option<Lender<'a, X, K>>
         ensures new { IfSome result (λ l. places_lent l ≡ places_lent self.old) }
         ensures same { places_lent self.new ≡ places_lent self.old }
@@ -135,9 +139,11 @@ impl<'a, X, K: Keeps<X>> Lender<'a, X, K> {
         })
     }
 
-    /// Takes a place that is free, and what lies in its slot, if anything, which keeps its rule with its number; that it is what was
-    /// laid there last is only tested. Refused where each place is taken (`NoPlace`), where no further pass can be counted (`NoPass`),
-    /// and where somebody has the slot of the place (`InUse`), which only tests rule out. Then the pass has its share again.
+    /// Takes a free place and the value in its slot, if one lies there. The value keeps the rule with
+    /// its number; that it is the one laid there last is only tested. Refused where each place is
+    /// taken (`NoPlace`), where no further pass can be counted (`NoPass`), and where somebody reads or
+    /// writes the slot of the place (`InUse`), which only tests rule out. After a refusal the lender's
+    /// pass has its share again.
     ///
     /// The steps of `acquire` of the set and of a split of a pass, and on the slot a load, at most one compare-exchange and one
     /// further step. Where it is refused for want of a place, also those of a join of passes.
@@ -178,8 +184,8 @@ impl<'a, X, K: Keeps<X>> Lender<'a, X, K> {
 impl<'a, X, K: Keeps<X>> Lender<'a, X, K> {
     ghost use Rattle.zero_copy_loans.specs.Pools.{place_in, places_lent, slots_lent, HasPlaces, IsRefusedBuffer, IsTakenOut};
 
-    /// Takes a place as soon as one is free. Between two tries another thread may run. It is refused as `acquire`, but not for want of
-    /// a free place. Where no place is given back it waits for good.
+    /// Takes a place as soon as one is free. Between two tries another thread may run. It is refused where
+    /// `acquire` is, but never for want of a free place: where no place is given back it waits for good.
     ///
     /// For each try, the steps of `acquire`.
     pub fn acquire_waiting(&mut self, rt: &impl Wait) -> Result<Buffer<'a, X, K>, PoolFailure>
@@ -206,8 +212,9 @@ impl<'a, X, K: Keeps<X>> Lender<'a, X, K> {
         unreachable!()
     }
 
-    /// Takes a place by at most so many tries (by no clause), of which it makes one in any case. Between two tries another thread may
-    /// run. It is refused as `acquire`: where each place is taken, by the last try, and else by the first try that is.
+    /// Takes a place by at most `tries` tries (by no clause), and by one try at least. Between two tries
+    /// another thread may run. A try that finds each place taken is followed by another, except the last,
+    /// whose refusal is returned. Any other refusal of `acquire` is returned at once.
     ///
     /// For each try, the steps of `acquire`.
     pub fn acquire_within(
@@ -239,7 +246,7 @@ impl<'a, X, K: Keeps<X>> Lender<'a, X, K> {
     }
 }
 
-/// What lies in the slot of an index, with its number; the slot is left empty.
+/// Takes the value with its number out of the slot of an index, which is left empty.
 fn taken_out<X, K: Keeps<X>>(
     slots: &Slots<X, K>,
     index: &UniqueIndex<'_>,
@@ -261,7 +268,8 @@ fn taken_out<X, K: Keeps<X>>(
     }
 }
 
-/// Lays a value into the slot of an index that is still in hand: it comes back where somebody has the slot.
+/// Lays a value into the slot of an index that is still in hand. The value comes back where somebody reads or
+/// writes the slot.
 fn laid<X: Drop, K: Keeps<X>>(
     slots: &Slots<X, K>,
     index: &UniqueIndex<'_>,
@@ -295,9 +303,9 @@ impl<'a, X, K: Keeps<X>> Buffer<'a, X, K> {
 impl<'a, X: Drop, K: Keeps<X>> Buffer<'a, X, K> {
     ghost use Rattle.zero_copy_loans.specs.Pools.{place_in, IsGivenBack, IsNotLaid};
 
-    /// Lays the value back, which keeps its rule with the number that stands beside it, and frees the place. The answer says what
-    /// was laid there, if there was a value. The value comes back where somebody has its slot, which only tests rule out. That the
-    /// place is free in both cases is only tested.
+    /// Lays the value back, which keeps its rule with the number that stands beside it, and frees the place.
+    /// The answer says what was laid there, if there was a value. The value comes back where somebody reads
+    /// or writes its slot, which only tests rule out. That the place is free in both cases is only tested.
     ///
     /// On the slot a load, at most one compare-exchange and one further step, and then those of `release` of an index.
     pub fn give_back(self) -> Result<Option<Laid>, (X, TakeFailure)>

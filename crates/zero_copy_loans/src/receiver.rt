@@ -25,7 +25,7 @@ pub struct Sample {
     place: u32,
 }
 
-/// What a receiver is made of, beside the channel: a pass of each queue.
+/// The parts of which a receiver of a channel is made: a pass of each queue.
 #[derive(Drop)]
 pub struct ReceiverParts {
     pub submission: overflow::Pass,
@@ -50,8 +50,9 @@ impl Sample {
     }
 }
 
-/// Who reads values where they lie, and tells something of each that holds with each number that the value keeps its rule with. It is
-/// not told the number, so what it tells is had of the value. None where it tells nothing.
+/// A reader of values where they lie. Of each value it tells something that is true of any number with which
+/// the value keeps its rule. It is not given the number, so it tells what it found in the value. None where
+/// it tells nothing.
 pub trait Reads<X, K: Keeps<X>, A> {
     ghost tells: { ℕ → A → Type 0 };
 
@@ -59,7 +60,8 @@ pub trait Reads<X, K: Keeps<X>, A> {
         ensures { (number : ℕ) → K.holds number value.now → IfSome result (Self.tells number) };
 }
 
-/// A receiver. Where it is dropped, what it had stays Sent until the sender reclaims it, which that of a `Channel` cannot.
+/// A receiver. If it is dropped, the places that it had stay Sent until the sender reclaims them, which the
+/// sender of a `Channel` cannot.
 pub struct Receiver<'a, X: Drop, K: Keeps<X> = Anything> {
     receives: overflow::Consumer<'a>,
     returns: index_queue::Producer<'a>,
@@ -85,7 +87,8 @@ impl<'a, X: Drop, K: Keeps<X>> Receiver<'a, X, K> {
     ghost use Rattle.zero_copy_loans.specs.Ends.{IsUnread, KeepsReceives};
     ghost use Rattle.zero_copy_loans.specs.Ends.{ReceivedNone, TookNoneBack};
 
-    /// A receiver of what is sent through the one queue, which gives back through the other. No atomic step.
+    /// A receiver that receives from the submission queue and gives places back through the completion queue.
+    /// No atomic step.
     pub fn new(
         receives: overflow::Consumer<'a>,
         returns: index_queue::Producer<'a>,
@@ -102,7 +105,7 @@ impl<'a, X: Drop, K: Keeps<X>> Receiver<'a, X, K> {
         Receiver::of(receives, returns, slots, layout)
     }
 
-    /// The same, with the way in which the words are made.
+    /// A receiver as by `new`, with this layout of the words.
     pub(crate) fn of(
         receives: overflow::Consumer<'a>,
         returns: index_queue::Producer<'a>,
@@ -125,8 +128,8 @@ impl<'a, X: Drop, K: Keeps<X>> Receiver<'a, X, K> {
         }
     }
 
-    /// The oldest value that waits. None where none does, where the queue has no capacity, or where what came is no place, and is
-    /// gone. The steps of `pop`.
+    /// The oldest value that waits. None where none waits, where the queue has no capacity, or where the
+    /// popped word names no place; that word is then gone. The steps of `pop`.
     pub fn receive(&mut self, rt: &impl Wait) -> Option<Sample>
         ensures within { IfSome result (λ s. received s < places_in self.old) }
         ensures oldest { IfSome result
@@ -147,8 +150,8 @@ impl<'a, X: Drop, K: Keeps<X>> Receiver<'a, X, K> {
         }
     }
 
-    /// What comes next, by at most so many tries (by no clause), between which another thread may run. None where nothing came. The steps of
-    /// `receive` for each try.
+    /// The next value, by at most `tries` tries (by no clause), between which another thread may run. None
+    /// where each try received none. The steps of `receive` for each try.
     pub fn receive_within(&mut self, rt: &impl Wait, tries: u64) -> Option<Sample>
         ensures within { IfSome result (λ s. received s < places_in self.old) }
         ensures receives { HasReceived (numbers_of result) self.old self.new }
@@ -162,8 +165,8 @@ impl<'a, X: Drop, K: Keeps<X>> Receiver<'a, X, K> {
         None
     }
 
-    /// What comes next, as soon as it is there. Between two tries another thread may run. Where nothing comes it waits for good. The
-    /// steps of `receive` for each try.
+    /// The next value, as soon as it is there. Between two tries another thread may run. Where no value comes
+    /// it waits for good. The steps of `receive` for each try.
     pub fn receive_waiting(&mut self, rt: &impl Wait) -> Sample
         ensures within { received result < places_in self.old }
         ensures receives { HasReceived (number_of result ∷ []) self.old self.new }
@@ -177,12 +180,13 @@ impl<'a, X: Drop, K: Keeps<X>> Receiver<'a, X, K> {
         unreachable!()
     }
 
-    /// Reads a value that was received, where it lies: the one that was laid in its place with its number, which keeps its rule. As
-    /// long as it is read, this receiver receives and gives back nothing and is not dropped, since the reading borrows it. Refused
-    /// where the slot is (`Slot`): there is no such place, or its word says that it is empty or written, or that 2^30 - 1 read it;
-    /// and where a value of another number lies there (`Other`: by its clause that number is another; that it lies there, by no
-    /// clause). Of a sample in hand here the first is ruled out by clauses
-    /// (`within` of `receive`), and the others by tests alone.
+    /// Reads a value that was received, where it lies: the one that was laid in its place with its number,
+    /// which keeps its rule. As long as it is read, this receiver receives and gives back nothing and is not
+    /// dropped, since the reading borrows it. Refused where the slot cannot be read (`Slot`): there is no
+    /// such place, or its word says that it is empty or written, or that 2^30 - 1 read it; and where a value
+    /// of another number lies there (`Other`: by its clause that number is another; that it lies there, by no
+    /// clause). Of a sample that this receiver received, the first reason is ruled out by clauses (`within`
+    /// of `receive`), and the others by tests alone.
     ///
     /// A load and a compare-exchange, again for each time that another reader comes or leaves, and a subtraction as the reading is
     /// dropped. A reading that is forgotten keeps its place for good (`StillRead`).
@@ -202,9 +206,9 @@ impl<'a, X: Drop, K: Keeps<X>> Receiver<'a, X, K> {
         }
     }
 
-    /// Gives a place back: true where the queue has room for each place (by no clause); false only where the queue is full, or at
-    /// its last position, and then the place stays Sent. A sample of another receiver may free a place that is in hand. The steps
-    /// of `push`.
+    /// Gives a sample's place back to the sender. True if the queue has room for each place (by no clause).
+    /// False only where the queue is full, or at its last position, and then the place stays Sent. A sample
+    /// of another receiver, given back here, may free a place that is in hand. The steps of `push`.
     pub fn give_back(&mut self, sample: Sample) -> bool
         ensures given { IsTrue result
             → PushDone (Index (received sample)) (returns_view self.old) (returns_view self.new) }
@@ -217,7 +221,8 @@ impl<'a, X: Drop, K: Keeps<X>> Receiver<'a, X, K> {
         self.returns.push(place as u64)
     }
 
-    /// What is told of the value of a sample, where it lies. None where it cannot be read, or nothing is told.
+    /// What the reader tells of a sample's value, which it reads where it lies. None where the value cannot
+    /// be read, or the reader tells nothing.
     fn read_by<A: Drop, R: Reads<X, K, A>>(&self, sample: &Sample, reader: &mut R) -> Option<A>
         ensures { IfSome result (R.tells (number_of sample.now)) }
     {
@@ -225,9 +230,10 @@ impl<'a, X: Drop, K: Keeps<X>> Receiver<'a, X, K> {
         reader.read(reading.get())
     }
 
-    /// Receives so many values, each by at most so many tries, reads them where they lie, and gives them back: what is told of each.
-    /// None where one did not come or could not be read, where nothing was told of it, or where there is no memory; each that came is
-    /// given back then too. The steps of `receive_within`, of `read` and of `give_back` for each.
+    /// Receives `count` values, each by at most `tries` tries, reads them where they lie, and gives them
+    /// back. Returns what the reader told of each. None where a value did not come or could not be read,
+    /// where nothing was told of it, or where there is no memory; the values that came are given back then
+    /// too. The steps of `receive_within`, of `read` and of `give_back` for each.
     pub fn read_each<A: Drop, R: Reads<X, K, A>>(
         &mut self,
         rt: &impl Wait,

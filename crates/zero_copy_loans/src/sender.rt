@@ -1,4 +1,4 @@
-//! The end of the channel that loans and sends.
+//! The end of the channel that loans places, writes values and sends them, and takes places back.
 ghost use Rattle.std.specs.Prelude.{◌≡◌, ◌+◌, ◌-◌, ◌^◌, ◌<◌, ◌↔◌, IsTrue, IfOk, IfErr, IfSome, IsSomeAnd, IfNone};
 ghost use Rattle.std.specs.Prelude.{[], ◌++◌, count_by, map, slice_set, vec_len};
 ghost use Rattle.lock_free_loans.specs.Loan.Contracts.{HasEmptied};
@@ -34,7 +34,7 @@ use zero_copy_slots::{Anything, Keeps, Slots, Writing};
 /// regained. Where it is forgotten, its place stays Loaned for good.
 pub struct Loan<'a, X: Drop, K: Keeps<X> = Anything> {
     place: u32,
-    /// The value, where it is written. It was sent or given up before, or is a spare as the sender was given it.
+    /// The value to write. At first it is a value that was sent or given up before, or a spare as the sender was given it.
     pub value: X,
     writing: Writing<'a, X, K>,
     ghost at: { slot_of writing ≡ place },
@@ -94,7 +94,7 @@ pub struct Back {
 impl Back {
     ghost use Rattle.zero_copy_loans.specs.Ends.{numbers_back};
 
-    /// Notes the number of what came back, if anything did. None where there is no memory.
+    /// Appends the number of the value that came back, if one did. None where there is no memory.
     fn note(came: Option<Back>, back: &mut Vec<u64>) -> Option<()>
         ensures { IfSome result (λ _. back.new.items ≡ back.old.items ++ numbers_back came) }
     {
@@ -105,13 +105,13 @@ impl Back {
     }
 }
 
-/// Who writes values that are sent, each so that it keeps its rule with its number. False where it cannot.
+/// A writer of values: it writes a value so that it keeps its rule with the given number. False where it cannot.
 pub trait Writes<X, K: Keeps<X>> {
     fn write(&mut self, number: u64, value: &mut X) -> bool
         ensures { IsTrue result → K.holds number value.new };
 }
 
-/// What a sender is made of, beside the channel: a pass of the set and one of each queue, and the number that comes next.
+/// The parts of which a sender of a channel is made: a pass of the set and one of each queue, and the number that comes next.
 #[derive(Drop)]
 pub struct SenderParts {
     pub pass: Pass,
@@ -120,7 +120,7 @@ pub struct SenderParts {
     pub next: u64,
 }
 
-/// Keeps what lay in a place, if anything did, to be written again.
+/// Keeps the value that lay in a slot, if one did, among the values to write.
 fn keep<X: Drop>(spares: &mut Vec<X>, old: Option<(u64, X)>) {
     if let Some((_, value)) = old {
         let _ = spares.push(value);
@@ -153,9 +153,9 @@ impl<'a, X: Drop, K: Keeps<X>> Sender<'a, X, K> {
     ghost use Rattle.zero_copy_loans.specs.Ends.{sends_queue, sends_view, sent_queue, sent_view};
     ghost use Rattle.zero_copy_loans.specs.Ends.{slots_of, spares_in, word_next, HandsBack, HasSent, HasSentAll, HasWord, IsForeign, IsRefused, KeepsSends};
 
-    /// A sender of values, over slots that are meant to be as many as the set of the `LoanSender` has indices, and with values to
-    /// write, which need not keep the rule yet: one more than there are slots, and one more for each further loan that is in hand
-    /// at a time. A loan that is dropped takes up to two of them away. Nobody else may write the slots. No atomic step.
+    /// A sender of values, over slots that are meant to be as many as the set of the `LoanSender` has indices, and with values
+    /// to write, which need not keep the rule yet: one more than there are slots, and one more for each further loan that is in
+    /// hand at a time. A loan that is dropped takes up to two of them away. Nobody else may write the slots. No atomic step.
     pub fn new(loans: LoanSender<'a>, slots: &'a Slots<X, K>, spares: Vec<X>) -> Sender<'a, X, K>
         ensures loans { sender_of result ≡ loans.entry }
         ensures spares { spares_in result ≡ vec_len spares }
@@ -167,7 +167,7 @@ impl<'a, X: Drop, K: Keeps<X>> Sender<'a, X, K> {
         Sender::of(loans, slots, spares, layout, 0)
     }
 
-    /// The same, with the way in which the words are made and the number that comes next.
+    /// A sender as by `new`, with this layout of the words and this next number.
     pub(crate) fn of(
         loans: LoanSender<'a>,
         slots: &'a Slots<X, K>,
@@ -189,12 +189,12 @@ impl<'a, X: Drop, K: Keeps<X>> Sender<'a, X, K> {
         }
     }
 
-    /// A place that was Free, and a value to write there: the place is Loaned. Refused as follows:
+    /// Loans a place that was Free, with a value to write: the place is Loaned. Refused as follows:
     ///
     /// - where no value is left to write (`NoValue`), and then nothing changes;
     /// - where no index is left, or the set is locked (`NoPlace`), and then the table stays;
-    /// - where somebody still reads the place, who has it not, or where it has no slot (`StillRead`). The place stays Loaned, so
-    ///   that the next loan gets another; `regain` tries it again.
+    /// - where somebody reads the place's slot although the place was Free, or where the place has no slot (`StillRead`). The
+    ///   place stays Loaned, so that the next loan gets another; `regain` tries it again.
     ///
     /// The steps of `LoanSender::loan`, and on the slot a load and at most one compare-exchange.
     pub fn loan(&mut self, rt: &impl Wait) -> Result<Loan<'a, X, K>, LoanFailure>
@@ -227,17 +227,17 @@ impl<'a, X: Drop, K: Keeps<X>> Sender<'a, X, K> {
         })
     }
 
-    /// Whether the number of the loan's place is Loaned here, as `send` and `give_up` ask. A loan of another channel with such a place
-    /// is not told apart. No atomic step.
+    /// Whether the place of the loan's number is Loaned at this sender, as `send` and `give_up` ask. A loan of another channel
+    /// whose place has the same number is not told apart. No atomic step.
     pub fn is_loaned(&self, loan: &Loan<'a, X, K>) -> bool
         ensures { IsTrue result ↔ IsLoaned (loaned loan.now) (sender_of self.now) }
     {
         self.loans.is_loaned(loan.place)
     }
 
-    /// A loan as soon as there is one, by at most so many tries (by no clause). After one that is refused it takes back a place, or lets another
-    /// thread run where none came. None where each try was refused. A place that is `StillRead` stays Loaned. For each try, the steps of
-    /// `loan` and those of `take_back`.
+    /// A loan, by at most `tries` tries (by no clause). After a try that is refused it takes back a place, or lets another
+    /// thread run where no place came. None where each try was refused. A place that is `StillRead` stays Loaned. For each try,
+    /// the steps of `loan` and those of `take_back`.
     pub fn loan_within(&mut self, rt: &impl Wait, tries: u64) -> Option<Loan<'a, X, K>>
         ensures is { IfSome result (λ l. IsLoaned (loaned l) (sender_of self.new)) }
         ensures sends { KeepsSends self.old self.new }
@@ -253,9 +253,9 @@ impl<'a, X: Drop, K: Keeps<X>> Sender<'a, X, K> {
         None
     }
 
-    /// A loan as soon as there is one. After a try that is refused it takes back a place, or lets another thread run where none came.
-    /// It waits for good where no place comes back, or no value is left to write, and a place that is `StillRead` stays Loaned. For
-    /// each try, the steps of `loan` and those of `take_back`.
+    /// A loan, as soon as there is a free place. After a try that is refused it takes back a place, or lets another thread run
+    /// where no place came. It waits for good where no place comes back, or no value is left to write, and a place that is
+    /// `StillRead` stays Loaned. For each try, the steps of `loan` and those of `take_back`.
     pub fn loan_waiting(&mut self, rt: &impl Wait) -> Loan<'a, X, K>
         ensures is { IsLoaned (loaned result) (sender_of self.new) }
         ensures sends { KeepsSends self.old self.new }
@@ -278,14 +278,14 @@ impl<'a, X: Drop, K: Keeps<X>> Sender<'a, X, K> {
         self.layout.has(self.next, loan.place)
     }
 
-    /// Sends a value, which keeps its rule with the number that comes next: its place is Sent. Where the queue is full, the
-    /// answer is the oldest value that waited, and where it takes none (it has no capacity, or is at its last position) the value
-    /// itself: its place is Free again where it is Sent, and else nothing changes. The numbers of values rise by one with each.
+    /// Sends a value, which has to keep its rule with the number that comes next: its place is Sent. If the queue is full, the
+    /// oldest value that waited comes back. If the queue takes none (it has no capacity, or is at its last position), the value
+    /// itself comes back. The place of what came back is Free again if it was Sent. The numbers of values rise by one with each.
     ///
     /// A number and a place go into one word, so there are 2^64 numbers divided by the places rounded up to a power of two (at
-    /// least 2). From the one past the last nothing is sent any more (`IsUnsent`): each value comes back at once, its place Free. A
-    /// loan of another channel whose place is not Loaned here is not sent either (`IsForeign`): its place comes back with the number
-    /// that comes next, and it is given up as by `give_up`.
+    /// least 2). From the one past the last nothing is sent any more (`IsUnsent`): each value comes back at once, its place
+    /// Free. A loan of another channel whose place is not Loaned here is not sent either (`IsForeign`): its place comes back
+    /// with the number that comes next, and it is given up as by `give_up`.
     ///
     /// One step on the slot, and those of `LoanSender::send`.
     pub fn send(&mut self, loan: Loan<'a, X, K>) -> Option<Back>
@@ -326,7 +326,7 @@ impl<'a, X: Drop, K: Keeps<X>> Sender<'a, X, K> {
         Some(Back { number, place })
     }
 
-    /// A loan whose value is written so that it keeps its rule with the number that comes next, if there is one. Else it is given up.
+    /// A loan whose value is written so that it keeps its rule with the next number, if there is one. Else it is given up.
     fn written(
         &mut self,
         mut loan: Loan<'a, X, K>,
@@ -345,9 +345,9 @@ impl<'a, X: Drop, K: Keeps<X>> Sender<'a, X, K> {
         None
     }
 
-    /// Loans, writes and sends so many values, each loan by at most so many tries: the numbers of those that came back. None where no
-    /// place came, where a value was not written, or where there is no memory or no further number; then the values sent until then
-    /// are sent. The steps of `loan_within` and of `send` for each.
+    /// Loans, writes and sends `count` values, each loan by at most `tries` tries. Returns the numbers of those that came back.
+    /// None where no place came, where a value was not written, or where there is no memory or no further number; the values
+    /// before that one are sent. The steps of `loan_within` and of `send` for each.
     pub fn send_each(
         &mut self,
         rt: &impl Wait,
@@ -368,9 +368,9 @@ impl<'a, X: Drop, K: Keeps<X>> Sender<'a, X, K> {
         Some(back)
     }
 
-    /// Gives a loan up: its place is Free, and its value and what lay in its slot are kept to be written again (by no clause). So are
-    /// those of a loan of another channel. Where its place is not Loaned here, no place changes, and at the other channel it stays
-    /// Loaned until it is regained. One step on the slot, and those of `LoanSender::give_up`.
+    /// Gives a loan up: its place is Free, and its value and what lay in its slot are kept to be written again (by no clause).
+    /// A loan of another channel is given up too: if its place is not Loaned here, no place changes, and at the other channel
+    /// it stays Loaned until it is regained. One step on the slot, and those of `LoanSender::give_up`.
     pub fn give_up(&mut self, loan: Loan<'a, X, K>)
         ensures places { IsLoaned (loaned loan.entry) (sender_of self.old) → places_of self.new ≡ slice_set (places_of self.old) (loaned loan.entry) Free }
         ensures foreign { ¬ IsLoaned (loaned loan.entry) (sender_of self.old) → sender_of self.new ≡ sender_of self.old }
@@ -387,10 +387,10 @@ impl<'a, X: Drop, K: Keeps<X>> Sender<'a, X, K> {
         }
     }
 
-    /// Tries a place again that is Loaned without a loan, since it was `StillRead` or its loan was dropped: it is Free, and its slot
-    /// was left empty, where nobody reads it any more. None where it is not Loaned, where somebody reads it still, or where its loan
-    /// is in hand (which of these, no clause says); then no place changes. A load, at most one compare-exchange and one further step
-    /// on the slot, and those of `LoanSender::give_up`.
+    /// Tries a place again that is Loaned without a loan, since it was `StillRead` or its loan was dropped. If nobody reads its
+    /// slot any more, the slot is left empty and the place is Free. None where the place is not Loaned, where somebody still
+    /// reads it, or where its loan is in hand (which of these, no clause says); then no place changes. A load, at most one
+    /// compare-exchange and one further step on the slot, and those of `LoanSender::give_up`.
     pub fn regain(&mut self, place: u32) -> Option<Emptied>
         ensures had { IfSome result (λ _. IsLoaned place (sender_of self.old)) }
         ensures emptied { IfSome result (λ e. emptied_slot e ≡ place) }
@@ -412,8 +412,8 @@ impl<'a, X: Drop, K: Keeps<X>> Sender<'a, X, K> {
         Some(emptied)
     }
 
-    /// Takes the oldest number that the receiver gave back: it is Free again where it is a place that is Sent, and else changes
-    /// nothing. None where nothing waits, and then nothing changes. The steps of `LoanSender::take_back`.
+    /// Takes the oldest number that the receiver gave back. If it is a place that is Sent, the place is Free again, and else no
+    /// place changes. None where nothing waits, and then nothing changes. The steps of `LoanSender::take_back`.
     pub fn take_back(&mut self) -> Option<u64>
         ensures back { IfSome result (λ y. places_of self.new ≡ returned y (places_of self.old)) }
         ensures popped { IfSome result (λ y. PopDone (Index y) (completion_view (sender_of self.old)) (completion_view (sender_of self.new))) }
@@ -427,9 +427,9 @@ impl<'a, X: Drop, K: Keeps<X>> Sender<'a, X, K> {
         self.loans.take_back()
     }
 
-    /// Empties both queues, frees each place that is Sent, and returns how many these were. For a sender whose receiver is gone,
-    /// with the receiver's guard of the queue. No sample of the former receiver may be used afterwards. The steps of
-    /// `LoanSender::reclaim`.
+    /// Empties both queues, frees each place that is Sent, and returns how many places it freed. For a sender
+    /// whose receiver is gone, with the receiver's guard of the queue. No sample of the former receiver may
+    /// be used afterwards. The steps of `LoanSender::reclaim`.
     pub fn reclaim(&mut self, rt: &impl Wait, receiver: &mut overflow::Consumer<'_>) -> usize
         requires { consumer_queue receiver.old ≡ submission_of (sender_of self.old) }
         ensures places { places_of self.new ≡ map reclaimed (places_of self.old) }
@@ -445,15 +445,15 @@ impl<'a, X: Drop, K: Keeps<X>> Sender<'a, X, K> {
         self.loans.reclaim(rt, receiver)
     }
 
-    /// The number that the next value gets that is sent: 0 for the first. No atomic step.
+    /// The number that the next value to be sent gets: 0 for the first. No atomic step.
     pub fn next_number(&self) -> u64
         ensures { result ≡ next_of self.now }
     {
         self.next
     }
 
-    /// Hands out the pass, which holds what is Loaned or Sent, and the values that are not in a slot; both roles are free. Two
-    /// atomic steps.
+    /// Hands out the pass of the set, which holds the places that are Loaned or Sent, and the values that are not in a slot.
+    /// Both roles of the queues are free. Two atomic steps.
     pub fn finish(self) -> (Pass, Vec<X>)
         ensures view { view result.0 ≡ pass_view (sender_of self.entry) }
         ensures set { set_of result.0 ≡ set_of_sender (sender_of self.entry) }
@@ -469,7 +469,7 @@ impl<'a, X: Drop, K: Keeps<X>> Sender<'a, X, K> {
         (loans.finish(), spares)
     }
 
-    /// The same, with the passes of both queues and the number that comes next, for `Channel::relayed`.
+    /// Hands out what `finish` does, with the passes of both queues and the number that comes next, for `Channel::relayed`.
     pub fn finish_all(self) -> (SenderParts, Vec<X>)
         ensures view { view result.0.pass ≡ pass_view (sender_of self.entry) }
         ensures set { set_of result.0.pass ≡ set_of_sender (sender_of self.entry) }

@@ -22,7 +22,7 @@ pub struct Layout {
 impl Layout {
     ghost use Rattle.zero_copy_slots.specs.Slots.{laid_number, laid_slot};
 
-    /// Words for so many places, each of which has at least one bit for its place. No atomic step.
+    /// The layout for `places` places: a word has at least one bit for the place. No atomic step.
     pub fn new(places: u32) -> Layout
         ensures places { result.places ≡ places }
         ensures room { IsRoomFor places result.room }
@@ -41,14 +41,15 @@ impl Layout {
         }
     }
 
-    /// How many places there are.
+    /// How many places the layout is for.
     pub fn places(&self) -> u32
         ensures { result ≡ self.now.places }
     {
         self.places
     }
 
-    /// Whether there are such a place and such a number.
+    /// Whether a word of this number and this place can be made: there is such a place, and
+    /// the word is below 2^64.
     pub fn has(&self, number: u64, place: u32) -> bool
         ensures yes { IsTrue result → IsWord self.now.room self.now.places number place }
         ensures no { IsFalse result → (self.now.places ≤ place) ⊎ (2 ^ 64 ≤ word_of self.now.room number place) }
@@ -62,7 +63,8 @@ impl Layout {
         }
     }
 
-    /// The word of what was laid into a slot. Only what lies there has one.
+    /// The word of a value that was laid into a slot, of its number and its place. Only a value that lies
+    /// there has one.
     pub fn word(&self, laid: &Laid) -> u64
         requires { IsWord self.now.room self.now.places (laid_number laid.now) (laid_slot laid.now) }
         ensures { result ≡ word_of self.now.room (laid_number laid.now) (laid_slot laid.now) }

@@ -1,4 +1,5 @@
--- What clauses see of slots.
+-- What clauses see of slots: the value that is read with its number, which slot is read or written, and why a
+-- slot is not read (`IsUnreadable`) or not written (`IsUntaken`).
 use Rattle.std.specs.Prelude.{◌≡◌, ◌≢◌, ◌⊎◌, ℕ, ◌-◌, ◌^◌, ◌%◌, ◌≤◌, Option, Some, None}
 use Rattle.counted_slot.specs.Counting.{readers}
 use Rattle.zero_copy_slots.specs.declared.error.ReadFailure.{ReadFailure}
@@ -13,7 +14,7 @@ use Rattle.zero_copy_slots.specs.declared.Slots.{Slots}
 use Rattle.zero_copy_slots.specs.declared.Writing.{Writing}
 use Rattle.zero_copy_slots.specs.Words.{placed_slot, placed_number, seen_in, seen_word}
 
--- the number with which a value lies there
+-- the number with which a value lies in a slot; 0 if there is no slot, or none lies there
 abbrev pub number_of : {X K : Type 0} → Option (Option (Kept X K)) → ℕ
 number_of (Some (Some kept)) = kept.number
 number_of (Some None) = 0

@@ -1,6 +1,6 @@
-//! Values of any type in plain memory, which many threads read where they lie while nobody writes: a word beside each value
-//! counts its readers. Nothing is copied, and no code is unsafe. Each value lies there with a number, and whoever reads them has
-//! the fact of the user's rule about both, which whoever laid them there has shown.
+//! Values of any type in plain memory, which many threads read where they lie while nobody writes: a word
+//! beside each value counts its readers. Nothing is copied, and no code is unsafe. Each value lies there with
+//! a number, and a reader has the fact that the user's rule states about both, which the writer has proved.
 #![tactic(auto)]
 
 mod debug;
@@ -19,8 +19,8 @@ use std::alloc::{AllocError, Global};
 use std::marker::PhantomData;
 use std::ops::Deref;
 
-/// A rule of the user's: a fact about each value and the number that it is laid down with. One type may keep different facts at
-/// two places, by two rules.
+/// A rule of the user's: a fact about each value and the number that it is laid down with. Values of one type
+/// may keep different facts in different slots, by two rules.
 pub trait Keeps<X> {
     ghost holds: { ℕ → X → Type 0 };
 }
@@ -47,8 +47,8 @@ impl<X, K: Keeps<X>> Fits for Kept<X, K> {
     ghost fits = { λ _ k. K.holds k.number k.value };
 }
 
-/// Slots, each of which is empty or has a value of X, strings and vectors too. They are shared by reference between threads where
-/// `X: Send + Sync`.
+/// Slots, each of which is empty or has a value of type X, which may own memory. They are shared by reference
+/// between threads where `X: Send + Sync`.
 ///
 /// A slot may be read by many at once, or written by one. A value lies in its slot until another is laid there, the slot is
 /// left empty, or all slots are dropped.
@@ -88,7 +88,8 @@ pub struct Writing<'a, X, K: Keeps<X> = Anything> {
     ghost at: { claim.tag ≡ slot },
 }
 
-/// That a value was laid into a slot with a number. Only `put` makes one, so what asks for it comes after that.
+/// Says that a value was laid into a slot with a number. Only `put` makes one, so a function that asks for a
+/// `Laid` is called after a `put`.
 #[derive(Debug, Drop)]
 pub struct Laid {
     lies: Lies,
@@ -167,7 +168,7 @@ impl<'a, X, K: Keeps<X>> Writing<'a, X, K> {
         clear(claim, slot)
     }
 
-    /// The same for who needs nothing that says so.
+    /// Leaves the slot empty, as `clear`, for a caller that needs no `Emptied`. One atomic step.
     pub fn empty(self) -> Option<(u64, X)>
         ensures fits { IfSome result (λ r. K.holds r.0 r.1) }
     {
@@ -226,7 +227,7 @@ fn reader_count(word: u64) -> u64
 impl<X: Drop, K: Keeps<X>> Slots<X, K> {
     ghost use Rattle.zero_copy_slots.specs.Slots.{slots_in};
 
-    /// So many slots, each empty. Refused is memory alone. No atomic step.
+    /// Makes `number` empty slots. Refused only where there is no memory. No atomic step.
     pub fn new(alloc: Global, number: u32) -> Result<Slots<X, K>, AllocError>
         ensures slots { IfOk result (λ s. slots_in s ≡ number) }
     {

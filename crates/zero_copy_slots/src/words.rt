@@ -16,15 +16,15 @@ pub struct Seen {
     slot: u32,
 }
 
-/// That a value was laid into a slot with a number, where it may be read.
+/// Says that a value was laid into a slot with a number, where it may be read.
 #[derive(Debug, Drop)]
 pub struct Lies {
     slot: u32,
     number: u64,
 }
 
-/// That a slot was left empty by who had the right to write it, so nobody read or wrote it then, and with which number a value lay
-/// there, if any did.
+/// Says that a slot was left empty by its writer, so that nobody else read or wrote it at that step, and with
+/// which number a value lay in it, if one did.
 #[derive(Debug, Drop)]
 pub struct Emptied {
     slot: u32,
@@ -79,7 +79,7 @@ impl Emptied {
     }
 }
 
-/// A load.
+/// Loads the word of a slot, by one atomic step.
 pub(crate) fn look<X, K: Keeps<X>>(cell: &Counted<Option<Kept<X, K>>>, slot: u32) -> Seen
     requires { cell.now ≡ slot }
     ensures { seen_in result ≡ slot }
@@ -90,7 +90,8 @@ pub(crate) fn look<X, K: Keeps<X>>(cell: &Counted<Option<Kept<X, K>>>, slot: u32
     }
 }
 
-/// A compare-exchange: the word that was found, and what was gained where it was the one that was seen.
+/// A compare-exchange on the word of a slot: the word that was found, and the claim that was gained if it was
+/// the word seen before.
 pub(crate) fn turn<'a, X, K: Keeps<X>>(
     cell: &'a Counted<Option<Kept<X, K>>>,
     seen: Seen,

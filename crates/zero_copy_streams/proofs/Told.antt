@@ -8,7 +8,7 @@ use Rattle.zero_copy_streams.specs.declared.receiver.Found.TheVariants as found
 use Rattle.zero_copy_streams.specs.declared.receiver.Receiver.{Receiver}
 
 module _ {A : Type 0} (tells : ℕ → A → Type 0) where
-  -- one more is told
+  -- a reader that told of each number, and then of one more, has told of all
   told_then : (ns : List ℕ) (told : List A) (n : ℕ) (one : A) → AreTold tells ns told → tells n one → AreTold tells (ns ++ n ∷ []) (told ++ one ∷ [])
   told_then [] [] n one all is = (is, tt)
   told_then [] (a ∷ told) n one all is = absurd all
@@ -22,6 +22,7 @@ module _ {A : Type 0} (tells : ℕ → A → Type 0) where
   not_end found.End number is = absurd is
 
   module _ {X K : Type 0} {rule : Ghosts K X} (old : Receiver X K rule) where
+    -- What is told of the number that was received last is what was found.
     pub found_of : (new : Receiver X K rule) (f : Found A) (number : ℕ) → IsOf tells number f
         → received_so_far new ≡ received_so_far old ++ number ∷ [] → HasFound tells f old new
     found_of new (found.Told one) number is came = (number, came, is)
@@ -34,7 +35,7 @@ module _ {A : Type 0} (tells : ℕ → A → Type 0) where
         record { numbers = []; told = []; received = sym (append-nil _); appended = sym (append-nil before); of_each = tt }
 
     module _ (before after longer : List A) (mid new : Receiver X K rule) (h : HasRead tells [] before after old mid) where
-      -- one value more
+      -- one value more was received, and something was told of it
       pub read_told : (one : A) → HasFound tells (found.Told one) mid new → longer ≡ after ++ one ∷ []
           → HasRead tells [] before longer old new
       read_told one has_found is =
@@ -66,6 +67,7 @@ module _ {A : Type 0} (tells : ℕ → A → Type 0) where
           }
 
 module _ {A : Type 0} (f : ℕ → A) where
+  -- If of each number its value of `f` is told, what is told is the list of those values.
   told_by : (ns : List ℕ) (told : List A) → AreTold (λ n a. a ≡ f n) ns told → told ≡ map f ns
   told_by [] [] all = refl
   told_by [] (a ∷ told) all = absurd all

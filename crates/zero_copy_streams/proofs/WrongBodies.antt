@@ -12,7 +12,7 @@ use Rattle.zero_copy_streams.specs.declared.receiver.Receiver.{Receiver}
 use Rattle.zero_copy_streams.specs.declared.sender.Sender.{Sender}
 use Rattle.zero_copy_streams.specs.declared.sender.Sent.{Sent}
 
--- a list is not itself with one more, nor with two where it has one more
+-- a list is not itself with one more element
 one_longer : (xs : List ℕ) (x : ℕ) → xs ≡ xs ++ x ∷ [] → ⊥
 one_longer xs x is = (let long = ap length is in let both = length-append xs (x ∷ []) in absurd (omega arith))
 
@@ -24,7 +24,7 @@ two_longer xs x y z is =
     let one = length-append xs (z ∷ []) in
     absurd (omega arith)
 
--- the first of a list, or else this
+-- the first element of a list, or `z` if it is empty
 abbrev head : ℕ → List ℕ → ℕ
 head z [] = z
 head z (x ∷ xs) = x
@@ -32,7 +32,7 @@ head z (x ∷ xs) = x
 same_last : (xs : List ℕ) (x y : ℕ) → xs ++ x ∷ [] ≡ xs ++ y ∷ [] → x ≡ y
 same_last xs x y is = ap (head x) (append_cancel_left xs (x ∷ []) (y ∷ []) is)
 
--- there are as many told as there are numbers
+-- as many things were told as values were received
 told_many : {A : Type 0} (tells : ℕ → A → Type 0) (ns : List ℕ) (told : List A) → AreTold tells ns told → length ns ≡ length told
 told_many tells [] [] all = refl
 told_many tells [] (a ∷ told) all = absurd all
@@ -43,29 +43,29 @@ module _ {X K : Type 0} {rule : Ghosts K X} where
   module _ (old new : Sender X K rule) where
     -- ---- `send` and `send_waiting`
 
-    -- it answers that it sent, and sends nothing
+    -- `send` answers that it sent, and sends nothing
     pub send_sends_nothing : sent_so_far new ≡ sent_so_far old → sent_so_far new ≡ sent_so_far old ++ next_of old ∷ [] → ⊥
     send_sends_nothing none says = one_longer (sent_so_far old) (next_of old) (sym none ∙ says)
 
-    -- it answers that it sent nothing, and sends
+    -- `send` answers that it sent nothing, and sends
     pub send_refuses_what_it_sent : (n : ℕ) → sent_so_far new ≡ sent_so_far old ++ n ∷ [] → sent_so_far new ≡ sent_so_far old → ⊥
     send_refuses_what_it_sent n sends says = one_longer (sent_so_far old) n (sym says ∙ sends)
 
-    -- it sends another number
+    -- `send` sends another number than the next one
     pub send_sends_another_number : (n : ℕ) → n ≢ next_of old → sent_so_far new ≡ sent_so_far old ++ n ∷ []
         → sent_so_far new ≡ sent_so_far old ++ next_of old ∷ [] → ⊥
     send_sends_another_number n other sends says = other (same_last (sent_so_far old) n (next_of old) (sym sends ∙ says))
 
-    -- it sends the ticket twice
+    -- `send` sends the ticket twice
     pub send_sends_twice : sent_so_far new ≡ sent_so_far old ++ next_of old ∷ next_of old ∷ []
         → sent_so_far new ≡ sent_so_far old ++ next_of old ∷ [] → ⊥
     send_sends_twice sends says = two_longer (sent_so_far old) (next_of old) (next_of old) (next_of old) (sym sends ∙ says)
 
-    -- `send_each` sends one too few
+    -- `send_each` sends one value too few
     pub send_each_sends_too_few : (count : ℕ) → next_of new + 1 ≡ next_of old + count → next_of new ≡ next_of old + count → ⊥
     send_each_sends_too_few count few says = absurd (omega arith)
 
-    -- it answers that a value was refused, and has sent all, or counts one of before as not sent
+    -- `send_each` answers that a value was refused, and has sent all
     pub send_each_refuses_what_it_sent : (count : ℕ) → next_of new ≡ next_of old + count
         → (next_of old ≤ next_of new) × (next_of new < next_of old + count) → ⊥
     send_each_refuses_what_it_sent count all says = (let fewer = says.1 in absurd (omega arith))
@@ -77,30 +77,30 @@ module _ {X K : Type 0} {rule : Ghosts K X} where
   module _ {A : Type 0} (tells : ℕ → A → Type 0) (old new : Receiver X K rule) where
     -- ---- `read_waiting`, and `read` where something was there
 
-    -- it tells a value again, and receives none
+    -- `read` tells of a value again, and receives none
     pub read_tells_a_value_twice : (one : A) → received_so_far new ≡ received_so_far old → HasFound tells (found.Told one) old new → ⊥
     read_tells_a_value_twice one none says = one_longer (received_so_far old) says.0 (sym none ∙ says.1)
 
-    -- it passes over a value
+    -- `read` passes over a value
     pub read_skips_a_value : (one : A) (n m : ℕ) → received_so_far new ≡ received_so_far old ++ n ∷ m ∷ []
         → HasFound tells (found.Told one) old new → ⊥
     read_skips_a_value one n m both says = two_longer (received_so_far old) n m says.0 (sym both ∙ says.1)
 
-    -- it tells of the value what does not hold
+    -- `read` tells of the value what is not true of its number
     pub read_tells_of_another : (one : A) (n : ℕ) → ¬ tells n one → received_so_far new ≡ received_so_far old ++ n ∷ []
         → HasFound tells (found.Told one) old new → ⊥
     read_tells_of_another one n wrong came says =
         wrong (subst (λ m. tells m one) (same_last (received_so_far old) says.0 n (sym says.1 ∙ came)) says.2)
 
-    -- it answers the end where a value came
+    -- `read` answers the end where a value came
     pub read_ends_at_a_value : (n : ℕ) → received_so_far new ≡ received_so_far old ++ n ∷ [] → HasFound tells found.End old new → ⊥
     read_ends_at_a_value n came says = one_longer (received_so_far old) n (sym says ∙ came)
 
-    -- it answers the end before the end came
+    -- `read` answers the end before the end came
     pub read_ends_before_the_end : is_at_end new ≡ false → is_at_end new ≡ is_end {A = A} found.End → ⊥
     read_ends_before_the_end more says = true≢false (sym says ∙ more)
 
-    -- it says of a value that it was not read, and received none, or another one
+    -- `read` answers that a value was not read, and received none
     pub read_leaves_out_what_did_not_come : (n : ℕ) → received_so_far new ≡ received_so_far old → HasFound tells (found.Unread n) old new → ⊥
     read_leaves_out_what_did_not_come n none says = one_longer (received_so_far old) n (sym none ∙ says)
 
@@ -116,7 +116,7 @@ module _ {X K : Type 0} {rule : Ghosts K X} where
 
     -- ---- `read_all`
 
-    -- it drops what is told of a value, or says nothing of one that it did not read
+    -- `read_all` drops what was told of a value
     pub read_all_drops_a_value : (before : List A) (n : ℕ) → received_so_far new ≡ received_so_far old ++ n ∷ []
         → HasRead tells [] before before old new → ⊥
     read_all_drops_a_value before n came says =
@@ -131,7 +131,7 @@ module _ {X K : Type 0} {rule : Ghosts K X} where
 
 -- ---- `finish_waiting` and `join`
 
--- it writes no end
+-- `finish_waiting` sends no end
 pub finish_writes_no_end : (s : Sent) → has_finished s ≡ false → has_finished s ≡ true → ⊥
 finish_writes_no_end s none says = true≢false (sym says ∙ none)
 

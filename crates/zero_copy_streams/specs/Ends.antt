@@ -1,4 +1,5 @@
--- What clauses see of the ends of a stream.
+-- What clauses see of the ends of a stream: which numbers a sender has sent and a receiver has received,
+-- whether the end came, and what was told of the values that were read.
 use Rattle.std.specs.Prelude.{◌≡◌, ℕ, Bool, true, false, Option, Some, None, Result, Err, List, [], ◌∷◌, ◌++◌}
 use Rattle.lock_free_queues.specs.Queues.Values.{QueueId}
 use Rattle.uses_streams.specs.Ends as streams
@@ -107,6 +108,7 @@ module _ {A : Type 0} where
     -- Values were received, and what was appended is told of them, one of each, in their order. Those of the numbers
     -- here came last, and nothing is told of them.
     pub record HasRead (rest : List ℕ) (before after : List A) (old new : Receiver X K rule) : Type 0 where
+      -- the numbers of the values of which something was told
       pub numbers : List ℕ
       pub told : List A
       pub received : received_so_far new ≡ received_so_far old ++ (numbers ++ rest)

@@ -1,4 +1,4 @@
-//! The end that receives.
+//! The end of a stream that receives: it reads each value where it lies, and gives its slot back.
 ghost use Rattle.std.specs.Prelude.{◌≡◌, true, IfSome, OnOk};
 ghost use Rattle.uses_streams.specs.Ends as streams;
 ghost use Rattle.zero_copy_streams.specs.Ends.{receiver_queue, received_queue, received_so_far, received, is_at_end, has_ended};
@@ -10,19 +10,19 @@ use uses_streams::ends::{self, Arrival};
 use zero_copy_loans::receiver::Reads;
 use zero_copy_slots::{Anything, Keeps, Slots};
 
-/// The end that receives.
+/// The end that receives. It receives tickets by one stream, and gives slots back by another.
 pub struct Receiver<'a, X: Drop, K: Keeps<X> = Anything> {
     tickets: ends::Receiver<'a, Ticket>,
     places: ends::Sender<'a, u32>,
     slots: &'a Slots<X, K>,
 }
 
-/// What a receiver leaves.
+/// What a receiver that has ended leaves, for `Sent::join`.
 pub struct Received {
     tickets: ends::Received<Ticket>,
 }
 
-/// What a receiver finds.
+/// What a receiver finds next: a value, or the end of the stream.
 #[derive(Debug, Drop, PartialEq, Eq)]
 pub enum Found<A> {
     /// What is told of the next value.
@@ -62,7 +62,7 @@ impl Received {
 impl<'a, X: Drop, K: Keeps<X>> Receiver<'a, X, K> {
     ghost use Rattle.zero_copy_streams.specs.Ends.{HasFound, HasLooked, HasRead, IsOf, is_end, unread};
 
-    /// A receiver of these tickets.
+    /// A receiver of the stream whose tickets come through `tickets`.
     pub(crate) fn of(
         tickets: ends::Receiver<'a, Ticket>,
         places: ends::Sender<'a, u32>,
@@ -77,8 +77,8 @@ impl<'a, X: Drop, K: Keeps<X>> Receiver<'a, X, K> {
         }
     }
 
-    /// What is told of the value of a ticket, where it lies. None where another lies there or none can be read, or where nothing is
-    /// told.
+    /// What the reader tells of a ticket's value, which it reads where it lies. None where the slot has a
+    /// value of another number or cannot be read, or where the reader tells nothing.
     fn tell<A: Drop, R: Reads<X, K, A>>(&self, ticket: Ticket, reader: &mut R) -> Option<A>
         ensures { IfSome result (R.tells ticket.0) }
     {
@@ -119,7 +119,8 @@ impl<'a, X: Drop, K: Keeps<X>> Receiver<'a, X, K> {
         }
     }
 
-    /// The same as soon as a value or the end is there. Where none comes it waits for good.
+    /// Reads the next value as `read` does, as soon as a value or the end is there. Where none
+    /// comes it waits for good.
     pub fn read_waiting<A: Drop, R: Reads<X, K, A>>(
         &mut self,
         rt: &impl Wait,

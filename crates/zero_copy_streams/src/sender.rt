@@ -19,14 +19,14 @@ pub struct Sender<'a, X: Drop, K: Keeps<X> = Anything> {
     places: ends::Receiver<'a, u32>,
     slots: &'a Slots<X, K>,
     spares: Vec<X>,
-    // a slot that is free and not sent, and how many were used at all
+    // a slot that is free and not sent, and how many slots were used so far
     free: Option<u32>,
     used: u32,
     next: u64,
     ghost numbered: { numbers_of (streams.sent_so_far tickets) ≡ range_with_len 0 next },
 }
 
-/// What a sender leaves.
+/// What a sender that has ended leaves, to be joined with what its receiver leaves.
 pub struct Sent {
     tickets: ends::Sent<Ticket>,
 }
@@ -51,7 +51,7 @@ impl Drop for Sent {
     }
 }
 
-/// Keeps what lay in a slot, if anything did, to be written again.
+/// Keeps the value that lay in a slot, if one did, among the values to write.
 fn keep<X: Drop>(spares: &mut Vec<X>, before: Option<(u64, X)>) {
     if let Some((_, value)) = before {
         let _ = spares.push(value);
@@ -171,8 +171,8 @@ impl<'a, X: Drop, K: Keeps<X>> Sender<'a, X, K> {
         }
     }
 
-    /// The same as soon as a slot is free, so never `NoSlot` (by no clause). It waits for good where no slot comes back and no end
-    /// of the receiver.
+    /// Sends as `send` does, as soon as a slot is free, so it is never refused by `NoSlot` (by no clause). It
+    /// waits for good where neither a slot nor the receiver's end comes back.
     pub fn send_waiting(
         &mut self,
         rt: &impl Wait,
@@ -193,8 +193,8 @@ impl<'a, X: Drop, K: Keeps<X>> Sender<'a, X, K> {
         unreachable!()
     }
 
-    /// Sends so many values, each as soon as a slot is free. Where one is refused, those before it are sent (how many, `next_number`
-    /// says), and a later call can go on. This project's own.
+    /// Sends `count` values, each as soon as a slot is free. If one is refused, the values before it are sent
+    /// (`next_number` says how many), and a later call can go on. This project's own.
     pub fn send_each(
         &mut self,
         rt: &impl Wait,
@@ -238,8 +238,9 @@ impl<'a, X: Drop, K: Keeps<X>> Sender<'a, X, K> {
 impl Sent {
     ghost use Rattle.zero_copy_streams.specs.Ends.{sent_queue, received_queue, sent, received, has_finished, has_ended};
 
-    /// Brings both ends together, for a caller's proof. What was received are the first of the numbers that were sent, in order. Where
-    /// the end came these are all, and the sender had finished. At most two atomic steps (by no clause).
+    /// Brings both ends together, for a caller's proof. The numbers that were received are the first of those
+    /// that were sent, in order. If the end came, they are all of them, and the sender had finished. At most
+    /// two atomic steps (by no clause).
     pub fn join(self, other: Received)
         requires { received_queue other ≡ sent_queue self }
         ensures beginning { received other ≡ take (length (received other)) (sent self) }

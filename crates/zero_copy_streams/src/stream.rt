@@ -1,4 +1,4 @@
-//! What both ends of a stream share.
+//! A stream (`Stream`): its slots and its two queues, which both ends share, and how the ends are made.
 ghost use Rattle.std.specs.Prelude.{◌≡◌, [], false, IfOk, IfSome};
 ghost use Rattle.zero_copy_streams.specs.Ends.{sender_queue, receiver_queue, next_of, sent_so_far, received_so_far, is_at_end};
 
@@ -63,8 +63,8 @@ impl Passes {
 impl<X: Drop, const CAPACITY: usize, K: Keeps<X>> Stream<X, CAPACITY, K> {
     ghost use Rattle.zero_copy_streams.specs.Streams.{slots_of, tickets_of, ArePassesOf};
 
-    /// A stream with so many slots, each empty, and its passes. Refused are a CAPACITY above 2^32 - 1 and memory. No atomic step.
-    /// This project's own.
+    /// A stream with `slots` empty slots, and the first passes of its queues. Refused are a CAPACITY above
+    /// 2^32 - 1 and memory. No atomic step. This project's own.
     pub fn new(
         alloc: Global,
         slots: u32,

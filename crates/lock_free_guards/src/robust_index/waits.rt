@@ -16,9 +16,9 @@ use std::thread;
 use steps::indices::enums::UniqueIndexSetAcquireFailure;
 
 impl<'a, R: Wait> RobustIndex<'a, R> {
-    /// Takes an index for `owner` as soon as it finds one free. The pass comes back alone only where a try saw the set
-    /// locked. Where none is free, none is given back and nobody locks the set, it waits for good, and so it does
-    /// where the generation counter is at its end.
+    /// Takes an index for `owner` as soon as it finds one free. The pass comes back alone only where a try
+    /// saw the set locked. Where none is free, none is given back and nobody locks the set, it waits for
+    /// good. It also waits for good where the generation counter is at its end.
     ///
     /// For each try, the atomic steps of `acquire` (by no clause).
     pub fn acquire_waiting(
@@ -52,9 +52,9 @@ impl<'a, R: Wait> RobustIndex<'a, R> {
         unreachable!()
     }
 
-    /// Takes an index for `owner` by at most so many tries, of which it makes one in any case. Else the pass comes back
-    /// with what the last try found: `OutOfIndices` where so many tries found none left, or `IsLocked` where that one
-    /// saw the set locked.
+    /// Takes an index for `owner` by at most `tries` tries, and by one if `tries` is 0. Else the pass comes
+    /// back with what the last try found: `OutOfIndices` where each try found none left, or `IsLocked` where
+    /// the last one saw the set locked.
     ///
     /// For each try, the atomic steps of `acquire` (by no clause).
     pub fn acquire_within(
@@ -77,7 +77,7 @@ impl<'a, R: Wait> RobustIndex<'a, R> {
             (view pass) (view r.1)) }
         ensures unlocked { IfErr result (λ r. r.0 ≡ Out → is_locked (history pass) ≡ false) }
     {
-        // The last try is made behind the loop.
+        // The last try is made behind the loop, so that there is one try even if `tries` is 0.
         for _ in 0..tries.saturating_sub(1) {
             match RobustIndex::acquire(rt, set, pass, owner) {
                 Ok(index) => return Ok(index),

@@ -24,7 +24,7 @@ use Rattle.lock_free_sets.specs.Unique.Held.{times}
 use Rattle.lock_free_sets.proofs.Unique.Holding.{given_moves, times_both, times_one}
 use Rattle.lock_free_sets.proofs.Bits.Cleared.{range_more}
 
--- one more, behind the others
+-- one further number, behind those with which `Does` held in turn
 pub in_turn_more : (Does : ℕ → View ℕ → View ℕ → Type 0) (xs : List ℕ) (x : ℕ) (old now new : View ℕ)
     → InTurn Does xs old now → Does x now new → InTurn Does (xs ++ x ∷ []) old new
 in_turn_more Does [] x old now new same does = (new, subst (λ v. Does x v new) same does, refl)
@@ -78,6 +78,7 @@ freed_in_turn (x ∷ xs) old new each i =
 
 -- ---- a value that came back
 
+-- A number behind the table is no sent index.
 pub past_the_end : (ps : List Place) (y : ℕ) → length ps ≤ y → is_sent (place_at ps y) ≡ false
 past_the_end [] y h = refl
 past_the_end (p ∷ ps) zero h = absurd (omega arith)
@@ -85,22 +86,24 @@ past_the_end (p ∷ ps) (suc y) h = past_the_end ps y (omega arith)
 
 -- ps is the table, y the value that came back; v and w are what the pass knew before that and after it
 module _ (ps : List Place) (y : ℕ) (v w : View ℕ) where
+  -- A value that is no sent index frees none.
   pub frees_none : is_sent (place_at ps y) ≡ false → w ≡ v → InTurn HasFreed (sent_back y ps) v w
   frees_none off same =
       subst (λ is. InTurn HasFreed is v w) (sym (ap (λ b. if b then y ∷ [] else []) off)) same
 
+  -- A value that is a sent index frees this index.
   pub frees_it : is_sent (place_at ps y) ≡ true → HasFreed y v w → InTurn HasFreed (sent_back y ps) v w
   frees_it on freed =
       subst (λ is. InTurn HasFreed is v w) (sym (ap (λ b. if b then y ∷ [] else []) on)) (w, freed, refl)
 
 -- ---- all that were sent
 
--- those of them below i
+-- The indices below i whose places in the table are sent.
 abbrev pub sent_below : ℕ → List Place → List ℕ
 sent_below i ps = filter (λ j. is_sent (place_at ps j)) (range_with_len 0 i)
 
 module _ (ps : List Place) (i : ℕ) where
-  -- the indices below the next one that were sent are those below this one, and this one if it was sent
+  -- the indices below i + 1 that were sent are those below i, and i if it was sent
   next : sent_below (i + 1) ps ≡ sent_below i ps ++ cond (is_sent (place_at ps i)) (i ∷ []) []
   next =
       let same : 0 + i ≡ i = omega arith in
@@ -126,7 +129,8 @@ module _ (ps : List Place) (i : ℕ) where
 
 -- ---- a queue that is emptied
 
--- the pops so far
+-- what the pops so far leave of the guard's view: its share, a view that goes on, and
+-- which numbers were popped
 pub record Popping (old now : View ℕ) : Type 0 where
   pub share : now.share ≡ old.share
   pub since : IsBeginning old.seen now.seen
@@ -135,6 +139,7 @@ pub record Popping (old now : View ℕ) : Type 0 where
   pub popped : InTurn HasPoppedOne numbers old now
   pub aside : now.aside ≤ old.aside + length numbers
 
+-- Before the first pop nothing was popped.
 pub pops_none : (v : View ℕ) → Popping v v
 pops_none v =
     record { share = refl; since = itself v.seen; first = first_all v.turns; numbers = []; popped = refl; aside = omega arith }
@@ -179,6 +184,7 @@ module _ (old now new : View ℕ) (before : Popping old now) where
       }
   is_emptied (Some x) none is on popped found once = absurd (true≢false (is ∙ ap not on))
 
+-- What was seen before pops in turn is the beginning of what is seen behind them.
 in_turn_since : (xs : List ℕ) (old new : View ℕ) → InTurn HasPoppedOne xs old new → IsBeginning old.seen new.seen
 in_turn_since [] old new same = subst (λ (v : View ℕ). IsBeginning old.seen v.seen) (sym same) (itself old.seen)
 in_turn_since (x ∷ xs) old new each =
@@ -197,6 +203,7 @@ emptied_once old new emptied =
       empty = found.empty;
     }
 
+-- A pop that met an empty queue found none.
 pub none_waited : (answer : Option ℕ) (v w : View ℕ) → IfNone answer (WasEmpty v w) → IfNone answer (FoundNone v w)
 none_waited None v w e = record { by = e.by; before = e.before; after = e.after; is = e.is; since = e.since; empty = e.empty }
 none_waited (Some x) v w e = e

@@ -17,14 +17,15 @@ use Rattle.history.proofs.OneRun.{first_all, first_further}
 use Rattle.lock_free_sets.specs.Driven.{HasMade}
 use Rattle.lock_free_loans.specs.Loan.Contracts.{InTurn, HasFreed, HasFreedInRun}
 
--- these are the begin and the end of such a call
+-- the begin of a release of this index by this party, and below its end
 abbrev starts_so : ℕ → ℕ → Event ℕ
 starts_so by index = Begun by (Indices (Release index modes.Default))
 
+-- The end of that release, with the answer Unlocked.
 abbrev ends_so : ℕ → ℕ → Event ℕ
 ends_so by index = Finished by (Indices (Release index modes.Default)) (State Unlocked)
 
--- the two differ in the run that they know at most
+-- The views differ at most in the run that their passes know.
 record AreAlike (v w : View ℕ) : Type 0 where
   pub seen : w.seen ≡ v.seen
   pub made : w.made ≡ v.made
@@ -32,6 +33,7 @@ record AreAlike (v w : View ℕ) : Type 0 where
   pub share : w.share ≡ v.share
   pub aside : w.aside ≡ v.aside
 
+-- A view differs from itself in nothing.
 alike : (v : View ℕ) → AreAlike v v
 alike v = record { seen = refl; made = refl; party = refl; share = refl; aside = refl }
 
@@ -50,6 +52,8 @@ module _ {old old' new new' : View ℕ} (a : AreAlike old old') (b : AreAlike ne
         made = b.made ∙ (h.made ∙ ap (λ es. es ++ Begun p start ∷ (wrote ++ Finished p start answer ∷ [])) (sym a.made));
       }
 
+  -- A call of the history between two views is one between views that differ from them at
+  -- most in the known run.
   made_alike : (start : Start ℕ) (answer : Answer ℕ) (wrote : ℕ → List (Event ℕ)) → HasMade start answer wrote old new → HasMade start answer wrote old' new'
   made_alike start answer wrote has_made =
       record { by = has_made.by; mine = b.party ∙ has_made.mine; called = called_alike has_made.by start answer (wrote has_made.by) has_made.called }
@@ -80,15 +84,18 @@ module _ {old old' new new' : View ℕ} (a : AreAlike old old') (b : AreAlike ne
           let one = length-append (old.seen ++ c.others) (starts_so freed.given.by index ∷ (c.during ++ ends_so freed.given.by index ∷ [])) in
           omega (arith, ap length a.seen, length-append old.seen c.others)
 
+-- What was seen before frees in turn is the beginning of what is seen behind them.
 begins_in_turn : (is : List ℕ) (old new : View ℕ) → InTurn HasFreed is old new → IsBeginning old.seen new.seen
 begins_in_turn [] old new same = subst (λ (v : View ℕ). IsBeginning old.seen v.seen) (sym same) (itself old.seen)
 begins_in_turn (x ∷ xs) old new each = begins_further old.seen each.0.seen new.seen each.1.goes.since (begins_in_turn xs each.0 new each.2)
 
--- it has seen the end of the call last
+-- What a pass that has freed the index x saw last is the end of that release.
 module _ (x : ℕ) (old new : View ℕ) (h : HasFreed x old new) where
+  -- What was seen until the end of the release.
   abbrev until_end : List (Event ℕ)
   until_end = (old.seen ++ h.given.called.others) ++ starts_so h.given.by x ∷ h.given.called.during
 
+  -- Behind it the pass saw just that end.
   seen_is : new.seen ≡ until_end ++ ends_so h.given.by x ∷ []
   seen_is = h.given.called.is
       ∙ sym (append_assoc (old.seen ++ h.given.called.others) (starts_so h.given.by x ∷ h.given.called.during) (ends_so h.given.by x ∷ []))
@@ -112,11 +119,13 @@ module _ (capacity : ℕ) where
         from_there y ys each.0 now new alike_now each.2 k.1 k.2 after,
       )
 
+-- The run that is known before frees in turn is the first part of the one known behind them.
 first_in_turn : (is : List ℕ) (old new : View ℕ) → InTurn HasFreed is old new → AreFirst old.turns new.turns
 first_in_turn [] old new same = subst (λ (v : View ℕ). AreFirst old.turns v.turns) (sym same) (first_all old.turns)
 first_in_turn (x ∷ xs) old new each = first_further old.turns each.0.turns new.turns each.1.goes.first (first_in_turn xs each.0 new each.2)
 
--- the pass knew all of it
+-- If the pass knows a run before the indices are freed in turn, and one at the end, it knew the run up
+-- to each of these releases when that release ended.
 pub known_in_turn : (is : List ℕ) (capacity : ℕ) (old new : View ℕ) → InTurn HasFreed is old new
     → Knows one_word kinds.Indices capacity old → Knows one_word kinds.Indices capacity new → InTurn (HasFreedInRun capacity) is old new
 known_in_turn [] capacity old new same before after = same

@@ -14,8 +14,8 @@ use Rattle.lock_free_loans.specs.Loan.Contracts.{InTurn, HasFreed, HasEmptied, a
 
 -- ---- what a call keeps
 
--- What a loan keeps, and the call by which a loaned index is given up:
--- it is a call on the set, and the queues stay as they were.
+-- What a loan keeps, and also a give-up of a loaned index. Both are calls on the set, and the queues
+-- stay as they were.
 pub record LoanKeeps (old new : LoanSender) : Type 0 where
   -- its pass on the set goes on
   pub goes : Goes (pass_view old) (pass_view new)
@@ -27,7 +27,7 @@ pub record LoanKeeps (old new : LoanSender) : Type 0 where
   pub aside : IsAsideOnce old new
   pub share : share_of new ≡ share_of old
 
--- what stays where a value that came back is settled, which need not be a call on the set
+-- what `settle` keeps, by which a value that came back may free an index; it need not be a call on the set
 pub record SettleKeeps (old new : LoanSender) : Type 0 where
   -- what it knows of its queues stays
   pub queues : KeepsQueues old new
@@ -89,7 +89,7 @@ pub record SendDone (index : ℕ) (old new : LoanSender) : Type 0 where
   pub kept : pass_view new ≡ pass_view old
   pub added : PushAdded index (submission_view old) (submission_view new)
 
--- the push of a send handed a value back, which is free where it is an index that was sent
+-- The push of a send handed a value back. If this value is an index that was sent, the index is free.
 pub record SendHandedBack (index value : ℕ) (old new : LoanSender) : Type 0 where
   pub back : places_of new ≡ returned value (slice_set (places_of old) index Sent)
   pub freed : InTurn HasFreed (sent_back value (slice_set (places_of old) index Sent)) (pass_view old) (pass_view new)
@@ -97,7 +97,8 @@ pub record SendHandedBack (index value : ℕ) (old new : LoanSender) : Type 0 wh
 
 -- ---- take back
 
--- a take-back took the oldest value that was given back; where that is an index that was sent, it is free
+-- A take-back took the oldest value that was given back. If this value is an index that was sent, the
+-- index is free.
 pub record TakeBackDone (value : ℕ) (old new : LoanSender) : Type 0 where
   pub back : places_of new ≡ returned value (places_of old)
   pub popped : PopDone (Index value) (completion_view old) (completion_view new)
@@ -111,7 +112,8 @@ pub record TakeBackNone (old new : LoanSender) : Type 0 where
 
 -- ---- reclaim
 
--- a reclaim: so many indices that were sent are free, and what was given back is out of its queue
+-- a reclaim: the `count` indices that were sent are free, and what was given back is out of the
+-- completion queue
 pub record ReclaimDone (count : ℕ) (old new : LoanSender) : Type 0 where
   -- no index is sent any more
   pub places : places_of new ≡ map reclaimed (places_of old)

@@ -13,7 +13,7 @@ use Rattle.lock_free_sets.specs.Unique.Contracts.{HasGiven}
 use Rattle.lock_free_loans.specs.declared.spsc.loan.places.Place.{Place}
 use Rattle.lock_free_loans.specs.Loan.Places.{is_sent, place_at}
 
--- this was done with each number of the list, one after another, and nothing else
+-- `Does` held of each number of the list in turn, from one view to the next, and nothing else was done
 abbrev pub InTurn : (ℕ → View ℕ → View ℕ → Type 0) → List ℕ → View ℕ → View ℕ → Type 0
 InTurn Does [] old new = new ≡ old
 InTurn Does (x ∷ xs) old new = (between : View ℕ) × Does x old between × InTurn Does xs between new
@@ -27,8 +27,8 @@ pub record HasFreed (index : ℕ) (old new : View ℕ) : Type 0 where
   -- at most one operation was no step of a call
   pub aside : new.aside ≤ old.aside + 1
 
--- An index was freed, and what the pass knew then is a run. Of several that are freed in turn this is a law of the pass
--- that has freed them, since nobody else sees the pass between two of them.
+-- An index was freed, and what the pass knew then is a run. Of several indices that a pass frees in
+-- turn this is a law (`frees_are_known`), since nobody else sees the pass between two of the frees.
 pub record HasFreedInRun (capacity index : ℕ) (old new : View ℕ) : Type 0 where
   pub given : HasGiven index Unlocked old new
   pub goes : Goes old new
@@ -41,7 +41,7 @@ pub record HasFreedInRun (capacity index : ℕ) (old new : View ℕ) : Type 0 wh
 abbrev pub all_sent : List Place → List ℕ
 all_sent ps = filter (λ i. is_sent (place_at ps i)) (range_with_len 0 (length ps))
 
--- the index that a value which came back names, if that was sent
+-- the list of the index that the value `y` names if that index is sent, else the empty list
 abbrev pub sent_back : ℕ → List Place → List ℕ
 sent_back y ps = if is_sent (place_at ps y) then y ∷ [] else []
 
@@ -51,7 +51,7 @@ sent_back y ps = if is_sent (place_at ps y) then y ∷ [] else []
 abbrev pub HasPoppedOne : ℕ → View ℕ → View ℕ → Type 0
 HasPoppedOne number old new = HasPopped (Some (Index number)) old new
 
--- pops took out these numbers, and then one found none, as nothing waited
+-- pops took these numbers out, one after another, and then a pop found that nothing waited
 pub record HasEmptied (old new : View ℕ) : Type 0 where
   pub numbers : List ℕ
   pub last : View ℕ

@@ -17,21 +17,23 @@ is_sent Free = false
 is_sent Loaned = false
 is_sent Sent = true
 
--- where the sender has the index; what is past the end is free
+-- the place of an index in the table; an index past the end of the table is free
 abbrev pub place_at : List Place → ℕ → Place
 place_at ps i = slice_index_or ps i Free
 
--- the table once a value came back: an index that was sent is free, and any other value changes nothing
+-- the table after the value `y` came back: if the index that it names was sent, it is free; any other
+-- value changes nothing
 abbrev pub returned : ℕ → List Place → List Place
 returned y ps = if is_sent (place_at ps y) then slice_set ps y Free else ps
 
--- where an index is after a reclaim: all that were sent are free
+-- the place of an index after a reclaim: one that was sent is free
 abbrev pub reclaimed : Place → Place
 reclaimed Free = Free
 reclaimed Loaned = Loaned
 reclaimed Sent = Free
 
--- a pass holds exactly the indices that are loaned or sent, each once
+-- The table agrees with the pass that has this view: it has a place for each index below the capacity, and
+-- the pass holds exactly the indices that are loaned or sent, each once.
 pub record IsBookOf (v : View ℕ) (ps : List Place) : Type 0 where
   pub long : length ps ≡ v.capacity
   pub held : (i : ℕ) → sum_by (claims i) v.made

@@ -1,4 +1,4 @@
--- What each answer of a call with a handle means.
+-- What each answer of an add, a remove, a replace and a recovery of a container means.
 use Rattle.lock_free_owners.proofs.Names.{Coding, ContainerHandle, Err, IfErr, IfOk, Ok, OnOk, ReleaseMode, Removed, Replaced, View}
 use Rattle.lock_free_owners.specs.declared.mpmc.container.Container.{Container}
 use Rattle.lock_free_owners.specs.Container.Calls.{given_back, put_at, RemoveDone, RemoveRefused, ReplaceDone, ReplaceRefused}

@@ -19,13 +19,16 @@ by_word = record { by = Word; kept = false }
 -- ---- what events count
 
 module _ {T : Type 0} where
+  -- A count of changes, with those of one event more.
   abbrev adds_in : ℕ → Event T → ℕ
   adds_in n e = n + change_in e
 
+  -- The count of changes never goes down.
   changes_grow : (n : ℕ) (es : List (Event T)) → n ≤ fold adds_in n es
   changes_grow n [] = omega arith
   changes_grow n (e ∷ es) = let rest = changes_grow (n + change_in e) es in omega arith
 
+  -- A beginning of the events has at most their changes.
   changes_fewer : (events es : List (Event T)) → changes_of events ≤ changes_of (events ++ es)
   changes_fewer events es =
       subst (λ n. changes_of events ≤ n) (sym (fold-append adds_in 0 events es)) (changes_grow (changes_of events) es)
@@ -33,12 +36,15 @@ module _ {T : Type 0} where
 -- ---- every run
 
 module _ {T : Type 0} where
+  -- fewer changes were counted than make the number of changes wrap
   abbrev pub Few : Trace T → Type 0
   Few t = changes_of t.events < 2 ^ 64 - 1
 
+  -- If the changes are few after a turn they were few before it.
   pub fewer : (t : Trace T) (turn : Turn T) → Few (after_turn t turn) → Few t
   fewer t turn few = let grow = changes_fewer t.events (events_of t.world turn) in omega arith
 
+  -- After a turn the number of changes still counts them, where they are few.
   pub counts_after : (t : Trace T) (is : t.world.kind ≡ kinds.Container) (r : IsReachedOpen t) (few : Few t)
       → CountsChanges t → (turn : Turn T) → open_refusal t.world turn ≡ None → CountsChanges (after_turn t turn)
   counts_after t is r few h turn free = counting.turn_counts by_word t (reached_open_sound t is r) few h turn (allowed_open t.world turn free)

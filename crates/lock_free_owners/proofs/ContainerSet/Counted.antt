@@ -1,4 +1,4 @@
--- A step performs one operation at most, which its view counts.
+-- A step of a call asks for one operation at most, which the view counts.
 use Rattle.lock_free_owners.proofs.Names.{ℕ, ◌+◌, ◌≤◌, arith, Me, Owes}
 use Rattle.atomic_table.specs.Table.{State}
 use Rattle.steps.specs.declared.ask.Want.{Want}

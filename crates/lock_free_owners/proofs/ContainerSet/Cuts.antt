@@ -1,4 +1,5 @@
--- Up to the end of a call what a pass of a container knows is a run too: a turn writes the end of a call last.
+-- What a pass of a container knows up to the end of a call is a run too (`ended_run`): a turn that
+-- writes the end of a call writes it last.
 use Rattle.std.specs.List.{AllByRecursion}
 use Rattle.lock_free_owners.proofs.Names.{◌≡◌, ◌⊎◌, ⊎_elim, inl, inr, ℕ, Bool, true, false, true≢false, Option, Some, None}
 use Rattle.lock_free_owners.proofs.Names.{List, [], ◌∷◌, ◌++◌, refl, sym, ap, subst, ◌∙◌, append_assoc, append-nil, arith}
@@ -27,27 +28,34 @@ use Rattle.lock_free_owners.specs.Container.Ends.{RanTo}
 module _ {T : Type 0} where
   -- ---- what a step writes ends no call
 
+  -- The event is the end of a call.
   abbrev is_end : Event T → Bool
   is_end (Finished p start answer) = true
   is_end e = false
 
+  -- the event is no end of a call
   abbrev NotEnd : Event T → Type 0
   NotEnd e = is_end e ≡ false
 
+  -- none of these events is the end of a call
   abbrev NoEnds : List (Event T) → Type 0
   NoEnds es = AllByRecursion NotEnd es
 
+  -- Two lists of events without an end of a call have none together.
   both_none : (xs ys : List (Event T)) → NoEnds xs → NoEnds ys → NoEnds (xs ++ ys)
   both_none [] ys a b = b
   both_none (x ∷ xs) ys a b = (a.0, both_none xs ys a.1 b)
 
+  -- What a step of a container's call does writes no end of a call.
   effects_none : (code : Coding T) (p : ℕ) (state : Option (ContainerState T)) (flight : ContainerFlight T) (old : ℕ)
       → NoEnds (effects code p state flight old)
   effects_none code p state flight old = grind arith
 
+  -- What a question writes is no end of a call.
   questions_none : (p : ℕ) (flight : ContainerFlight T) (old : ℕ) → NoEnds (questions p flight old)
   questions_none p flight old = grind arith
 
+  -- A step writes no end of a call. The end itself comes behind what the step writes.
   step_none : (code : Coding T) (words : List ℕ) (beside : Option (ℕ × ℕ)) (p : ℕ) (start : Start T) (flight : Flight T) (old : ℕ)
       (dead : List ℕ) (states : List (ℕ × ContainerState T))
       → NoEnds (step_of code words beside p start flight old (registries.Container dead states)).wrote
@@ -55,19 +63,23 @@ module _ {T : Type 0} where
 
   -- ---- so a turn writes it last
 
+  -- the list has one event at most
   abbrev IsShort : List (Event T) → Type 0
   IsShort [] = Unit {0}
   IsShort (x ∷ []) = Unit {0}
   IsShort (x ∷ (y ∷ ys)) = ⊥
 
+  -- A call that goes on or ends has one end at most.
   ending_short : (p : ℕ) (start : Start T) (o : Option (Answer T)) → IsShort (ending_of p start o)
   ending_short p start None = tt
   ending_short p start (Some answer) = tt
 
+  -- The empty list has no element.
   no_more : {A : Type 0} (e : Event T) (pre post : List (Event T)) → [] ≡ pre ++ e ∷ post → A
   no_more e [] post is = absurd (cc)
   no_more e (x ∷ pre) post is = absurd (cc)
 
+  -- in a list of one event at most nothing stands behind an event
   short_last : (last : List (Event T)) → IsShort last → (e : Event T) (pre post : List (Event T)) → last ≡ pre ++ e ∷ post → post ≡ []
   short_last [] short e pre post is = no_more e pre post is
   short_last (x ∷ []) short e [] post is = (let none : [] ≡ post = cc in sym none)
@@ -87,6 +99,7 @@ module _ {T : Type 0} where
       ends_last ws last none.1 short e end pre post rest
 
 module _ {T : Type 0} (code : Coding T) (capacity : ℕ) where
+  -- the machine is one that a container's table can be
   abbrev IsOn : Trace T → Type 0
   IsOn t = IsRun code kinds.Container capacity t
 
@@ -105,14 +118,17 @@ module _ {T : Type 0} (code : Coding T) (capacity : ℕ) where
         (step_none t.world.coding t.world.words beside p x.start flight old there.0 there.1) in
         ends_last s.wrote _ none (ending_short p x.start _) e end pre post is
 
+    -- The end of a call is the last event of a party's step.
     party_last : (p : ℕ) (o : Option (Party T)) → party_of p t.world.latest ≡ o → events_of t.world (Next p) ≡ pre ++ e ∷ post → post ≡ []
     party_last p None found is = no_more e pre post (sym (ap (λ z. events_of_next t.world p z) found) ∙ is)
     party_last p (Some x) found is = step_last p x _ x.doing (sym (ap (λ z. events_of_next t.world p z) found) ∙ is)
 
+    -- The end of a call is the last event of an answer that a party hears.
     said_last : (p : ℕ) (said : Bool) (o : Option (Party T)) → party_of p t.world.latest ≡ o → events_of t.world (Decide p said) ≡ pre ++ e ∷ post → post ≡ []
     said_last p said None found is = no_more e pre post (sym (ap (λ z. events_of_decision t.world p said z) found) ∙ is)
     said_last p said (Some x) found is = step_last p x _ x.doing (sym (ap (λ z. events_of_decision t.world p said z) found) ∙ is)
 
+    -- nothing stands behind the end of a call in what one turn writes; the cases are the turns
     turn_last : (turn : Turn T) → events_of t.world turn ≡ pre ++ e ∷ post → post ≡ []
     turn_last (Begin p start) is = short_last _ tt e pre post is
     turn_last (Next p) is = party_last p (party_of p t.world.latest) refl is
@@ -121,17 +137,19 @@ module _ {T : Type 0} (code : Coding T) (capacity : ℕ) where
 
   -- ---- the turns up to it
 
+  -- Two lists behind the same beginning are equal if they make the same list with it.
   cancel : (xs ys zs : List (Event T)) → xs ++ ys ≡ xs ++ zs → ys ≡ zs
   cancel [] ys zs is = is
   cancel (x ∷ xs) ys zs is = (let rest : xs ++ ys ≡ xs ++ zs = cc in cancel xs ys zs rest)
 
+  -- further turns only add events
   events_more : (t : Trace T) (turns : List (Turn T)) → IsBeginning t.events (after_turns t turns).events
   events_more t [] = record { rest = []; is = sym (append-nil t.events) }
   events_more t (turn ∷ turns) =
       let on = events_more (after_turn t turn) turns in
       record { rest = events_of t.world turn ++ on.rest; is = on.is ∙ append_assoc t.events (events_of t.world turn) on.rest }
 
-  -- these end before this event, or write it
+  -- of two ways to split a list: the events `es` end before the event e, or e is one of them
   split_at : (es more pre : List (Event T)) (e : Event T) (rest : List (Event T)) → es ++ more ≡ pre ++ e ∷ rest
       → ((k : List (Event T)) × (pre ≡ es ++ k)) ⊎ ((post : List (Event T)) × (es ≡ pre ++ e ∷ post))
   split_at [] more pre e rest is = inl (pre, refl)
@@ -144,6 +162,7 @@ module _ {T : Type 0} (code : Coding T) (capacity : ℕ) where
       (λ (b : (post : List (Event T)) × (es ≡ pre ++ e ∷ post)). inr (b.0, ap (λ z. z ∷ es) here ∙ ap (λ zs. y ∷ zs) b.1))
       (split_at es more pre e rest tail)
 
+  -- the first of these turns lead from t to just these events
   abbrev Cut : Trace T → List (Turn T) → List (Event T) → Type 0
   Cut t turns seen = (first : List (Turn T)) × AreFirst first turns × ((after_turns t first).events ≡ seen)
 
@@ -159,11 +178,11 @@ module _ {T : Type 0} (code : Coding T) (capacity : ℕ) where
         ∙ (ap (λ xs. xs ++ e ∷ rest) begun.is ∙ append_assoc t.events begun.rest (e ∷ rest)))) in
         no_more e begun.rest rest (cancel t.events [] (begun.rest ++ e ∷ rest) whole)
 
+    -- If the cut lies behind this turn, it is the turn and then the cut of the further turns.
     later : (t : Trace T) (turn : Turn T) (turns : List (Turn T)) → Cut (after_turn t turn) turns (before ++ e ∷ []) → Cut t (turn ∷ turns) (before ++ e ∷ [])
     later t turn turns next = (turn ∷ next.0, record { rest = next.1.rest; is = ap (λ xs. turn ∷ xs) next.1.is }, next.2)
 
-    -- where a turn writes the end of the call, the turns up to this one lead to just the events up
-    -- to that end
+    -- If this turn writes the end of the call, the turns up to it lead to just the events up to that end.
     now : (t : Trace T) (turn : Turn T) (turns : List (Turn T)) → IsOn t → (begun : IsBeginning t.events before) → (post : List (Event T))
         → events_of t.world turn ≡ begun.rest ++ e ∷ post → Cut t (turn ∷ turns) (before ++ e ∷ [])
     now t turn turns run begun post writes =
@@ -180,6 +199,8 @@ module _ {T : Type 0} (code : Coding T) (capacity : ℕ) where
         → (after_turns t turns).events ≡ (before ++ e ∷ []) ++ rest → IsBeginning t.events before → Cut t turns (before ++ e ∷ [])
     cut_at t [] run allowed fresh is begun = cut_none t is begun
     cut_at t (turn ∷ turns) run allowed fresh is begun =
+        -- What the turn and the turns behind it write is what `before` has beyond the events of t, the
+        -- end, and the rest.
         let es = events_of t.world turn in
         let on = events_more (after_turn t turn) turns in
         let whole : t.events ++ (es ++ on.rest) ≡ t.events ++ (begun.rest ++ e ∷ rest) =
@@ -188,6 +209,7 @@ module _ {T : Type 0} (code : Coding T) (capacity : ℕ) where
         ∙ (is
         ∙ (append_assoc before (e ∷ []) rest
         ∙ (ap (λ xs. xs ++ e ∷ rest) begun.is ∙ append_assoc t.events begun.rest (e ∷ rest))))) in
+        -- The cases are whether the end stands behind the events of this turn or among them.
         ⊎_elim {C = Cut t (turn ∷ turns) (before ++ e ∷ [])}
         (λ (k : (k : List (Event T)) × (begun.rest ≡ es ++ k)).
         later t turn turns
@@ -201,19 +223,23 @@ module _ {T : Type 0} (code : Coding T) (capacity : ℕ) where
 
   -- ---- what is known of them
 
+  -- The first part of turns that are allowed is allowed.
   allowed_first : (t : Trace T) (xs ys : List (Turn T)) → AreAllowedBy (refusal_as kinds.Container) t (xs ++ ys)
       → AreAllowedBy (refusal_as kinds.Container) t xs
   allowed_first t [] ys h = tt
   allowed_first t (x ∷ xs) ys h = (h.0, allowed_first (after_turn t x) xs ys h.1)
 
+  -- The first part of fresh turns is fresh.
   fresh_first : (t : Trace T) (xs ys : List (Turn T)) → AreFresh t (xs ++ ys) → AreFresh t xs
   fresh_first t [] ys h = tt
   fresh_first t (x ∷ xs) ys h = (h.0, fresh_first (after_turn t x) xs ys h.1)
 
+  -- Turns taken in two parts lead to the same trace as all of them at once.
   after_both : (t : Trace T) (xs ys : List (Turn T)) → after_turns t (xs ++ ys) ≡ after_turns (after_turns t xs) ys
   after_both t [] ys = refl
   after_both t (x ∷ xs) ys = after_both (after_turn t x) xs ys
 
+  -- The machine of a container of this capacity as it opens.
   abbrev start : Trace T
   start = opening code kinds.Container capacity 0
 
@@ -279,7 +305,7 @@ module _ {T : Type 0} (code : Coding T) (capacity : ℕ) where
           since = goes_on;
         }
 
--- of the end of a call
+-- `ran_to` where the event is the end of a call: the pass knew the run up to that end.
 pub ended_run : {T : Type 0} (code : Coding T) (capacity : ℕ) (v : View T) → Knows code kinds.Container capacity v
     → (p : ℕ) (start : Start T) (answer : Answer T)
     (before rest : List (Event T)) → v.seen ≡ (before ++ Finished p start answer ∷ []) ++ rest → RanTo code capacity v before (Finished p start answer)

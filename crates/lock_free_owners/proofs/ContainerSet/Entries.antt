@@ -15,6 +15,7 @@ module _ {T : Type 0} where
   steps_on at zero (e ∷ es) = refl
   steps_on at (suc i) (e ∷ es) = steps_on at i es
 
+  -- an item among the first n of a list is that item of the list
   get_of_take : (n i : ℕ) (es : List (Element T)) → i < n → slice_get (take n es) i ≡ slice_get es i
   get_of_take zero i es below = absurd (omega arith)
   get_of_take (suc n) i [] below = refl
@@ -29,7 +30,8 @@ module _ {T : Type 0} where
   past_all at (suc n) (suc i) [] past = refl
   past_all at (suc n) (suc i) (e ∷ es) past = past_all at n i es (omega arith)
 
-  -- below the capacity
+  -- Below the capacity, the entries from an index on are the element there, if it shows a value, before
+  -- the entries from the next index on.
   entries_step : (state : ContainerState T) (index : ℕ) → index < state.capacity
       → entries_from state index
       ≡ shown_first (shown_at state.shown.elements index) index (entries_from state (index + 1))
@@ -47,13 +49,14 @@ module _ {T : Type 0} where
   entries_give state index value below shown =
       entries_step state index below ∙ ap (λ s. shown_first s index (entries_from state (index + 1))) shown
 
+  -- at an index that shows nothing, the entries from this index on are those from the next one on
   pub entries_pass : (state : ContainerState T) (index : ℕ) → index < state.capacity
       → shown_at state.shown.elements index ≡ None
       → entries_from state index ≡ entries_from state (index + 1)
   entries_pass state index below none =
       entries_step state index below ∙ ap (λ s. shown_first s index (entries_from state (index + 1))) none
 
-  -- from the capacity on there is none
+  -- From the capacity on, a state has no entries.
   pub entries_over : (state : ContainerState T) (index : ℕ) → state.capacity ≤ index → entries_from state index ≡ []
   entries_over state index past = past_all index state.capacity index state.shown.elements past
 
@@ -71,5 +74,6 @@ module _ {T : Type 0} where
       let rest = few (at + 1) n es in
       omega arith
 
+  -- A state has at most as many entries as its capacity.
   pub entries_few : (state : ContainerState T) → length (entries_of state) ≤ state.capacity
   entries_few state = few 0 state.capacity state.shown.elements

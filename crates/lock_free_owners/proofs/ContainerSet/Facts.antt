@@ -1,4 +1,5 @@
--- What is known of whole calls on a container.
+-- What contracts say of whole calls on a container, from what their driver knows once they have ended:
+-- what each call wrote, that its answer is right, and what it tells of the lock.
 use Rattle.lock_free_owners.proofs.Names.{Option, IfSome, ◌≡◌, ⊎_elim, ℕ, ◌<◌, ◌≤◌, ◌==◌, Bool, true, false}
 use Rattle.lock_free_owners.proofs.Names.{true≢false, Ok, Err, IfOk, OnOk, List, [], ◌∷◌, ◌++◌, refl, sym, ap, subst}
 use Rattle.lock_free_owners.proofs.Names.{◌∙◌, append_assoc, arith, Added, Removed, Replaced, Owned, Replacement}
@@ -37,29 +38,37 @@ module _ {T : Type 0} (code : Coding T) where
 
   module _ {C E : Type 0} (begins : ℕ → C → Type 0) (call : Calling T C (Unit {0}) E) (base w : View T) (e : E)
       (ends : CallEnds code begins call base e tt w) where
+    -- What the pass knew once its last call was settled, where this call began.
     abbrev from : View T
     from = ends.from
 
+    -- What the pass has seen behind the call is a history of the container.
     pub history_of : IsHistory code kinds.Container base.capacity w.seen
     history_of = began_history code base from ends.settled call w e tt ends.over
 
+    -- The call keeps the share.
     pub share_of : w.share ≡ base.share
     share_of = ends.over.share ∙ share_from code base from ends.settled
 
+    -- The call keeps the capacity that the pass knows.
     pub capacity_of : w.capacity ≡ base.capacity
     capacity_of = ends.over.capacity ∙ capacity_from code base from ends.settled
 
+    -- What the pass knows goes on from what it knew before the call.
     pub goes : Goes base w
     goes = ended_goes code base from ends.settled call w e tt ends.over
 
+    -- The call leaves at most one operation aside, and one more where the last call rested.
     pub few_aside : FewAside base w
     few_aside = ended_aside code base from ends.settled call w e tt ends.over
 
     module _ (leaves : LeavesState call) (by_same : (was : Option ℕ) (p : ℕ) → call.by was p → IfSome was (λ q. q ≡ p)) where
+      -- The call keeps the state that the pass has.
       pub keeps : KeepsState base w
       keeps = ended_keeps code base from ends.settled call w leaves by_same e tt ends.over
 
     module _ (start : ContainerStart T) (is_start : call.start ≡ Container start) (answer : Answer T) (is_answer : call.answer e tt ≡ answer) where
+      -- In the history it is a call with this begin and this answer.
       made_call : Called ends.over.party (Container start) answer ends.over.wrote from w
       made_call = ended_called code base from ends.settled call w e tt ends.over start is_start answer is_answer
 
@@ -77,22 +86,28 @@ module _ {T : Type 0} (code : Coding T) where
             called = made_call;
           }
 
+      -- The party of the call.
       abbrev p : ℕ
       p = ends.over.party
 
+      -- The begin of the call.
       abbrev begin : Event T
       begin = Begun p (Container start)
 
+      -- The end of the call.
       abbrev end : Event T
       end = Finished p (Container start) answer
 
+      -- The history behind the call is sound.
       sound : IsSound code base.capacity w.seen
       sound = sound_history code base.capacity w.seen history_of
 
+      -- What is seen behind the settled view goes on from what the pass had seen before.
       onward : (xs : List (Event T)) → IsBeginning base.seen (from.seen ++ xs)
       onward xs = later code base from ends.settled xs
 
-      -- what was so when it wrote this event
+      -- if the call wrote this event, what `Before` says of the history before it holds, and that
+      -- history goes on from what the pass had seen
       pub wrote_at : (event : ℕ → Event T) (first rest : List (Event T)) → ends.over.wrote ≡ first ++ event p ∷ rest → (Before : ℕ → List (Event T) → Type 0)
           → ((before after : List (Event T)) → w.seen ≡ before ++ event p ∷ after → Before p before) → WroteAt event Before base w
       wrote_at event first rest is Before held =
@@ -119,7 +134,7 @@ module _ {T : Type 0} (code : Coding T) where
       pub answered : AnsweredBy start answer base w
       answered = ended_answered code base from ends.settled call w e tt ends.over start is_start answer is_answer
 
-      -- at a moment of the call the lock was not there, nor before it
+      -- if the container was not locked at a moment of the call, the pass had not seen the lock before it
       pub open_since : HeldSometime p IsUnlocked answered.before → is_locked base.seen ≡ false
       unfolding answered made_call ended_answered
       open_since once =
@@ -127,6 +142,7 @@ module _ {T : Type 0} (code : Coding T) where
           let covered = covers p (Container start) c.during (from.seen ++ c.others) once.part once.rest once.is once.within in
           not_locked (begins_further _ _ _ (onward c.others) covered) once.held
 
+  -- what an answer speaks of is a beginning of what the pass has seen
   pub last_of : {start : ContainerStart T} {answer : Answer T} {Right : ℕ → List (Event T) → Type 0} {old new : View T}
       → (a : Answered start answer Right old new) → IsBeginning a.before new.seen
   last_of {start} {answer} a = record { rest = Finished a.by (Container start) answer ∷ []; is = a.is }
@@ -134,16 +150,20 @@ module _ {T : Type 0} (code : Coding T) where
   -- ---- looks
 
   module _ (base w : View T) (b : Bool) (ends : LockEnds code base b tt w) where
+    -- A call of `is_locked` that has ended is a call of the history.
     pub looked : HasLooked b base w
     looked = made BeginsLock sees_lock base w b ends IsLocked refl (Truth b) refl (λ by es. es ≡ []) ends.over.tells
 
+    -- Its answer is right by what came before its end.
     pub looked_answered : IsRightLook b base w
     looked_answered = answered BeginsLock sees_lock base w b ends IsLocked refl (Truth b) refl
 
+  -- A right answer true has seen the lock. With a right answer false no lock was seen before the call.
   looked_so : (base w : View T) (b : Bool) → IsRightLook b base w → FoundLock b base w
   looked_so base w true a = lock_stays (last_of a) (sym a.right)
   looked_so base w false a = not_locked a.since (sym a.right)
 
+  -- A call of `is_locked` found the lock as its answer says.
   pub looked_lock : (base w : View T) (b : Bool) → LockEnds code base b tt w → FoundLock b base w
   looked_lock base w b ends = looked_so base w b (looked_answered base w b ends)
 
@@ -151,12 +171,15 @@ module _ {T : Type 0} (code : Coding T) where
 
   module _ (base w : View T) (n : ℕ) where
     module _ (ends : CountEnds code counts.Len base n tt w) where
+      -- A call of `len` that has ended is a call of the history.
       pub counted : HasCounted n base w
       counted = made BeginsCount (counts_values counts.Len) base w n ends Len refl (Number n) refl (λ by es. es ≡ []) ends.over.tells
 
+      -- The number of `len` is right by what came before its end.
       pub counted_answered : IsRightLength n base w
       counted_answered = answered BeginsCount (counts_values counts.Len) base w n ends Len refl (Number n) refl
 
+      -- a count of the indices that have an owner is at most the capacity
       pub counted_most : n ≤ base.capacity
       counted_most = go (is_locked counted_answered.before) refl
         where
@@ -170,16 +193,20 @@ module _ {T : Type 0} (code : Coding T) where
               let is = count.is in
               omega arith
 
+      -- The number is 0 where the lock had been seen.
       pub counted_none : is_locked base.seen ≡ true → n ≡ 0
       counted_none lock = counted_answered.right.none (lock_stays counted_answered.since lock)
 
     module _ (ends : CountEnds code counts.IsEmpty base n tt w) where
+      -- A call of `is_empty` that has ended is a call of the history.
       pub tested : HasTested (n == 0) base w
       tested = made BeginsCount (counts_values counts.IsEmpty) base w n ends IsEmpty refl (Truth (n == 0)) refl (λ by es. es ≡ []) ends.over.tells
 
+      -- The answer of `is_empty` is right by what came before its end.
       pub tested_answered : IsRightTest (n == 0) base w
       tested_answered = answered BeginsCount (counts_values counts.IsEmpty) base w n ends IsEmpty refl (Truth (n == 0)) refl
 
+      -- `is_empty` answers true where the lock had been seen.
       pub tested_none : is_locked base.seen ≡ true → (n == 0) ≡ true
       tested_none lock =
           let right = tested_answered.right in
@@ -188,11 +215,13 @@ module _ {T : Type 0} (code : Coding T) where
   -- ---- remove
 
   module _ (base w : View T) (given : GiveBack) where
+    -- a remove that has ended is a call of the history, which wrote what its answer says
     pub has_removed : (answer : Removed) → RemoveEnds code given base answer tt w → HasRemoved given answer base w
     has_removed answer ends =
         made (BeginsRemove given) (removes_value given) base w answer ends (Remove given.index given.owner given.mode) refl (removed answer) refl
         (λ by es. container.HasRemoved by given answer es) (ends.over.tells (idle_from code base ends.from ends.settled))
 
+    -- the end of a remove is the last event that the pass has seen, with an answer that is right
     pub removed_answered : (answer : Removed) → RemoveEnds code given base answer tt w
         → AnsweredBy (Remove given.index given.owner given.mode) (removed answer) base w
     removed_answered answer ends =
@@ -209,6 +238,7 @@ module _ {T : Type 0} (code : Coding T) where
     removed_so Default (Ok states.Unlocked) h = h
     removed_so LockIfLastIndex (Ok states.Unlocked) h = h
 
+    -- The answer of a remove is right.
     pub removed_right : (answer : Removed) → RemoveEnds code given base answer tt w → IsRightRemove given answer base w
     removed_right answer ends = removed_so given.mode answer (removed_answered answer ends)
 
@@ -229,16 +259,19 @@ module _ {T : Type 0} (code : Coding T) where
         ⊎_elim (λ is. (_, h.2.1 ∙ ap (λ zs. zs ++ container.when h.2.0 (Hidden p given.index)) is))
         (λ is. (_, h.2.1 ∙ ap (λ zs. zs ++ container.when h.2.0 (Hidden p given.index)) is)) h.1.1
 
+    -- a remove that freed its index freed it in this call
     freed_so : (state : ReleaseState) → RemoveEnds code given base (Ok state) tt w → WasFreed given.index given.owner base w
     freed_so state ends =
         let first = freed_first state ends.over.party ends.over.wrote (ends.over.tells (idle_from code base ends.from ends.settled)) in
         removed_at state first.0 ends first.1
 
+    -- A remove that answers Ok has freed its index.
     pub freed : (answer : Removed) → RemoveEnds code given base answer tt w → OnOk answer (WasFreed given.index given.owner base w)
     freed (Err e) ends = tt
     freed (Ok state) ends = freed_so state ends
 
   module _ (base w : View T) (index owner : ℕ) where
+    -- The remove of the index for its owner, in this mode.
     abbrev pub gives : ReleaseMode → GiveBack
     gives mode = record { index = index; owner = owner; mode = mode }
 
@@ -256,6 +289,7 @@ module _ {T : Type 0} (code : Coding T) where
         (let no = (has_removed base w (gives Default) (Ok states.Locked) ends).tells.1.0 in absurd (cc))
     released_so Default states.Unlocked ends = λ same. absurd (cc)
 
+    -- A remove that answers a state has released as this state says.
     pub released : (mode : ReleaseMode) (answer : Removed) → RemoveEnds code (gives mode) base answer tt w → IfOk answer (λ s. HasReleased s mode base w)
     released mode (Err e) ends = tt
     released mode (Ok state) ends = released_so mode state ends
@@ -263,16 +297,19 @@ module _ {T : Type 0} (code : Coding T) where
   -- ---- replace
 
   module _ (base w : View T) (given : Replacement T) (answer : Replaced) (ends : ReplaceEnds code given base answer tt w) where
+    -- a replace that has ended is a call of the history, which wrote what its answer says
     pub has_replaced : HasReplaced given answer base w
     has_replaced =
         made (BeginsReplace given) (replaces_value code.size given) base w answer ends (Replace given.index given.value given.owner) refl (replaced answer) refl
         (λ by es. container.HasReplaced by given answer es) (ends.over.tells (idle_from code base ends.from ends.settled))
 
+    -- A replace answers right by what came before its end, in the words of the laws.
     replaced_by : AnsweredBy (Replace given.index given.value given.owner) (replaced answer) base w
     replaced_by =
         answered (BeginsReplace given) (replaces_value code.size given) base w answer ends (Replace given.index given.value given.owner) refl
         (replaced answer) refl
 
+  -- the answer of a replace is right
   pub replaced_answered : (base w : View T) (given : Replacement T) (answer : Replaced) → ReplaceEnds code given base answer tt w
       → IsRightReplace given answer base w
   replaced_answered base w given (Err e) ends = replaced_by base w given (Err e) ends
@@ -289,11 +326,13 @@ module _ {T : Type 0} (code : Coding T) where
         (subst (λ n. container.HasAdded n ends.over.party given answer ends.over.wrote) (capacity_from code base ends.from ends.settled)
         (ends.over.tells (idle_from code base ends.from ends.settled)))
 
+    -- An add answers right by what came before its end, in the words of the laws.
     pub added_answered : (answer : Added) → AddEnds code given base answer tt w → AnsweredBy (Add given.value given.owner) (added answer) base w
     added_answered answer ends =
         answered (BeginsAdd given) (adds_value code.size given) base w answer ends (Add given.value given.owner) refl (added answer) refl
 
     module _ (index : ℕ) (ends : AddEnds code given base (Ok index) tt w) where
+      -- The history behind the add is sound.
       abbrev sound_here : IsSound code base.capacity w.seen
       sound_here = sound_history code base.capacity w.seen (history_of (BeginsAdd given) (adds_value code.size given) base w (Ok index) ends)
 
@@ -302,6 +341,7 @@ module _ {T : Type 0} (code : Coding T) where
           ≡ Filled ends.over.party index given.owner ∷ Granted ends.over.party index given.owner ∷ rest)
       taken_first = (let h = ends.over.tells (idle_from code base ends.from ends.settled) in (_, h.1.2))
 
+      -- the index that an add took had no owner when the add filled it
       pub filled_so : WasFilled index given.owner base w
       filled_so =
           wrote_at (BeginsAdd given) (adds_value code.size given) base w (Ok index) ends (Add given.value given.owner) refl (added (Ok index)) refl
@@ -318,9 +358,11 @@ module _ {T : Type 0} (code : Coding T) where
             λ well_formed honest. sound_here.holds well_formed honest before after (Granted ends.over.party index given.owner) is,
           ))
 
+      -- The index that an add answers is below the capacity.
       pub within_so : index < base.capacity
       within_so = (has_added (Ok index) ends).tells.0
 
+      -- An add that placed its value had seen no lock before.
       pub open_so : is_locked base.seen ≡ false
       open_so = (let g = granted_so in not_locked g.since g.held.0)
 
@@ -333,7 +375,7 @@ module _ {T : Type 0} (code : Coding T) where
         let a = added_answered (Err failures.IsLocked) ends in
         record { answered = a; unlocked = λ same. absurd (cc); locked = λ same. lock_stays (last_of a) a.right }
 
-    -- who has seen the lock finds it
+    -- an add that begins where the lock was seen answers `IsLocked`
     pub shut : (answer : Added) → AddEnds code given base answer tt w → is_locked base.seen ≡ true → answer ≡ Err failures.IsLocked
     shut (Ok index) ends lock = (let free = open_so index ends in absurd (true≢false (sym lock ∙ free)))
     shut (Err failures.OutOfSpace) ends lock =

@@ -23,9 +23,11 @@ use Rattle.history.proofs.Reached.{decide_as}
 use Rattle.lock_free_owners.specs.Container.FindContract.{below_question}
 
 module _ {T : Type 0} (code : Coding T) (capacity p owner number : ℕ) where
+  -- The begin of a find for this owner.
   abbrev start : Start T
   start = Container (Find owner)
 
+  -- The end of the find with this number.
   abbrev end : Event T
   end = Finished p (Container (Find owner)) (Number number)
 
@@ -44,6 +46,7 @@ module _ {T : Type 0} (code : Coding T) (capacity p owner number : ℕ) where
 
   -- where a no would end it, it has counted those up to the one that it asks about
   module _ (size : ℕ) (room : Buffer 128) where
+    -- The find at this stage as a flight of the model.
     abbrev pub asking : FindStage → Flight T
     asking stage =
         flights.Container (calls.Find (record { call = record { capacity = size; stage = stage; of = record {} }; given = owner; room = room }))
@@ -71,12 +74,15 @@ module _ {T : Type 0} (code : Coding T) (capacity p owner number : ℕ) where
         ((reached_open_tells t run.of_kind run.reached (Decide p false) free).finds_up_to p owner refl
         (subst (λ (span : Span T). IsOpenFor start (λ ws. Unit {0}) span) (sym at_work) (refl, tt)))
       where
+        -- the machine stands at that question, and the decision that answers no is not refused
         at : Stands t.world p start (asking stage)
         at = stands t.world p start (asking stage) there
 
+        -- The find is the flight of its party.
         here : flight_in t.world p ≡ Some (asking stage)
         here = flight_is t.world p start (asking stage) at
 
+        -- The machine does not refuse the answer to stop.
         free : refusal_as kinds.Container t.world (Decide p false) ≡ None
         free =
             decide_as kinds.Container tt t.world p false (asking stage) here

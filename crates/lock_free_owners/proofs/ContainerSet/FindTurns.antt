@@ -1,4 +1,5 @@
--- A find of a container between two turns, as a call of the history.
+-- A find of a container between two turns, as a call of the history: each of its steps keeps the rule
+-- of the table, an answer may end it, and what it has then copied and counted.
 use Rattle.lock_free_owners.proofs.Names.{◌≡◌, ◌⊎◌, inl, inr, ℕ, ◌+◌, ◌<◌, nat_lt, Bool, true, false, Option}
 use Rattle.lock_free_owners.proofs.Names.{Some, None, List, [], ◌∷◌, ◌++◌, slice_set, refl, sym, ap, subst, ◌∙◌}
 use Rattle.lock_free_owners.proofs.Names.{append-nil, fold, arith, find_asks, find_want, empty, by_test, After, GoOn}
@@ -35,14 +36,17 @@ named_copies p owner id [] = refl
 named_copies p owner id (c ∷ copies) = ap (λ es. Copied p c.0 c.1 ∷ es) (named_copies p owner id copies)
 
 module _ {T : Type 0} (code : Coding T) (law : IsCoding code) (owner : ℕ) where
+  -- A word that is kept in the room replaces the one at its place.
   put_in : (x : Buffer 128) (at word : ℕ) → words_in (kept_at x at word) ≡ slice_set (words_in x) at word
   put_in x at word = refl
 
+  -- A room made of the words of the fresh room is the fresh room.
   fresh_room : room_of code.size (words_in fresh_cell) ≡ fresh_cell
   fresh_room = (let few = law.few in room_fresh code.size 128 few (omega arith))
 
   -- ---- where it begins
 
+  -- at its first stage a find asks for a word of the container's
   begins_asks : (capacity : ℕ) (c : Find T (Buffer 128)) (m : Copying T) → BeginsFind owner capacity c m
       → AsksFor (container_words code capacity) (find_want code.size c)
   begins_asks capacity c m b =
@@ -57,21 +61,24 @@ module _ {T : Type 0} (code : Coding T) (law : IsCoding code) (owner : ℕ) wher
       (container_find_first code law words_in kept_at put_in owner v m (ap (λ (x : Copying T). room_of code.size (words_in x.0)) b.3 ∙ fresh_room)
       (ap (λ (x : Copying T). x.1) b.3) idle alone any b.1 b.2)
 
-  -- no answer leads there
+  -- the find goes on at a cell behind the first one, to which no answer leads back
   abbrev IsLater : After (Find T (Buffer 128)) ℕ → Type 0
   IsLater (GoOn d) = (index : ℕ) × (found : ℕ) × (d.stage ≡ finds.LoadsCell (index + 1) found)
   IsLater (Done n) = Unit {0}
 
+  -- An answer never leads a find back to its first stage.
   answers_later : (c : Find T (Buffer 128)) (n : ℕ) (stage : FindStage) → is_question (find_asks code.size c.capacity stage) ≡ true
       → IsLater (find_takes code.size c stage owner n)
   answers_later c n stage is_question_true = grind (arith, by_test, nat_lt)
 
+  -- A find that goes on after an answer is not one that is about to begin.
   never_first : (capacity : ℕ) (c d : Find T (Buffer 128)) (m : Copying T) (n : ℕ) → is_question (find_want code.size c) ≡ true
       → find_goes code owner c n ≡ GoOn d
       → BeginsFind owner capacity d m → ⊥
   never_first capacity c d m n is_question_true find_goes_is begins_find = grind (arith, answers_later)
 
-  -- each step at a word
+  -- Each step of a find at a word of the container (so not at a question to its closure) takes the
+  -- machine to a next state of a run, and the find to its next stage or its end.
   pub find_keeps : KeepsWhere code kinds.Container (container_words code) (λ (c : Find T (Buffer 128)). is_question (find_want code.size c) ≡ false)
       (FindAt code owner) (FindDone code owner) (λ c. find_want code.size c) (find_goes code owner) (find_copying code owner)
   find_keeps =
@@ -80,23 +87,28 @@ module _ {T : Type 0} (code : Coding T) (law : IsCoding code) (owner : ℕ) wher
       (container_find_keeps code law words_in kept_at put_in owner) begins_first (Ends code kinds.Container (finding code owner))
       (container_find_word code law words_in kept_at put_in owner)
 
+  -- A find at a word is at no question.
   pub at_its_word : (capacity : ℕ) (stage : FindStage) → IsAtWord stage → is_question (find_asks code.size capacity stage) ≡ false
   at_its_word capacity stage at_word = grind arith
 
+  -- A find that is about to begin behind a rested call is not one that has begun.
   apart : (base v : View T) (c : Find T (Buffer 128)) (m k : Copying T) → IsResting code v
       → BeginsFind owner v.capacity c k → FindBegun code owner base v c m → ⊥
   apart = grind (arith, apart_asked, finding, find_want, begins_asks, find_goes, find_copying, never_first, container_find_keeps, words_in)
 
+  -- the find has not begun, since the last call of the pass still rests
   abbrev WaitsAt : View T → View T → Find T (Buffer 128) → Copying T → Type 0
   WaitsAt = Waits code kinds.Container (λ base. BeginsFind owner base.capacity)
 
+  -- A find that waits to begin does so behind a call that rests.
   rested_at : (base v : View T) (c : Find T (Buffer 128)) (m : Copying T) → WaitsAt base v c m → IsResting code v
   rested_at base v c m waits = subst (λ z. IsResting code z) (sym waits.is) waits.resting
 
+  -- A find that waits to begin stands at its first stage.
   begins_at : (base v : View T) (c : Find T (Buffer 128)) (m : Copying T) → WaitsAt base v c m → BeginsFind owner v.capacity c m
   begins_at base v c m waits_at = grind arith
 
-  -- it has copied the same, whatever the view with which it is told that it began
+  -- A find at one stage in one view has made the same copies, whichever view it is said to have begun in.
   same_copies : (base other v : View T) (c : Find T (Buffer 128)) (m k : Copying T) → FindAt code owner base v c m → FindAt code owner other v c k → m.1 ≡ k.1
   same_copies base other v c m k (inl x) (inl y) =
       find_copied code law words_in kept_at put_in owner x.from y.from v c c m k (idle_from code base x.from x.settled) (idle_from code other y.from y.settled)
@@ -105,7 +117,8 @@ module _ {T : Type 0} (code : Coding T) (law : IsCoding code) (owner : ℕ) wher
   same_copies base other v c m k (inr x) (inl y) = absurd (apart y.from v c k m (rested_at base v c m x) (begins_at base v c m x) y.stage)
   same_copies base other v c m k (inr x) (inr y) = ap (λ (z : Copying T). z.1) (x.first.3 ∙ sym y.first.3)
 
-  -- one step tells of all that it may have copied
+  -- What one step tells holds whichever list of copies the find is said to have made: there
+  -- is one such list only.
   pub find_tells : (base v : View T) (c : Find T (Buffer 128)) (room : Buffer 128) (copies : List (ℕ × T)) → FindAt code owner base v c (room, copies)
       → (n : ℕ) (w : View T) → Told (λ (z : View T). z.capacity) (FindAt code owner) (FindDone code owner) (find_goes code owner)
       (find_copying code owner) c (room, copies) v n w
@@ -131,6 +144,7 @@ module _ {T : Type 0} (code : Coding T) (law : IsCoding code) (owner : ℕ) wher
       })
   begins_by v some fits (inr resting) alone any = inr (record { is = refl; resting = resting; first = (refl, some, fits, refl) })
 
+  -- A find of a container with places is about to begin by an idle pass.
   pub find_begins : (v : View T) → 0 < v.capacity → owner < empty → IsIdle v → v.other ≡ [] → 0 < v.share.part
       → FindAt code owner v v (first_find v.capacity) (fresh_cell, [])
   find_begins v some fits idle alone any = begins_by v some fits (rests code v alone any idle) alone any
@@ -139,20 +153,23 @@ module _ {T : Type 0} (code : Coding T) (law : IsCoding code) (owner : ℕ) wher
 
   -- the find began at base, and stands at c at v with m in its room
   module _ (base v : View T) (c : Find T (Buffer 128)) (m : Copying T) (index found : ℕ) (is : c.stage ≡ finds.Asks index found) where
+    -- The find stands at a question.
     due : is_question (find_want code.size c) ≡ true
     due = ap (λ stage. is_question (find_asks code.size c.capacity stage)) is
 
     clash : {A : Type 0} (b : Bool) → b ≡ true → b ≡ false → A
     clash b there still = (let both : true ≡ false = sym there ∙ still in absurd (cc))
 
-    -- it is under way, and has heard no answer yet
+    -- A find at a question is under way and has heard no answer to that question yet.
     under_at : (from : View T) → FindBegun code owner from v c m → IsUnderWay code kinds.Container (finding code owner) from v c m
     under_at from find_begun = grind (arith, clash, is_question, find_want, due, find_call, words_in, kept_at, put_in, number_of)
 
+    -- A find at a question has begun, so it is under way from a settled view.
     pub asked_from : FindAt code owner base v c m
         → (from : View T) × SettledFrom code kinds.Container base from × IsUnderWay code kinds.Container (finding code owner) from v c m
     asked_from find_at = grind (arith, under_at)
 
+    -- An answer copies nothing.
     same_room : (n : ℕ) → find_copying code owner c m n ≡ m
     same_room n = ap (λ stage. (keeps_of kept_at stage m.0 n, copies_after stage n (value_of_room code words_in m.0) m.1)) is
 
@@ -168,6 +185,7 @@ module _ {T : Type 0} (code : Coding T) (law : IsCoding code) (owner : ℕ) wher
               (container_find_hears code law words_in kept_at put_in owner x.0 v c d m said due goes (inl (inr x.2)));
         })
 
+    -- A find that an answer ends rests at its question.
     rests_at : (e : ℕ) (said : Bool) → find_goes code owner c (number_of said) ≡ Done e → (at : FindAt code owner base v c m)
         → RestsAt code kinds.Container (find_goes code owner) (find_copying code owner) (finding code owner) (asked_from at).0 v e m
     rests_at e said find_goes_is at = grind (arith, asked_from, due, same_room, number_of)
@@ -178,12 +196,15 @@ module _ {T : Type 0} (code : Coding T) (law : IsCoding code) (owner : ℕ) wher
   -- then; id is the container's number
   module _ (cap : ℕ) (base w : View T) (from : View T) (settled : SettledFrom code kinds.Container base from) (e : ℕ) (m : Copying T) (id : ℕ) where
     module _ (rest : RestsAt code kinds.Container (find_goes code owner) (find_copying code owner) (finding code owner) from w e m) where
+      -- The find that rests is still under way.
       abbrev under : IsUnderWay code kinds.Container (finding code owner) from w rest.asking m
       under = rest.before
 
+      -- What the find has written: the copies of its visits.
       abbrev told : List (Event T)
       told = copied under.party (visits_of owner id m.1)
 
+      -- It wrote just that.
       tells : under.wrote ≡ told
       tells = under.tells (idle_from code base from settled) ∙ named_copies under.party owner id m.1
 
@@ -207,7 +228,8 @@ module _ {T : Type 0} (code : Coding T) (law : IsCoding code) (owner : ℕ) wher
             ends = so.3;
           }
 
-      -- it has counted the indices up to the one that it asks about
+      -- A find that rests at a question has counted the indices of the owner up to the one
+      -- that it asks about.
       counted_at : IsCount under.party (IsFilledWith owner) (below_question rest.asking.stage) e w.seen
       counted_at =
           let h = under.stood in
@@ -223,8 +245,8 @@ module _ {T : Type 0} (code : Coding T) (law : IsCoding code) (owner : ℕ) wher
           h.trace h.run h.there rest.asks
           (no_ends code law words_in kept_at put_in owner from w e m rest h.trace.world.kept) (copies_of under.party m.1) at_work)
 
-      -- where it rests, it has counted the owner's indices up to the one that it asks about, and
-      -- copied these values
+      -- A find that rests has counted the owner's indices up to the one that it asks about, and copied
+      -- the values of these visits.
       pub rested_so : HasSearched cap owner e (below_question rest.asking.stage) (visits_of owner id m.1) base w
       rested_so =
           record {
@@ -236,6 +258,7 @@ module _ {T : Type 0} (code : Coding T) (law : IsCoding code) (owner : ℕ) wher
             over = inr (rests_so, sym (ap asked_below under.going));
           }
 
+      -- A stage that is a question of `steps` is one of the model.
       at_question : (stage : FindStage) → is_question (find_asks code.size rest.asking.capacity stage) ≡ true → asks stage ≡ true
       at_question stage is_question_true = grind arith
 
@@ -257,14 +280,14 @@ module _ {T : Type 0} (code : Coding T) (law : IsCoding code) (owner : ℕ) wher
           }
 
     module _ (ends : Ends code kinds.Container (finding code owner) from e m w) where
-      -- it has counted the indices of the whole
+      -- A find that has ended has counted the indices of the owner in the whole container.
       counted_so : cap ≡ base.capacity → IsCount ends.party (IsFilledWith owner) cap e w.seen
       counted_so size =
           subst (λ n. IsCount ends.party (IsFilledWith owner) n e w.seen) (capacity_from code base from settled ∙ sym size)
           (counts_whole code from.capacity ends.party owner e w.seen ends.last)
 
-      -- where it has ended, it has counted the owner's indices of the whole, and copied these
-      -- values
+      -- A find that has ended has counted the owner's indices below the capacity, and copied the values
+      -- of these visits.
       ended_so : cap ≡ base.capacity → HasSearched cap owner e cap (visits_of owner id m.1) base w
       ended_so size =
           record {
@@ -296,6 +319,7 @@ module _ {T : Type 0} (code : Coding T) (law : IsCoding code) (owner : ℕ) wher
             keeps = ended_keeps code base from settled (finding code owner) w (record { start = refl; flight = λ c k. refl }) (λ was p by. by) e m ends;
           }
 
+  -- A find that has ended leaves its pass as each find does, and has searched the whole container.
   pub over_so : (cap : ℕ) (base w : View T) (e : ℕ) (m : Copying T) (id : ℕ) → cap ≡ base.capacity → FindDone code owner base e m w
       → IsLeft code base w × HasSearched cap owner e cap (visits_of owner id m.1) base w
   over_so cap base w e m id size x =

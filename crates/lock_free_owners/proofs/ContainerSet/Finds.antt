@@ -25,6 +25,7 @@ use Rattle.lock_free_owners.proofs.Rules.Container.FindRuns.{StillStands, still_
 use Rattle.lock_free_owners.proofs.Rules.Container.Finding.{Came, widen, found_all, SoFar, Onward, StepsOnward}
 use Rattle.lock_free_owners.proofs.Rules.Container.Finding.{IsQuiet, came_none, quietly, told_on, told_to_stop, may_ask}
 
+-- Counting one more below 2^32 does not wrap.
 one_more_is : (n : ℕ) → n < 2 ^ 32 → one_more n ≡ n + 1
 one_more_is n n_below = grind (arith, one_more)
 
@@ -34,8 +35,9 @@ module _ {T F : Type 0} (code : Coding T) (step : F → T → ContainerHandle �
   abbrev value_in_room : Buffer 128 → T
   value_in_room = value_of_room code words_in
 
-  -- the find stands at c in the view v with room m, p is its closure after the copies so far, and
-  -- its operations are counted
+  -- A find that began in the view `base` with the closure f stands at c in the view v with the room m,
+  -- and its closure has become p. What it has copied, what its closure was called with, and how many
+  -- operations it has taken fit its stage.
   pub record Searching (v : View T) (c : Find T (Buffer 128)) (m : Buffer 128) (p : F) : Type 0 where
     pub copies : List (ℕ × T)
     pub at : FindAt code owner base v c (m, copies)
@@ -43,13 +45,17 @@ module _ {T F : Type 0} (code : Coding T) (step : F → T → ContainerHandle �
     pub so_far : SoFar step cap owner id f c.stage copies (value_in_room m) p
     pub steps : TakesAtMost (taken_at code.size c.stage) base v
 
+  -- a find has ended with the answer n, in the view w and with the closure q
   abbrev pub Over : View T → ℕ → F → Type 0
   Over w n q = IsSearched code step cap owner id n f base w q
 
+  -- a find that has gone on stands at its next stage, or has ended
   abbrev pub Further : View T → After (Find T (Buffer 128)) ℕ → Buffer 128 → F → Type 0
   Further w (GoOn d) m q = Searching w d m q
   Further w (Done n) m q = Over w n q
 
+  -- the parts of a whole find: how it leaves the pass, what it copied and counted, what its closure
+  -- became, and its steps
   whole : (w : View T) (n bound : ℕ) (q : F) (copies : List (ℕ × T))
       → IsLeft code base w × HasSearched cap owner n bound (visits_of owner id copies) base w
       → HasFound step cap (IsNamed cap owner id) f n bound (visits_of owner id copies) q → FindTakes code.size cap base w → Over w n q
@@ -58,23 +64,29 @@ module _ {T F : Type 0} (code : Coding T) (step : F → T → ContainerHandle �
   -- the find stands at c at v with room m, and p is its closure, as h says
   module _ (law : IsCoding code) (small : cap < 2 ^ 32) (size : cap ≡ base.capacity) (v : View T) (c : Find T (Buffer 128)) (m : Buffer 128)
       (p : F) (h : Searching v c m p) where
+    -- A step or an answer leaves the find at a stage that there is.
     stood : (k : ℕ) → StillStands code.size cap (find_goes code owner c k)
     stood k = (let some = law.some in still_stands code.size some cap c owner k h.stands)
 
     -- ---- a step at a word
 
+    -- after this step the history has the find at its next stage, or ended, with what it had copied
     abbrev NextThere : After (Find T (Buffer 128)) ℕ → View T → Type 0
     NextThere r w = Next (λ (z : View T). z.capacity) (FindAt code owner) (FindDone code owner) base r (m, h.copies) w
 
+    -- a step leaves the find where it goes on, from what holds of its stage, its copies, its closure
+    -- and its operations
     stepped : (w : View T) (a : After (Find T (Buffer 128)) ℕ) (left : Buffer 128) (copies : List (ℕ × T)) → StillStands code.size cap a
         → Next (λ (z : View T). z.capacity) (FindAt code owner) (FindDone code owner) base a (left, copies) w
         → Onward step cap owner id f a copies (value_in_room left) p → TakesAtMost (taken_after code.size cap a) base w → Further w a left p
     stepped w (GoOn d) left copies stands at so few = record { copies = copies; at = at; stands = stands; so_far = so; steps = few }
     stepped w (Done n) left copies stands ends found few = whole w n cap p copies (over_so code law owner cap base w n (left, copies) id size ends) found few
 
+    -- A find whose step calls no closure is at a word.
     at_word : (stage : FindStage) → IsQuiet step cap owner id f stage → IsAtWord stage
     at_word stage quiet = grind arith
 
+    -- One operation more, within a bound that has room for it, stays within the bound.
     few_then : (most before : ℕ) (w : View T) → before + 1 ≤ most → TakesAtMost before base v → TakesAtMost 1 v w → TakesAtMost most base w
     few_then most before w more few one = omega arith
 
@@ -98,29 +110,32 @@ module _ {T F : Type 0} (code : Coding T) (step : F → T → ContainerHandle �
     -- ---- an answer
 
     module _ (index found : ℕ) (is : c.stage ≡ finds.Asks index found) where
+      -- What the closure was called with, at the question.
       so_here : SoFar step cap owner id f (finds.Asks index found) h.copies (value_in_room m) p
       so_here = grind arith
 
       within : index < cap
       within = (subst (visits.FindStage code.size cap) is h.stands.1).0
 
-      -- told to go on, it ends at the last index
+      -- an answer to go on ends a find only at its last index
       last_is : (n : ℕ) → find_goes code owner c 1 ≡ Done n → index + 1 ≡ cap
       last_is n goes =
           let comes : find_comes_to c (index + 1) found ≡ Done n = sym (ap (λ z. find_takes code.size c z owner 1) is) ∙ goes in
           let size : c.capacity ≡ cap = h.stands.0 in
           by_bool (nat_lt (index + 1) c.capacity) (λ t. absurd (more n t comes)) (λ t. (let low = within in let no = not_less t in omega arith))
         where
+          -- at an index before the last one an answer to go on does not end the find
           more : (n : ℕ) → nat_lt (index + 1) c.capacity ≡ true → find_comes_to c (index + 1) found ≡ Done n → ⊥
           more n t e =
               let on : After (Find T (Buffer 128)) ℕ = GoOn (at_find c (finds.LoadsCell (index + 1) found)) in
               let no : on ≡ Done n = subst (λ b. (if b then on else Done found) ≡ Done n) t e in
               absurd (cc)
 
+          -- A test that says no says that the capacity is reached.
           not_less : nat_lt (index + 1) c.capacity ≡ false → c.capacity ≤ index + 1
           not_less t = grind (arith, nat_tests)
 
-      -- and performs no operation
+      -- an answer takes no operation, so as many as before are within the bound of the next stage
       few_still : (k : ℕ) → TakesAtMost (taken_after code.size cap (find_goes code owner c k)) base v
       few_still k =
           let none =
@@ -163,37 +178,45 @@ module _ {T F : Type 0} (code : Coding T) (step : F → T → ContainerHandle �
 
     -- ---- a turn
 
+    -- A turn of the find, a step or an answer by its stage, leads to its next stage or its end.
     turned : (stage : FindStage) → c.stage ≡ stage → (w : View T) (a : After (Find T (Buffer 128)) ℕ) (left : Buffer 128) (q : F)
         → FindTurns code owner stage v c m a left w → FindMoves step code.size id c owner stage (value_in_room m) p a q → Further w a left q
     turned stage same_stage w a kept q find_turns find_moves = grind (arith, by_step, by_answer)
 
+    -- A turn at the stage of the find leads to its next stage or its end.
     pub further : (w : View T) (a : After (Find T (Buffer 128)) ℕ) (left : Buffer 128) (q : F) → FindTurns code owner c.stage v c m a left w
         → FindMoves step code.size id c owner c.stage (value_in_room m) p a q → Further w a left q
     further = turned c.stage refl
 
+    -- Where the closure may be called at visits of the owner, it may be called at the stage of the find.
     pub may_go : {pre : F → T → ContainerHandle → Type 0} → TakesVisits pre step (IsNamed cap owner id) f → FindAsks pre owner id c.stage (value_in_room m) p
     may_go takes = may_ask step cap owner id f takes code.size c.stage h.stands.1 h.copies (value_in_room m) p h.so_far
 
     -- ---- it passes cells
 
+    -- At a cell, the index of the find is one of the container.
     in_sight : (stage : FindStage) → visits.FindStage code.size cap stage → IsWithin cap stage
     in_sight stage find_stage = grind arith
 
+    -- If the find stands at a cell, the cell is one of the container.
     pub may_pass : IsWithin c.capacity c.stage
     may_pass = subst (λ n. IsWithin n c.stage) (sym h.stands.0) (in_sight c.stage h.stands.1)
 
     module _ (w : View T) (a : After (Find T (Buffer 128)) ℕ) (goes : FindPasses code owner v c m a w) where
       module _ (index found : ℕ) (is : c.stage ≡ finds.LoadsCell index found) where
+        -- The cell is one of the container, and at most as many indices are counted.
         stood_there : (index < cap) × (found ≤ index)
         stood_there = subst (visits.FindStage code.size cap) is h.stands.1
 
+        -- The find has come to this cell with the closure called at all its copies.
         came : Came step cap owner id f index found (visits_of owner id h.copies) p
         came = subst (λ z. SoFar step cap owner id f z h.copies (value_in_room m) p) is h.so_far
 
+        -- The find has taken at most size + 3 operations for each index below the cell.
         few : TakesAtMost (index * (code.size + 3)) base v
         few = subst (λ z. TakesAtMost (taken_at code.size z) base v) is h.steps
 
-        -- to one of the owner
+        -- cells that were passed lead to a cell of the owner, with operations within the bound of that stage
         lands : (stage : FindStage) → PassesTo cap index found stage v w
             → visits.FindStage code.size cap stage × SoFar step cap owner id f stage h.copies (value_in_room m) p
             × TakesAtMost (taken_at code.size stage) base w
@@ -227,7 +250,7 @@ module _ {T F : Type 0} (code : Coding T) (step : F → T → ContainerHandle �
             (widen step cap owner id f index cap found (visits_of owner id h.copies) p (omega arith) came)))
             (omega arith)
 
-      -- a call that has come to no cell stays
+      -- a find that stands at no cell passes none and stays as it is
       stays : a ≡ GoOn c → w ≡ v → Further w a m p
       stays same still = subst (λ r. Further w r m p) (sym same) (subst (λ (u : View T). Searching u c m p) (sym still) h)
 
@@ -240,9 +263,11 @@ module _ {T F : Type 0} (code : Coding T) (step : F → T → ContainerHandle �
       come (finds.ChecksCount index found count) is passed = stays passed.0 passed.1
       come (finds.Asks index found) is passed = stays passed.0 passed.1
 
+      -- Cells that were passed leave the find where it goes on, or end it.
       pub passed_on : (r : After (Find T (Buffer 128)) ℕ) → a ≡ r → PassesFrom c c.stage a v w → Further w r m p
       passed_on r is passed = subst (λ z. Further w z m p) is (come c.stage refl passed)
 
+  -- a find at its first stage stands so, with the closure that it was given
   pub starts : (c : Find T (Buffer 128)) (m : Buffer 128) → c ≡ first_find cap → m ≡ fresh_cell → 0 < cap
       → FindAt code owner base base (first_find cap) (fresh_cell, [])
       → Searching base c m f
@@ -254,12 +279,13 @@ module _ {T F : Type 0} (code : Coding T) (few : code.size ≤ 128) (step : F �
   abbrev left : Find T (Buffer 128) → ℕ
   left c = find_left code.size c.capacity c.stage
 
+  -- how many steps are left after a step; none once the find has ended
   abbrev left_after : After (Find T (Buffer 128)) ℕ → ℕ
   left_after (GoOn d) = left d
   left_after (Done n) = 0
 
-  -- where cells were passed from the cell of an index on, at most 140 steps are left for each
-  -- index from there on, and 139 more
+  -- Once cells were passed from the cell of an index on, at most 140 steps for each index from that one
+  -- on, and 139 more, are left.
   lands_lower : (capacity index found : ℕ) (stage : FindStage) (v w : View T) → PassesTo capacity index found stage v w
       → find_left code.size capacity stage ≤ 140 * (capacity - index) + 139
   lands_lower capacity index found (finds.LoadsCell at count) v w to = absurd to
@@ -290,7 +316,7 @@ module _ {T F : Type 0} (code : Coding T) (few : code.size ≤ 128) (step : F �
   turns_lower c d (finds.ChecksCount index found count) v w m n x p q goes moves = find_fewer code.size few c d owner goes.0 (sym goes.1)
   turns_lower c d (finds.Asks index found) v w m n x p q goes moves = find_fewer code.size few c d owner (says moves.0) (sym moves.2)
 
-  -- past cells, and by a turn
+  -- after cells were passed and a turn was taken, fewer steps are left
   pub goes_lower : (c d e : Find T (Buffer 128)) (a b : After (Find T (Buffer 128)) ℕ) (v u w : View T) (m n : Buffer 128) (x : T) (p q : F)
       → a ≡ GoOn d → PassesFrom c c.stage a v u → b ≡ GoOn e → FindTurns code owner d.stage u d m b n w
       → FindMoves step code.size id d owner d.stage x p b q → left e < left c

@@ -13,9 +13,12 @@ use Rattle.model.specs.declared.families.container.calls.ContainerFlight.TheVari
 use Rattle.lock_free_owners.specs.Container.Idle.{asks, is_at_question, may_rest, IsIdle}
 
 module _ {T : Type 0} (code : Coding T) (v : View T) (fresh : v.other ≡ []) (some : 0 < v.share.part) where
+  -- the pass has no call under way, or its last call rests
   abbrev Rests : Type 0
   Rests = (v.going ≡ None) ⊎ IsResting code v
 
+  -- a call of a container that stands at a question as `may_rest` says is a find that rests; the cases
+  -- are the calls of a container
   of_find : (p : ℕ) (start : Start T) (flight : ContainerFlight T) → v.party ≡ Some p → v.going ≡ Some (start, flights.Container flight)
       → is_at_question (flights.Container flight) ≡ true → Rests
   of_find p start (calls.Find run) mine going due = go run.call.stage refl due
@@ -41,19 +44,23 @@ module _ {T : Type 0} (code : Coding T) (v : View T) (fresh : v.other ≡ []) (s
             some = some;
           })
         where
+          -- The answer to stop ends the find with the number of indices that it has found.
           ends : (kept : Registry T) → goes_of code p (flights.Container (calls.Find run)) (number_of false) kept ≡ Done (Number found)
           ends (registries.Container dead states) = rw is refl
           ends kept = rw is refl
   of_find p start flight mine going due = absurd (true≢false (sym due))
 
+  -- Only a find that stands at its question may rest, and it rests.
   of_call : (p : ℕ) (start : Start T) (flight : Flight T) → v.party ≡ Some p → v.going ≡ Some (start, flight) → is_at_question flight ≡ true → Rests
   of_call p start flight party_is going_is is_at_question_true = grind (arith, of_find)
 
+  -- A pass with no call under way may rest; one with a call rests at that call's question.
   by_party : (party : Option ℕ) (going : Option (Start T × Flight T)) → v.party ≡ party → v.going ≡ going → may_rest party going ≡ true → Rests
   by_party party None mine going t = inl going
   by_party None (Some at) mine going t = absurd (true≢false (sym t))
   by_party (Some p) (Some (start, flight)) mine going t = of_call p start flight mine going t
 
+  -- A pass that is idle has no call under way, or its last call rests.
   pub rests : IsIdle v → Rests
   rests idle = by_party v.party v.going refl refl idle
 
@@ -62,5 +69,6 @@ none_rests : (T : Type 0) (party : Option ℕ) → may_rest {T = T} party None �
 none_rests T None = refl
 none_rests T (Some p) = refl
 
+-- A pass with no call under way is idle.
 pub idle_none : {T : Type 0} (v : View T) → v.going ≡ None → IsIdle v
 idle_none {T} v none = ap (may_rest v.party) none ∙ none_rests T v.party

@@ -1,4 +1,4 @@
--- How a container's table opens.
+-- The words with which a container's table opens are those of a machine at its opening.
 use Rattle.lock_free_owners.proofs.Names.{◌≡◌, ℕ, ◌+◌, ◌-◌, ◌^◌, ◌<◌, nat_lt, false, List, [], ◌∷◌, ◌++◌, refl}
 use Rattle.lock_free_owners.proofs.Names.{append_assoc, arith, nat_tests, opening, total_words, empty}
 use Rattle.lock_free_owners.proofs.Names.{Coding, IsCoding, IsMachine, first_view, opens}
@@ -14,12 +14,15 @@ module _ (capacity size : ℕ) where
   filled rest rest_is = grind (arith, replicate, empty, one_more, append_assoc)
 
 module _ {T : Type 0} (code : Coding T) (law : IsCoding code) (capacity : ℕ) (some : 0 < capacity) (small : capacity < 2 ^ 32) where
+  -- The capacity is not refused as too great.
   most : nat_lt (2 ^ 32 - 1) capacity ≡ false
   most = grind (arith, nat_tests)
 
+  -- The capacity is not refused as too small.
   least : nat_lt capacity 1 ≡ false
   least = grind (arith, nat_tests)
 
+  -- The opening words, and one more, are those of the machine of a container, and the first view fits them.
   pub container_opens : (words : List ℕ) → words ≡ opening_words code.size capacity ++ 0 ∷ []
       → IsMachine code kinds.Container capacity (opening words [] (first_view capacity))
   container_opens words same = opens code kinds.Container capacity words law (rw (most, least) refl) same

@@ -1,4 +1,4 @@
--- What a split and a join leave of a pass.
+-- What a split and a join of passes of a container leave of them.
 use Rattle.lock_free_owners.proofs.Names.{◌≡◌, inl, inr, ◌<◌, None, [], sym, ap, subst, ◌∙◌, Coding, View}
 use Rattle.lock_free_owners.proofs.Names.{SettledFrom}
 use Rattle.model.specs.declared.turn.Kind.TheVariants as kinds

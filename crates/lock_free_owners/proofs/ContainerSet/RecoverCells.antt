@@ -1,4 +1,4 @@
--- Where the loop of a recovery over cells leads.
+-- How the loop of a container's recovery over cells goes on from one cell: to the next one, or past the last.
 use Rattle.lock_free_owners.proofs.Names.{◌≡◌, ℕ, ◌+◌, ◌<◌, ◌≤◌, nat_lt, nat_tests, refl, arith, by_test, by_eq, List}
 use Rattle.lock_free_owners.proofs.Names.{subst, goes_to, After, GoOn, DeadOwner, Buffer, ReleaseState, Coding, View}
 use Rattle.steps.specs.Container.Recover.{recover_comes_to}
@@ -10,41 +10,52 @@ use Rattle.history.specs.ContainerRecovery.{Came}
 use Rattle.lock_free_owners.specs.Container.RecoverTurns.{recover_goes, RecoverAt, RecoverEnds, at_cell}
 
 module _ {T : Type 0} (code : Coding T) (given : DeadOwner) (capacity cell : ℕ) where
+  -- The recovery of a container of this capacity, at this stage.
   abbrev stands : RecoverStage → Recover T (Buffer 128)
   stands stage = record { capacity = capacity; stage = stage; of = record {} }
 
+  -- The recovery at this cell.
   abbrev here : Recover T (Buffer 128)
   here = at_cell capacity cell
 
+  -- At a cell of the owner the recovery loads the change number of its index next.
   own : (k : ℕ) → k ≡ given.owner → recover_goes code given here k ≡ GoOn (stands (recovers.LoadsCount cell))
   own k is =
       by_eq (λ z. z ≡ GoOn (stands (recovers.LoadsCount cell))) k given.owner (goes_to here (recovers.LoadsCount cell)) (recover_comes_to here (cell + 1))
       (λ e. refl) (λ other. absurd (other is))
 
+  -- A cell that is not the owner's leads the recovery to the next cell.
   others : (k : ℕ) → (k ≡ given.owner → ⊥) → recover_goes code given here k ≡ recover_comes_to here (cell + 1)
   others k other =
       by_eq (λ z. z ≡ recover_comes_to here (cell + 1)) k given.owner (goes_to here (recovers.LoadsCount cell)) (recover_comes_to here (cell + 1))
       (λ e. absurd (other e)) (λ ne. refl)
 
+  -- Before the last cell, the next one is the cell behind.
   next : cell + 1 < capacity → recover_comes_to here (cell + 1) ≡ GoOn (at_cell {T = T} capacity (cell + 1))
   next cell_below = grind (arith, by_test, nat_lt, goes_to, nat_tests)
 
+  -- Behind the last cell the recovery loads the counter again.
   past : capacity ≤ cell + 1 → recover_comes_to here (cell + 1) ≡ GoOn (stands recovers.LoadsCounterAgain)
   past capacity_up_to = grind (arith, by_test, nat_lt, goes_to, nat_tests)
 
   module _ (base w : View T) (room : Buffer 128) (visits : List (ℕ × Came T)) (k : ℕ) where
+    -- the recovery stands at its next stage, or has ended, after it has loaded the cell
     abbrev There : After (Recover T (Buffer 128)) ReleaseState → Type 0
     There a = Next (λ (z : View T). z.capacity) (RecoverAt code given) (RecoverEnds code given) base a (room, visits) w
 
+    -- where the load of this cell, which found k, has led the recovery
     abbrev Loaded : Type 0
     Loaded = There (recover_goes code given here k)
 
+    -- A loaded cell of the owner leads the recovery to the load of its change number.
     pub comes_own : k ≡ given.owner → Loaded → RecoverAt code given base w (stands (recovers.LoadsCount cell)) (room, visits)
     comes_own is loaded = subst There (own k is) loaded
 
+    -- A loaded cell that is not the owner's leads the recovery to the next cell.
     pub comes_next : (k ≡ given.owner → ⊥) → cell + 1 < capacity → Loaded → RecoverAt code given base w (at_cell capacity (cell + 1)) (room, visits)
     comes_next other within loaded = subst There (next within) (subst There (others k other) loaded)
 
+    -- A last cell that is not the owner's leads the recovery to its load of the counter.
     pub comes_past : (k ≡ given.owner → ⊥) → capacity ≤ cell + 1 → Loaded
         → RecoverAt code given base w (stands recovers.LoadsCounterAgain) (room, visits)
     comes_past other last loaded = subst There (past last) (subst There (others k other) loaded)

@@ -1,4 +1,5 @@
--- A recovery of a container between two turns, as a call of the history.
+-- A recovery of a container between two turns, as a call of the history: each of its steps keeps the
+-- rule of the table, and it may take an answer of its closure.
 use Rattle.lock_free_owners.proofs.Names.{◌≡◌, ◌⊎◌, inl, inr, ℕ, ◌<◌, nat_lt, Bool, true, false, None}
 use Rattle.lock_free_owners.proofs.Names.{List, [], ◌∷◌, ◌++◌, slice_set, refl, sym, ap, subst, ◌∙◌, append_assoc}
 use Rattle.lock_free_owners.proofs.Names.{append-nil, arith, goes_to, empty, by_test, After, GoOn, Done, DeadOwner}
@@ -38,26 +39,30 @@ use Rattle.history.proofs.Locks.{lock_stays, not_locked}
 use Rattle.lock_free_owners.proofs.RobustSet.Events.{find_own, covers}
 
 module _ {T : Type 0} (code : Coding T) (law : IsCoding code) (given : DeadOwner) where
+  -- A word that is kept in the room replaces the one at its place.
   pub put_in : (x : Buffer 128) (at word : ℕ) → words_in (kept_at x at word) ≡ slice_set (words_in x) at word
   put_in x at word = refl
 
+  -- A room made of the words of the fresh room is the fresh room.
   fresh_room : room_of code.size (words_in fresh_cell) ≡ fresh_cell
   fresh_room = (let few = law.few in room_fresh code.size 128 few (omega arith))
 
   -- ---- where it begins
 
+  -- A recovery asks for a word of the container at its first stage.
   begins_asks : (capacity : ℕ) (c : Recover T (Buffer 128)) (m : Visiting T) → BeginsRecover given capacity c m
       → AsksFor (container_words code capacity) (recover_want code.size c given)
   begins_asks capacity c m b =
       subst (λ (d : Recover T (Buffer 128)). AsksFor (container_words code capacity) (recover_want code.size d given)) (sym b.0) (_, omega arith, refl)
 
+  -- a recovery may begin at a pass that has no call under way
   begins_first : (v : View T) (c : Recover T (Buffer 128)) (m : Visiting T) → BeginsRecover given v.capacity c m → v.going ≡ None → v.other ≡ []
       → 0 < v.share.part
       → RecoverBegun code given v v c m
   begins_first v c m begins_recover going_is_none other_is_empty part_positive =
       grind (arith, container_recover_first, words_in, kept_at, put_in, room_of, fresh_room)
 
-  -- no answer leads there
+  -- the recovery goes on at another stage than its first one, to which no answer leads back
   abbrev IsLater : After (Recover T (Buffer 128)) ReleaseState → Type 0
   IsLater (GoOn d) = d.stage ≡ recovers.LoadsCounter → ⊥
   IsLater (Done e) = Unit {0}
@@ -65,10 +70,12 @@ module _ {T : Type 0} (code : Coding T) (law : IsCoding code) (given : DeadOwner
   clash : {A : Type 0} (b : Bool) → b ≡ true → b ≡ false → A
   clash b there still = (let both : true ≡ false = sym there ∙ still in absurd (cc))
 
+  -- An answer never leads a recovery back to its first stage.
   answers_later : (c : Recover T (Buffer 128)) (n : ℕ) (stage : RecoverStage) → is_question (recover_asks code.size c.capacity stage given.owner) ≡ true
       → IsLater (recover_takes code.size c stage given n)
   answers_later c n stage is_question_true = grind (arith, by_test, goes_to, nat_lt, clash, is_question, raise_asks_none, lock_asks_none)
 
+  -- A recovery that goes on after an answer is not one that is about to begin.
   never_first : (capacity : ℕ) (c d : Recover T (Buffer 128)) (m : Visiting T) (n : ℕ) → is_question (recover_want code.size c given) ≡ true
       → recover_goes code given c n ≡ GoOn d → BeginsRecover given capacity d m → ⊥
   never_first capacity c d m n is_question_true recover_goes_is begins_recover = grind (arith, answers_later)
@@ -81,20 +88,24 @@ module _ {T : Type 0} (code : Coding T) (law : IsCoding code) (given : DeadOwner
       (recover_goes code given) (recover_visiting code given) (Ends code kinds.Container (recovering code given))
       never_first (container_recover_keeps code law words_in kept_at put_in given) begins_first
 
+  -- A recovery that is about to begin behind a rested call is not one that has begun.
   apart : (base v : View T) (c : Recover T (Buffer 128)) (m k : Visiting T) → IsResting code v → BeginsRecover given v.capacity c k
       → RecoverBegun code given base v c m → ⊥
   apart = grind (arith, apart_asked, recovering, recover_want, begins_asks, recover_goes, recover_visiting, never_first, container_recover_keeps, words_in)
 
+  -- the recovery has not begun, since the last call of the pass still rests
   abbrev WaitsAt : View T → View T → Recover T (Buffer 128) → Visiting T → Type 0
   WaitsAt = Waits code kinds.Container (λ base. BeginsRecover given base.capacity)
 
+  -- A recovery that waits to begin does so behind a call that rests.
   rested_at : (base v : View T) (c : Recover T (Buffer 128)) (m : Visiting T) → WaitsAt base v c m → IsResting code v
   rested_at base v c m waits = subst (λ z. IsResting code z) (sym waits.is) waits.resting
 
+  -- A recovery that waits to begin stands at its first stage.
   begins_at : (base v : View T) (c : Recover T (Buffer 128)) (m : Visiting T) → WaitsAt base v c m → BeginsRecover given v.capacity c m
   begins_at base v c m waits_at = grind arith
 
-  -- it has done the same, whatever the view with which it is told that it began
+  -- A recovery at one stage in one view has made the same visits, whichever view it is said to have begun in.
   same_visits : (base other v : View T) (c : Recover T (Buffer 128)) (m k : Visiting T) → RecoverAt code given base v c m → RecoverAt code given other v c k
       → m.1 ≡ k.1
   same_visits base other v c m k (inl x) (inl y) =
@@ -104,7 +115,8 @@ module _ {T : Type 0} (code : Coding T) (law : IsCoding code) (given : DeadOwner
   same_visits base other v c m k (inr x) (inl y) = absurd (apart y.from v c k m (rested_at base v c m x) (begins_at base v c m x) y.stage)
   same_visits base other v c m k (inr x) (inr y) = ap (λ (z : Visiting T). z.1) (x.first.2 ∙ sym y.first.2)
 
-  -- one step tells of all that it may have done
+  -- What one step tells holds whichever list of visits the recovery is said to have made: there is one
+  -- such list only.
   pub recover_tells : (base v : View T) (c : Recover T (Buffer 128)) (room : Buffer 128) (visits : List (ℕ × Came T))
       → RecoverAt code given base v c (room, visits)
       → (n : ℕ) (w : View T)
@@ -131,6 +143,7 @@ module _ {T : Type 0} (code : Coding T) (law : IsCoding code) (given : DeadOwner
       })
   begins_by v fits (inr resting) alone any = inr (record { is = refl; resting = resting; first = (refl, fits, refl) })
 
+  -- A recovery of an owner that there may be is about to begin by an idle pass.
   pub recover_begins : (v : View T) → given.owner < empty → IsIdle v → v.other ≡ [] → 0 < v.share.part
       → RecoverAt code given v v (first_recover v.capacity) (fresh_cell, [])
   recover_begins v fits idle alone any = begins_by v fits (rests code v alone any idle) alone any
@@ -139,16 +152,20 @@ module _ {T : Type 0} (code : Coding T) (law : IsCoding code) (given : DeadOwner
 
   -- the recovery began at base, and stands at c at v with m in its room
   module _ (base v : View T) (c : Recover T (Buffer 128)) (m : Visiting T) (index count : ℕ) (is : c.stage ≡ recovers.Asks index count) where
+    -- The recovery stands at a question.
     due : is_question (recover_want code.size c given) ≡ true
     due = ap (λ stage. is_question (recover_asks code.size c.capacity stage given.owner)) is
 
+    -- A recovery at a question is under way and has heard no answer to that question yet.
     under_at : (from : View T) → RecoverBegun code given from v c m → IsUnderWay code kinds.Container (recovering code given) from v c m
     under_at from recover_begun = grind (arith, clash, is_question, recover_want, due, recover_call, words_in, kept_at, put_in, number_of)
 
+    -- A recovery at a question has begun, so it is under way from a settled view.
     asked_from : RecoverAt code given base v c m
         → (from : View T) × SettledFrom code kinds.Container base from × IsUnderWay code kinds.Container (recovering code given) from v c m
     asked_from recover_at = grind (arith, under_at)
 
+    -- An answer changes no visit.
     same_room : (n : ℕ) → recover_visiting code given c m n ≡ m
     same_room n = ap (λ stage. (keeps_of kept_at stage m.0 n, visits_after given.owner stage n (value_there code words_in m.0) m.1)) is
 
@@ -164,7 +181,7 @@ module _ {T : Type 0} (code : Coding T) (law : IsCoding code) (given : DeadOwner
               (container_recover_hears code law words_in kept_at put_in given x.0 v c d m said due goes (inl (inr x.2)));
         })
 
-    -- no answer ends it
+    -- No answer of the closure ends a recovery: behind the last question it still loads the counter.
     pub answer_last : {A : Type 0} (e : ReleaseState) (said : Bool) → recover_goes code given c (number_of said) ≡ Done e → A
     answer_last e said goes = absurd ((recover_call code law words_in kept_at put_in given).lasts c e (number_of said) due goes)
 
@@ -185,6 +202,7 @@ module _ {T : Type 0} (code : Coding T) (law : IsCoding code) (given : DeadOwner
           let others : List (Event T) = from.seen ++ under.since.others in
           let value : T = value_there code words_in m.0 in
           let tells = under.tells (idle_from code base from settled) in
+          -- The events of the recovery so far end with the copy of the value and the question.
           let last = subst (λ stage. VisitsAt stage value m.1) is tells.0 in
           let before : List (Event T) = wrote_visits p given.owner last.0 in
           let question : Event T = Asked p index given.owner in
@@ -199,6 +217,8 @@ module _ {T : Type 0} (code : Coding T) (law : IsCoding code) (given : DeadOwner
           ∙ (ap (λ zs. others ++ begin ∷ zs) (append_assoc part.0 (question ∷ part.1) [])
           ∙ sym (append_assoc others (begin ∷ part.0) (question ∷ (part.1 ++ [])))))
           in
+          -- By the laws a question is asked only where the lock was not seen at some moment since the
+          -- recovery began.
           let each : Each (AsksBy Word) v.seen = (sound_history code from.capacity v.seen under.history).asks in
           let once = (each (others ++ begin ∷ part.0) (part.1 ++ []) question whole).1 in
           let after = covers p start part.0 others once.part once.rest once.is once.within in
@@ -210,21 +230,26 @@ module _ {T : Type 0} (code : Coding T) (law : IsCoding code) (given : DeadOwner
   -- base and w are what the pass knew before the recovery and after it, e is its answer, m its
   -- room then
   module _ (base w : View T) (e : ReleaseState) (m : Visiting T) (ends : RecoverEnds code given base e m w) where
+    -- What the pass knows goes on from what it knew before the recovery.
     pub recovered_goes : Goes base w
     recovered_goes = ended_goes code base ends.from ends.settled (recovering code given) w e m ends.over
 
+    -- The recovery leaves at most one operation aside, and one more where the last call rested.
     pub recovered_aside : FewAside base w
     recovered_aside = ended_aside code base ends.from ends.settled (recovering code given) w e m ends.over
 
-    -- it has written just what it did
+    -- In the history, a recovery that has ended is one call, and its party wrote just the
+    -- events of its visits.
     pub recovered_called : Called ends.over.party (Container (starts.Recover given.owner given.mode)) (State e)
         (wrote_visits ends.over.party given.owner m.1) ends.from w
     recovered_called = grind (arith, idle_from, ended_called, recovering)
 
+    -- A recovery answers right by what came before its end, in the words of the laws.
     recovered_by : AnsweredBy (starts.Recover given.owner given.mode) (State e) base w
     recovered_by =
         ended_answered code base ends.from ends.settled (recovering code given) w e m ends.over (starts.Recover given.owner given.mode) refl (State e) refl
 
+  -- The state that a recovery answers is right.
   pub recovered_answered : (base w : View T) (state : ReleaseState) (m : Visiting T) → RecoverEnds code given base state m w
       → IsRightRecovery given state base w
   recovered_answered base w states.Locked m ends = recovered_by base w states.Locked m ends
@@ -242,5 +267,6 @@ module _ {T : Type 0} (code : Coding T) (law : IsCoding code) (given : DeadOwner
       (State states.Unlocked) refl _ (ended_answered code base ends.from ends.settled (recovering code given) w states.Unlocked m ends.over
       (starts.Recover given.owner given.mode) refl (State states.Unlocked) refl).right.0
 
+  -- The state that a recovery answers tells of the lock what `FoundState` says.
   pub recovered_lock : (base w : View T) (state : ReleaseState) (m : Visiting T) → RecoverEnds code given base state m w → FoundState state base w
   recovered_lock base w state m ends = recovered_lock_so state base w m ends

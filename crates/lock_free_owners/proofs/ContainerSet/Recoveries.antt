@@ -22,11 +22,13 @@ use Rattle.lock_free_owners.proofs.ContainerSet.RecoverTurns.{put_in, heard_on, 
 use Rattle.lock_free_owners.proofs.Rules.Container.Recovering.{SoFar, Knows, Onward, StepsOnward, IsQuiet, quietly, answered as answers_so, may_ask}
 use Rattle.lock_free_owners.proofs.Rules.Container.Recovering.{Asked, widen}
 
+-- An answer has the number 1 for yes and 0 for no.
 same_number : (b : Bool) → number_of b ≡ (if b then 1 else 0)
 same_number true = refl
 same_number false = refl
 
 module _ {T F : Type 0} (code : Coding T) (step : F → T → Bool → F → Type 0) (cap : ℕ) (given : DeadOwner) (base : View T) (f : F) where
+  -- The container was seen locked when the recovery began.
   abbrev shut : Bool
   shut = is_locked base.seen
 
@@ -34,29 +36,35 @@ module _ {T F : Type 0} (code : Coding T) (step : F → T → Bool → F → Typ
   abbrev value_in_room : Buffer 128 → T
   value_in_room = value_of_room code words_in
 
-  -- the recovery stands at c in the view v with room m, and p is its closure after the visits so
-  -- far
+  -- A recovery that began in the view `base` with the closure f stands at c in the view v with the room
+  -- m, and its closure has become p. What it has visited and what its closure was asked fit its stage.
   pub record Standing (v : View T) (c : Recover T (Buffer 128)) (m : Buffer 128) (p : F) : Type 0 where
     pub visits : List (ℕ × Came T)
     pub at : RecoverAt code given base v c (m, visits)
     pub stands : (c.capacity ≡ cap) × RecoverIn code.size cap given.mode c.stage
     pub so_far : SoFar step cap shut given f c.stage visits (value_in_room m) p
 
+  -- a recovery has ended with the state e, in the view w and with the closure q
   abbrev pub Over : View T → ReleaseState → F → Type 0
   Over w e q = IsRecovered code step given e cap f q base w
 
+  -- a recovery that has gone on stands at its next stage, or has ended
   abbrev pub Further : View T → After (Recover T (Buffer 128)) ReleaseState → Buffer 128 → F → Type 0
   Further w (GoOn d) m q = Standing w d m q
   Further w (Done e) m q = Over w e q
 
+  -- after this step the history has the recovery at its next stage, or ended, with these visits
   abbrev NextThere : After (Recover T (Buffer 128)) ReleaseState → Visiting T → View T → Type 0
   NextThere a m w = Next (λ (z : View T). z.capacity) (RecoverAt code given) (RecoverEnds code given) base a m w
 
   -- the recovery stands at c at v with room m, and p is its closure, as h says
   module _ (law : IsCoding code) (v : View T) (c : Recover T (Buffer 128)) (m : Buffer 128) (p : F) (h : Standing v c m p) where
+    -- The value whose words are in the room.
     abbrev value : T
     value = value_in_room m
 
+    -- what the history says of a recovery at its stage: its visits, and that it asks only if the
+    -- container was not locked at first
     knows : Knows step cap shut given f c.stage
     knows = go c.stage refl
       where
@@ -118,7 +126,7 @@ module _ {T F : Type 0} (code : Coding T) (step : F → T → Bool → F → Typ
         (subst (RecoverIn code.size cap given.mode) is h.stands.1) h.visits m p goes.0
         (subst (λ z. SoFar step cap shut given f z h.visits value p) is h.so_far))))
 
-    -- an answer
+    -- An answer of the closure leaves the recovery where it goes on. It never ends it.
     heard : (said : Bool) (a : After (Recover T (Buffer 128)) ReleaseState) (index count : ℕ) → c.stage ≡ recovers.Asks index count
         → recover_goes code given c (number_of said) ≡ a → NextThere a (m, h.visits) v
     heard said (GoOn d) index count is goes = heard_on code law given base v c (m, h.visits) index count is d said goes h.at
@@ -139,6 +147,7 @@ module _ {T F : Type 0} (code : Coding T) (step : F → T → Bool → F → Typ
 
     -- w is what the pass knows then, a how the recovery goes on, q its closure then
     module _ (w : View T) (a : After (Recover T (Buffer 128)) ReleaseState) (left : Buffer 128) (q : F) where
+      -- A turn at a word leads the recovery to its next stage or its end.
       passes : (stage : RecoverStage) → c.stage ≡ stage → IsQuiet step cap shut given f stage
           → RecoverGoes code given v c m a left w → q ≡ p → Further w a left q
       passes stage same_stage quiet recover_goes_holds q_is_p = grind (arith, by_step)
@@ -162,9 +171,12 @@ module _ {T F : Type 0} (code : Coding T) (step : F → T → Bool → F → Typ
       turned recovers.LoadsCounterAgain is turns moves = passes recovers.LoadsCounterAgain is tt turns moves
       turned (recovers.AddsChange state) is turns moves = passes (recovers.AddsChange state) is tt turns moves
 
+      -- A turn at the stage of the recovery leads to its next stage or its end.
       pub further : RecoverTurns code given c.stage v c m a left w → RecoverMoves step code.size c given c.stage value p a q → Further w a left q
       further turns moves = turned c.stage refl turns moves
 
+    -- Where the closure may be called about values of the owner, it may be called at the
+    -- stage of the recovery.
     pub may_go : {pre : F → T → Type 0} → (shut ≡ false → TakesValues pre step cap f) → RecoverAsks pre c.stage value p
     may_go takes = may_ask step cap shut given f code.size takes c.stage h.stands.1 knows h.visits value p h.so_far
 
@@ -185,6 +197,7 @@ module _ {T F : Type 0} (code : Coding T) (step : F → T → Bool → F → Typ
   in_sight recovers.LoadsCounterAgain at = tt
   in_sight (recovers.AddsChange state) at = tt
 
+  -- If the recovery stands at a cell, the cell is one of the container.
   pub may_pass : (v : View T) (c : Recover T (Buffer 128)) (m : Buffer 128) (p : F) → Standing v c m p → IsWithin c.capacity c.stage
   may_pass v c m p h = subst (λ n. IsWithin n c.stage) (sym h.stands.0) (in_sight c.stage h.stands.1)
 
@@ -246,9 +259,11 @@ module _ {T F : Type 0} (code : Coding T) (step : F → T → Bool → F → Typ
     came recovers.LoadsCounterAgain is same = stays same
     came (recovers.AddsChange state) is same = stays same
 
+    -- Cells that were passed leave the recovery where it goes on, whatever its stage was.
     pub passed_on : PassesFrom c c.stage d → Standing w d m p
     passed_on passed = came c.stage refl passed
 
+  -- A recovery that is about to begin has asked its closure nothing.
   pub starts : (c : Recover T (Buffer 128)) (m : Buffer 128) → c ≡ first_recover cap → m ≡ fresh_cell
       → RecoverAt code given base base (first_recover cap) (fresh_cell, [])
       → Standing base c m f

@@ -1,4 +1,4 @@
--- What contracts say of a call that rests follows from what the machine has of it.
+-- What the machine has of a call that rests gives what contracts say of it (`EndsAs`, `IsResting`).
 use Rattle.lock_free_owners.proofs.Names.{◌≡◌, inl, inr, ℕ, false, true, true≢false, refl, sym, subst, ◌∙◌, Done, Number}
 use Rattle.lock_free_owners.proofs.Names.{Answer, Flight, Coding, goes_of, want_of, is_question, number_of, View}
 use Rattle.steps.specs.declared.container.find.FindStage.{FindStage}
@@ -12,6 +12,8 @@ use Rattle.history.specs.Settled as machine
 use Rattle.lock_free_owners.specs.Container.Resting.{FindEndsAs, EndsAs, IsResting, Settles, SettledFrom}
 
 module _ {T : Type 0} (code : Coding T) where
+  -- A call that a no to its question ends has the answer that `EndsAs` says. The cases are the calls
+  -- that put a question; only a find can end by its answer.
   pub ends_as : (p : ℕ) (answer : Answer T) (flight : Flight T) → is_question (want_of code flight) ≡ true
       → ((kept : Registry T) → goes_of code p flight (number_of false) kept ≡ Done answer) → EndsAs flight answer
   ends_as p answer (flights.Container (calls.Find run)) asks ends = go run.call.stage refl
@@ -69,6 +71,7 @@ module _ {T : Type 0} (code : Coding T) where
         parties = h.parties;
       }
 
+  -- What the machine says of a settled view is what contracts say of it.
   pub settled_so : (old new : View T) → machine.SettledFrom code kinds.Container old new → SettledFrom old new
   settled_so old new (inl same) = inl same
   settled_so old new (inr h) = inr (settles old new h)

@@ -5,22 +5,27 @@ use Rattle.lock_free_owners.proofs.Names.{state_of_look, BeginsWith}
 use Rattle.std.proofs.lemmas.Bool.{cases_eq}
 use Rattle.steps.specs.declared.container.state.Element.{Element}
 
+-- the fact holds, or it does not: a proof of one of the two
 abbrev pub Decided : Type 0 → Type 0
 Decided A = A ⊎ (A → ⊥)
 
+-- If two claims are decided, both together are.
 both : {A B : Type 0} → Decided A → Decided B → Decided (A × B)
 both (inl a) (inl b) = inl (a, b)
 both (inl a) (inr other) = inr (λ x. other x.1)
 both (inr other) b = inr (λ x. other x.0)
 
+-- A claim that holds just where a decided one does is decided.
 alike : {A B : Type 0} → (A → B) → (B → A) → Decided A → Decided B
 alike there back (inl a) = inl (there a)
 alike there back (inr other) = inr (λ b. other (back b))
 
 module _ {A : Type 0} (same : (x y : A) → Decided (x ≡ y)) where
+  -- Equal lists have equal first elements.
   first_of : (x y : A) (xs ys : List A) → x ∷ xs ≡ y ∷ ys → x ≡ y
   first_of x y xs ys e = cc
 
+  -- Equal lists have equal rests.
   rest_of : (x y : A) (xs ys : List A) → x ∷ xs ≡ y ∷ ys → xs ≡ ys
   rest_of x y xs ys e = cc
 
@@ -32,9 +37,11 @@ module _ {A : Type 0} (same : (x y : A) → Decided (x ≡ y)) where
   same_list (x ∷ xs) (y ∷ ys) =
       alike (λ (e : (x ≡ y) × (xs ≡ ys)). λ i. e.0 i ∷ e.1 i) (λ e. (first_of x y xs ys e, rest_of x y xs ys e)) (both (same x y) (same_list xs ys))
 
+-- Whether two lists of numbers are equal is decided.
 same_numbers : (x y : List ℕ) → Decided (x ≡ y)
 same_numbers = same_list (λ x y. cases_eq x y)
 
+-- whether two lists of seen numbers are equal is decided
 same_seen : (x y : Numbers) → Decided (x ≡ y)
 same_seen x y =
     alike (λ (e : (x.change ≡ y.change) × (x.counts ≡ y.counts)). λ i. record { change = e.0 i; counts = e.1 i })
@@ -42,11 +49,13 @@ same_seen x y =
     (both (cases_eq x.change y.change) (same_numbers x.counts y.counts))
 
 module _ {T : Type 0} (code : Coding T) (law : IsCoding code) where
+  -- Whether two values are equal is decided by their words.
   same_value : (x y : T) → Decided (x ≡ y)
   same_value x y =
       alike (λ e. sym (law.given_back x) ∙ (ap code.value_of e ∙ law.given_back y)) (λ e. ap code.words_of e)
       (same_numbers (code.words_of x) (code.words_of y))
 
+  -- whether two elements are equal is decided, since the words of a value tell which value it is
   same_element : (x y : Element T) → Decided (x ≡ y)
   same_element x y =
       alike (λ (e : (x.count ≡ y.count) × (x.value ≡ y.value)). λ i. record { count = e.0 i; value = e.1 i })
@@ -79,16 +88,18 @@ module _ {T : Type 0} (code : Coding T) (law : IsCoding code) where
       Has : Type 0
       Has = BeginsWith code UpdateState cells seen UpdateState base m
 
-      -- if the party has a state, it is decided whether it is this one
+      -- if the party has a state, it is decided whether it is the one that the look was given
       by_state : (p : ℕ) (s : ContainerState T) → base.party ≡ Some p → base.state ≡ Some s → Decided (s ≡ state_of_look cells seen m) → Decided Has
       by_state p s mine is (inl same) = inl (p, mine, is ∙ ap Some same)
       by_state p s mine is (inr other) =
           inr (λ h. (let both_are : ◌≡◌ {A = Option (ContainerState T)} (Some s) (Some (state_of_look cells seen m)) = sym is ∙ h.2 in
           other (inside s _ both_are)))
         where
+          -- Equal options have equal states.
           inside : (x y : ContainerState T) → ◌≡◌ {A = Option (ContainerState T)} (Some x) (Some y) → x ≡ y
           inside x y e = cc
 
+      -- the cases are whether the pass has been a party, and whether it has a state
       go : (party : Option ℕ) (state : Option (ContainerState T)) → base.party ≡ party → base.state ≡ state → Decided Has
       go None state mine is = inr (λ h. (let other : ◌≡◌ {A = Option ℕ} None (Some h.0) = sym mine ∙ h.1 in absurd (cc)))
       go (Some p) None mine is =

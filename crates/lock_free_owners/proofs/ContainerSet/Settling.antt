@@ -1,4 +1,4 @@
--- A load with which a call that rests ends, or that leaves what is known, as a seat owes it.
+-- The load that ends the last call of a pass if that rests: the rule of the table allows it.
 use Rattle.lock_free_owners.proofs.Names.{◌≡◌, ◌⊎◌, inl, inr, ℕ, ◌<◌, None, [], refl, ap, subst, ◌∙◌, slice_index}
 use Rattle.lock_free_owners.proofs.Names.{set, Coding, View, OwesAsk, IsMachine, IsResting, SettledFrom}
 use Rattle.std.proofs.Common.{set-set}
@@ -16,6 +16,7 @@ use Rattle.lock_free_owners.proofs.ContainerSet.Idle.{rests}
 use Rattle.lock_free_owners.proofs.Rules.Container.Bare.{leaves, counted_one}
 
 module _ {T : Type 0} (code : Coding T) where
+  -- What a seat that settles the end of its last call owes for the load of a word.
   abbrev Owed : (key words slots id word : ℕ) → View T → Type 0
   Owed key words slots id word v =
       OwesAsk (λ (z : View T). z.asked) (IsMachine code kinds.Container key) words slots id
@@ -34,8 +35,10 @@ module _ {T : Type 0} (code : Coding T) where
   settles_by key words slots id word v below known (inr h) = (
     below,
     λ s r long at small. (
+        -- The machine in which the call has ended, with the view vh of the pass behind that end.
         let rests : Rests (container_hears code) v key id = record { s = s; r = r; at = at; known = known; h = h } in
         let vh : View T = view_settled (container_hears code) rests in
+        -- From it the load leaves each word as it was, and counts one operation.
         let x =
         leaves code key slots id vh word (λ n. n) (λ k. refl) (λ u n w. IsCounted u w) (λ k. counted_one vh)
         (table_settled (container_hears code) rests) (machine_settled (container_hears code) rests)
@@ -62,14 +65,17 @@ module _ {T : Type 0} (code : Coding T) where
         )),
   )
 
+  -- A seat that rests or has no call under way may load any word of the table: this load settles the
+  -- end of its last call.
   pub owes_settling : (key words slots id word : ℕ) (v : View T) → word < words → v.capacity ≡ key → IsIdle v → v.other ≡ [] → 0 < v.share.part
       → Owed key words slots id word v
   owes_settling key words slots id word v below known idle alone any = settles_by key words slots id word v below known (rests code v alone any idle)
 
-  -- the capacity stays
+  -- A pass that settles the end of its last call keeps its capacity.
   of_from : (v from : View T) → SettledFrom code kinds.Container v from → from.capacity ≡ v.capacity
   of_from v from (inl same) = ap (λ (z : View T). z.capacity) same.0
   of_from v from (inr s) = s.capacity
 
+  -- A load that settles the last call keeps the capacity.
   pub settled_capacity : (v w : View T) → HasSettled code v w → w.capacity ≡ v.capacity
   settled_capacity v w h = ap (λ (z : View T). z.capacity) h.counted.known ∙ of_from v h.from h.settled

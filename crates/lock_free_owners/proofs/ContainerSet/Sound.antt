@@ -10,6 +10,8 @@ use Rattle.laws_container.specs.Open.{IsOpenContainer}
 use Rattle.lock_free_owners.specs.Container.Contracts.{IsSound}
 
 module _ {T : Type 0} {worn other : Type 0} (may : worn → other) where
+  -- If a counter that is worn in one sense is so in another (`may`), what is said of each index of an
+  -- owner in the one sense holds in the other.
   since_each : (mode : ReleaseMode) (p owner : ℕ) (events : List (Event T)) → FilledSinceEachBy worn mode p owner events
       → FilledSinceEachBy other mode p owner events
   since_each mode p owner events filled_since_each_by = grind arith
@@ -18,7 +20,7 @@ module _ {T : Type 0} {worn other : Type 0} (may : worn → other) where
   pub worn_on : (capacity : ℕ) (before : List (Event T)) (e : Event T) → AnswersBy Word worn capacity before e → AnswersBy Word other capacity before e
   worn_on capacity before e answers_by = grind (arith, since_each)
 
--- a history of a container says of itself what each one does
+-- each history of a container is sound: its events do to the set what they may, and its answers are right
 pub sound_history : {T : Type 0} (code : Coding T) (capacity : ℕ) (events : List (Event T)) → IsHistory code kinds.Container capacity events
     → IsSound code capacity events
 sound_history code capacity events h =

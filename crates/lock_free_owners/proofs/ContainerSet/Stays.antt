@@ -1,4 +1,4 @@
--- What steps leave of a seat.
+-- A step of a call leaves the seat at its table.
 use Rattle.lock_free_owners.proofs.Names.{◌∙◌, ℕ, View}
 use Rattle.threaded.specs.declared.driver.seated.Seated.{Seated}
 use Rattle.lock_free_owners.specs.Container.Turns.{StaysAtBoard}

@@ -22,17 +22,21 @@ TakesThen (WaitFree most) old new = TakesFew most old new
 TakesThen (ObstructionFree alone retry) old new = ContainerTakes alone retry old new
 
 module _ {T : Type 0} (code : Coding T) (base from : View T) (settled : SettledFrom code kinds.Container base from) where
+  -- Settling asks for one operation at most, and for none where no call rested.
   settling : SettledFrom code kinds.Container base from → from.asked ≤ base.asked + to_settle base
   settling (inl h) = (let same = ap (λ (z : View T). z.asked) h.0 in omega arith)
   settling (inr h) = (let few = h.asked in let rests = ap one_if_some h.resting.going in omega arith)
 
+  -- The bounds of two parts, one after the other, sum up.
   more : (asked before most after rest : ℕ) → asked ≤ before + most → before ≤ after + rest → asked ≤ after + (most + rest)
   more asked before most after rest h k = omega arith
 
+  -- The bounds of two parts sum up, with what is paid for changes of others.
   more_alone : (asked before alone paid after rest : ℕ) → asked ≤ before + (alone + paid) → before ≤ after + rest
       → asked ≤ after + ((alone + rest) + paid)
   more_alone asked before alone paid after rest h k = omega arith
 
+  -- A call behind a settled view takes what its guarantee says, and what settling took.
   pub takes_then : (capacity : ℕ) (g : Guarantee) (w : View T) → TakesBy code kinds.Container capacity g from w → TakesThen g base w
   takes_then capacity (WaitFree most) w h = more w.asked from.asked most base.asked (to_settle base) h (settling settled)
   takes_then capacity (ObstructionFree alone retry) w h =
@@ -51,10 +55,12 @@ module _ {T : Type 0} (code : Coding T) (base from : View T) (settled : SettledF
         (λ one. takes code kinds.Container call from w e m (idle_from code base from settled) (container_pays code from.capacity) one ends) least)
 
 module _ {T : Type 0} (code : Coding T) (base w : View T) where
+  -- An add takes at most what the model says of it.
   pub add_takes : (given : Owned T) (answer : Added) → AddEnds code given base answer tt w
       → ContainerTakes (base.capacity + 7 + code.size) (base.capacity + 1) base w
   add_takes given answer ends = takes_so code base ends.from ends.settled (adds_value code.size given) w answer tt (omega arith) ends.over
 
+  -- how many operations a remove takes, by its mode
   pub remove_takes : (given : GiveBack) (answer : Removed) → RemoveEnds code given base answer tt w → RemoveTakes base.capacity given.mode base w
   remove_takes given answer ends = by given.mode refl
     where
@@ -75,14 +81,17 @@ module _ {T : Type 0} (code : Coding T) (base w : View T) where
           (takes_so code base ends.from ends.settled (removes_value (with_mode LockIfLastIndex)) w answer tt (omega arith)
           (subst (λ (z : GiveBack). Ends code kinds.Container (removes_value z) ends.from answer tt w) (ap with_mode is) ends.over))
 
+  -- A replace takes at most five operations and one for each word of the value.
   pub replace_takes : (given : Replacement T) (answer : Replaced) → ReplaceEnds code given base answer tt w → TakesFew (5 + code.size) base w
   replace_takes given answer ends = takes_so code base ends.from ends.settled (replaces_value code.size given) w answer tt (omega arith) ends.over
 
+  -- A count takes capacity + 2 operations alone, and as many more for each change of a word by others.
   pub count_takes : (which : CountOf) (n : ℕ) → CountEnds code which base n tt w
       → ContainerTakes (base.capacity + 2) (base.capacity + 2) base w
   count_takes counts.Len n ends = takes_so code base ends.from ends.settled (counts_values counts.Len) w n tt (omega arith) ends.over
   count_takes counts.IsEmpty n ends = takes_so code base ends.from ends.settled (counts_values counts.IsEmpty) w n tt (omega arith) ends.over
 
+  -- A call of `is_locked` takes one operation.
   pub lock_takes : (b : Bool) → LockEnds code base b tt w → TakesFew 1 base w
   lock_takes b ends = takes_so code base ends.from ends.settled sees_lock w b tt (omega arith) ends.over
 

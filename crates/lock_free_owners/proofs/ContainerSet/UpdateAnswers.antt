@@ -20,11 +20,12 @@ use Rattle.lock_free_owners.proofs.ContainerSet.Changes.{by_word, Few, fewer, co
 -- ---- every run
 
 module _ {T : Type 0} where
+  -- what each turn of an open run keeps: if fewer changes were counted than make their number wrap, the
+  -- number counts them, and each update has answered right
   abbrev MetSoFar : Trace T → Type 0
   MetSoFar t = IsReachedOpen t × (t.world.kind ≡ kinds.Container → Few t → CountsChanges t × Extra t)
 
-  -- what is so of the updates of an open run with few changes is so after a turn that is not
-  -- refused
+  -- a turn that is not refused keeps `MetSoFar`
   turn_met : (u : Trace T) (turn : Turn T) → open_refusal u.world turn ≡ None → MetSoFar u → MetSoFar (after_turn u turn)
   turn_met u turn free h = (
     reached_open_more u turn free h.0,
@@ -54,13 +55,15 @@ module _ {T : Type 0} where
 -- ---- every history
 
 module _ {T : Type 0} (code : Coding T) where
+  -- in each history of fewer than 2^64 - 1 changes each update answers right
   pub history_meets : (capacity : ℕ) (events : List (Event T)) → IsHistory code kinds.Container capacity events
       → changes_of events < 2 ^ 64 - 1 → Each MeetsChanges events
   history_meets capacity events h few =
       subst (Each MeetsChanges) (sym h.is)
       (meets_changes_open h.trace h.run.of_kind h.run.reached (subst (λ (es : List (Event T)). changes_of es < 2 ^ 64 - 1) h.is few))
 
-  -- of the end of an update
+  -- An update that has ended answered right in a history with fewer than 2^64 - 1 changes: true if it
+  -- met a change, false if it met none.
   pub has_met : (changed : Bool) (old new : View T) → AnsweredBy UpdateState (Truth changed) old new
       → IsHistory code kinds.Container old.capacity new.seen → HasMet changed old new
   has_met changed old new a h =

@@ -1,4 +1,5 @@
--- Where a recovery asks about an index, or has been told to free it, the set was not locked when it began.
+-- A recovery of a robust set that asks about an index, or was told to free it, began
+-- before the set was locked.
 use Rattle.lock_free_owners.proofs.Names.{◌≡◌, inl, inr, ℕ, ◌+◌, ◌<◌, ◌==◌, nat_lt, Bool, true, false, true≢false}
 use Rattle.lock_free_owners.proofs.Names.{refl, arith, Option, Some, None, List, [], ◌∷◌, ◌++◌, sym, ap, subst, ◌∙◌}
 use Rattle.lock_free_owners.proofs.Names.{append_assoc, at_recover, by_test, After, GoOn, Done}
@@ -33,10 +34,11 @@ stage_in (Some (flights.Robust (calls.Recover run))) = run.call.stage
 stage_in flight = recovers.LoadsCounter
 
 module _ (mode : ReleaseMode) (base v : View ℕ) (idle : base.going ≡ None) where
+  -- The set was seen locked when the recovery began.
   abbrev shut : Bool
   shut = is_locked base.seen
 
-  -- it has asked about an index
+  -- If the recovery has asked about an index, the set was not locked when it began.
   asked_open : (p index owner : ℕ) (wrote first rest last : List (Event ℕ)) → Since p (Robust (Recover mode)) wrote last base v
       → IsHistory one_word kinds.Robust base.capacity v.seen → wrote ≡ first ++ Asked p index owner ∷ rest → shut ≡ false
   asked_open p index owner wrote first rest last since h is =
@@ -57,6 +59,8 @@ module _ (mode : ReleaseMode) (base v : View ℕ) (idle : base.going ≡ None) w
       let after = covers p (Robust (Recover mode)) part.0 others once.part once.rest once.is once.within in
       not_locked (record { rest = since.others ++ after.rest; is = after.is ∙ append_assoc base.seen since.others after.rest }) once.held
 
+  -- a recovery that is under way has visited these indices, and if it has asked, the set was not locked
+  -- when it began
   knows_under : (c : Recovering) (m : List Visit) → IsUnderWay one_word kinds.Robust (recovers_owned mode) base v c m
       → Knows base.capacity mode shut c.stage m
   knows_under c m under = (let so = under.tells idle in (go c.stage under.standing.1 so.0 so.1, so.0))
@@ -64,6 +68,7 @@ module _ (mode : ReleaseMode) (base v : View ℕ) (idle : base.going ≡ None) w
       p : ℕ
       p = under.party
 
+      -- If the recovery under way has asked about an index, the set was not locked when it began.
       open_by : (index owner : ℕ) (first rest : List (Event ℕ)) → under.wrote ≡ first ++ Asked p index owner ∷ rest → shut ≡ false
       open_by index owner first rest is = asked_open p index owner under.wrote first rest [] under.since under.history is
 
@@ -86,6 +91,7 @@ module _ (mode : ReleaseMode) (base v : View ℕ) (idle : base.going ≡ None) w
       go (recovers.Locks index lock) low at is = tt
       go recovers.LoadsCounterAgain low at is = tt
 
+  -- what is known of a recovery that goes on; of one that has ended nothing
   abbrev KnowsOn : After Recovering ReleaseState → List Visit → Type 0
   KnowsOn (GoOn d) visits = Knows base.capacity mode shut d.stage visits
   KnowsOn (Done e) visits = Unit {0}
@@ -110,6 +116,7 @@ module _ (mode : ReleaseMode) (base v : View ℕ) (idle : base.going ≡ None) w
   knows_heard c (recovers.Locks index lock) m n due at = absurd (true≢false (sym due ∙ lock_asks_none lock))
   knows_heard c recovers.LoadsCounterAgain m n due at = absurd (cc)
 
+  -- A recovery that is about to begin stands at its load of the counter.
   first_stage : (c : Recovering) (m : List Visit) → IsFirst one_word kinds.Robust (recovers_owned mode) base v c m → recovers.LoadsCounter ≡ c.stage
   first_stage c m first = ap stage_in first.first
 
@@ -125,12 +132,13 @@ module _ (mode : ReleaseMode) (base v : View ℕ) (idle : base.going ≡ None) w
       (subst (λ a. KnowsOn a (visits_after heard.asking heard.room (number_of heard.said))) heard.goes
       (knows_heard heard.asking heard.asking.stage heard.room (number_of heard.said) heard.asks (knows_under heard.asking heard.room heard.before)))
 
-  -- one that met the lock at once has visited none
+  -- A recovery that began where the lock had been seen has visited no index.
   pub visits_none : (p : ℕ) (visits : List Visit) (wrote last : List (Event ℕ)) → Since p (Robust (Recover mode)) wrote last base v
       → IsHistory one_word kinds.Robust base.capacity v.seen → wrote ≡ wrote_by p visits → shut ≡ true → visits ≡ []
   visits_none p [] wrote last since h is lock = refl
   visits_none p (z ∷ visits) wrote last since h is lock = absurd (true≢false (sym lock ∙ go z.came is))
     where
+      -- the cases are how far the recovery came at this visit
       go : (came : Came) → wrote ≡ wrote_to p z.index z.owner came ++ wrote_by p visits → shut ≡ false
       go HasAsked so = asked_open p z.index z.owner wrote [] _ last since h so
       go WasTold so = asked_open p z.index z.owner wrote [] _ last since h so

@@ -1,4 +1,5 @@
--- What each answer of a call on a robust set means.
+-- What each answer of an acquire, a release, a recovery, a count and a look at the lock
+-- of a robust set means.
 use Rattle.lock_free_owners.proofs.Names.{◌≡◌, ℕ, None, Ok, Err, IfOk, IfErr, Acquired, Released, ReleaseMode, View}
 use Rattle.lock_free_owners.proofs.Names.{one_word, takes_owned, gives_owned, Ends}
 use Rattle.model.specs.declared.turn.Kind.TheVariants as kinds

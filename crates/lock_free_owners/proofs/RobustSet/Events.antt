@@ -5,27 +5,31 @@ use Rattle.lock_free_owners.proofs.Names.{whose, is_party, IsBeginning}
 use Rattle.history.specs.Known.{events_by}
 
 module _ {T : Type 0} where
-  -- this event stands somewhere
+  -- The list `xs` has the event `e` at some place.
   abbrev pub StandsIn : Event T → List (Event T) → Type 0
   StandsIn e xs = (before : List (Event T)) × (after : List (Event T)) × (xs ≡ before ++ e ∷ after)
 
+  -- The empty list has no element.
   none_in : (first rest : List (Event T)) (e : Event T) → ◌≡◌ {A = List (Event T)} [] (first ++ e ∷ rest) → ⊥
   none_in [] rest e is = absurd (cc)
   none_in (x ∷ first) rest e is = absurd (cc)
 
-  -- what a party wrote stands there
+  -- an event that a party wrote stands in the history
   pub find_own : (p : ℕ) (xs first rest : List (Event T)) (e : Event T) → events_by p xs ≡ first ++ e ∷ rest → StandsIn e xs
   find_own p [] first rest e is = absurd (none_in first rest e is)
   find_own p (x ∷ xs) first rest e is = go (is_party p (whose x)) refl (λ front more. find_own p xs front rest e more)
     where
+      -- What stands in a list stands in it with one more event in front.
       later : StandsIn e xs → StandsIn e (x ∷ xs)
       later h = (x ∷ h.0, h.1, ap (λ zs. x ∷ zs) h.2)
 
+      -- An own event stands first, or among the further events.
       own : (front : List (Event T)) → x ∷ events_by p xs ≡ front ++ e ∷ rest
           → ((front : List (Event T)) → events_by p xs ≡ front ++ e ∷ rest → StandsIn e xs) → StandsIn e (x ∷ xs)
       own [] here next = (let same : x ≡ e = cc in ([], xs, ap (λ z. z ∷ xs) same))
       own (y ∷ front) here next = (let more : events_by p xs ≡ front ++ e ∷ rest = cc in later (next front more))
 
+      -- the cases are whether the first event is the party's
       go : (b : Bool) → is_party p (whose x) ≡ b → ((front : List (Event T)) → events_by p xs ≡ front ++ e ∷ rest → StandsIn e xs)
           → StandsIn e (x ∷ xs)
       go true t next = (let here : x ∷ events_by p xs ≡ first ++ e ∷ rest = rw t at is in own first here next)
@@ -34,6 +38,7 @@ module _ {T : Type 0} where
 -- ---- a moment of a call comes after what stood before its begin
 
 module _ {T : Type 0} (p : ℕ) (start : Start T) (since : List (Event T)) where
+  -- Events without a begin of the party have none before others.
   none_begun : (before : List (Event T)) → BeginsNone p (before ++ Begun p start ∷ since) → ⊥
   none_begun [] h = h.0 refl
   none_begun (Begun q other ∷ before) h = none_begun before h.1

@@ -1,4 +1,5 @@
--- What is known of whole calls on a set.
+-- What contracts say of whole calls on a robust set, from what their driver knows once they have ended:
+-- what each call wrote, that its answer is right, and what it tells of the lock.
 use Rattle.lock_free_owners.proofs.Names.{◌≡◌, ◌⊎◌, ⊎_elim, ℕ, ◌+◌, ◌<◌, ◌≤◌, Bool, true, false, true≢false, None, Ok, Err}
 use Rattle.lock_free_owners.proofs.Names.{IfOk, IfErr, OnOk, List, [], ◌∷◌, ◌++◌, refl, sym, ap, ◌∙◌}
 use Rattle.lock_free_owners.proofs.Names.{append_assoc, arith, Acquired, Released, ReleaseMode, LockIfLastIndex}
@@ -42,13 +43,16 @@ AnsweredBy start answer old new =
     Answered start answer (λ p before. AnswersBy Word (MayBeWorn new.seen) old.capacity before (Finished p (Robust start) answer)) old new
 
 module _ (base w : View ℕ) (h : IsHistory one_word kinds.Robust base.capacity w.seen) where
+  -- The history behind the call is sound.
   sound : IsSound base.capacity w.seen
   sound = sound_history base.capacity w.seen h
 
   module _ (p : ℕ) (start : RobustStart) (answer : Answer ℕ) (wrote : List (Event ℕ)) (c : Called p (Robust start) answer wrote base w) where
+    -- The begin of the call.
     abbrev begin : Event ℕ
     begin = Begun p (Robust start)
 
+    -- The end of the call.
     abbrev last : Event ℕ
     last = Finished p (Robust start) answer
 
@@ -86,15 +90,18 @@ module _ (base w : View ℕ) (h : IsHistory one_word kinds.Robust base.capacity 
           right = worn_on (worn_set base.capacity w.seen) base.capacity before last (sound.answers before [] last is_last);
         }
 
+-- What an answer speaks of is a beginning of what the pass has seen.
 last_of : {start : RobustStart} {answer : Answer ℕ} {Right : ℕ → List (Event ℕ) → Type 0} {old new : View ℕ}
     → (a : Answered start answer Right old new) → IsBeginning a.before new.seen
 last_of {start} {answer} a = record { rest = Finished a.by (Robust start) answer ∷ []; is = a.is }
 
 -- what any call leaves of what a pass knows
 module _ {C M E : Type 0} (call : Calling ℕ C M E) where
+  -- What the pass knows goes on from what it knew before the call.
   goes : (base w : View ℕ) (e : E) (m : M) → Ends one_word kinds.Robust call base e m w → Goes base w
   goes base w e m ends = grind (arith, opened, append_assoc)
 
+  -- If the operations aside are as many as before, or one more, they are at most one more.
   one_aside : (base w : View ℕ) → (w.aside ≡ base.aside) ⊎ (w.aside ≡ base.aside + 1) → w.aside ≤ base.aside + 1
   one_aside base w x = ⊎_elim (λ (same : w.aside ≡ base.aside). omega arith) (λ (more : w.aside ≡ base.aside + 1). omega arith) x
 
@@ -112,9 +119,11 @@ module _ (base w : View ℕ) (m : Unit {0}) (idle : base.going ≡ None) where
   -- ---- acquire
 
   module _ (owner : ℕ) where
+    -- An acquire that has ended is a call of the history with its answer.
     pub taken : (answer : Acquired) → Ends one_word kinds.Robust (takes_owned owner) base answer m w → HasTaken owner answer base w
     taken answer ends = grind (arith, called, one_word, takes_owned)
 
+    -- An acquire answers right by what came before its end.
     pub taken_answered : (answer : Acquired) → Ends one_word kinds.Robust (takes_owned owner) base answer m w
         → AnsweredBy (Acquire owner) (acquire_answer answer) base w
     taken_answered answer ends =
@@ -140,10 +149,12 @@ module _ (base w : View ℕ) (m : Unit {0}) (idle : base.going ≡ None) where
           λ well_formed honest. (sound base w ends.history).holds well_formed honest before after (Granted t.by index owner) is,
         ))
 
+    -- An acquire that answers an index was granted it.
     pub granted : (answer : Acquired) → Ends one_word kinds.Robust (takes_owned owner) base answer m w → IfOk answer (λ index. WasGranted index owner base w)
     granted (Err e) ends = tt
     granted (Ok index) ends = granted_so index ends
 
+    -- An index that an acquire answers is below the capacity.
     pub within : (answer : Acquired) → Ends one_word kinds.Robust (takes_owned owner) base answer m w → (capacity : ℕ) → base.capacity ≡ capacity
         → IfOk answer (λ index. index < capacity)
     within answer ends capacity same_capacity = grind (arith, taken)
@@ -157,6 +168,7 @@ module _ (base w : View ℕ) (m : Unit {0}) (idle : base.going ≡ None) where
         let a = taken_answered (Err WasLocked) ends in
         record { answered = a; unlocked = λ same. absurd (cc); locked = λ same. lock_stays (last_of a) a.right }
 
+    -- An acquire that took no index was refused as its failure says.
     pub refused : (answer : Acquired) → Ends one_word kinds.Robust (takes_owned owner) base answer m w → IfErr answer (λ e. WasRefused owner e base w)
     refused (Ok index) ends = tt
     refused (Err e) ends = refused_so e ends
@@ -172,13 +184,16 @@ module _ (base w : View ℕ) (m : Unit {0}) (idle : base.going ≡ None) where
   -- ---- release
 
   module _ (index owner : ℕ) where
+    -- The release of the index for the owner, in this mode.
     abbrev pub given_of : ReleaseMode → GiveBack
     given_of mode = record { index = index; owner = owner; mode = mode }
 
+    -- A release that has ended is a call of the history with its answer.
     pub given : (mode : ReleaseMode) (answer : Released) → Ends one_word kinds.Robust (gives_owned (given_of mode)) base answer m w
         → HasGiven (given_of mode) answer base w
     given mode answer ends = grind (arith, called, one_word, gives_owned)
 
+    -- A release answers right by what came before its end.
     pub given_answered : (mode : ReleaseMode) (answer : Released) → Ends one_word kinds.Robust (gives_owned (given_of mode)) base answer m w
         → AnsweredBy (Release index owner mode) (release_answer answer) base w
     given_answered mode answer ends =
@@ -222,6 +237,7 @@ module _ (base w : View ℕ) (m : Unit {0}) (idle : base.going ≡ None) where
     released_so Default states.Locked ends = (let no = (given Default (Ok states.Locked) ends).tells.0 in absurd (cc))
     released_so Default states.Unlocked ends = λ same. absurd (cc)
 
+    -- A release that answers a state has released as this state says.
     pub released : (mode : ReleaseMode) (answer : Released) → Ends one_word kinds.Robust (gives_owned (given_of mode)) base answer m w
         → IfOk answer (λ s. HasReleased s mode base w)
     released mode (Err e) ends = tt
@@ -229,25 +245,32 @@ module _ (base w : View ℕ) (m : Unit {0}) (idle : base.going ≡ None) where
 
   -- ---- looks
 
+  -- A count of the borrowed indices that has ended is a call of the history.
   pub counted : (n : ℕ) → Ends one_word kinds.Robust counts_owned base n m w → HasCounted n base w
   counted n ends = grind (arith, called, one_word, counts_owned)
 
   module _ (n : ℕ) (ends : Ends one_word kinds.Robust counts_owned base n m w) where
+    -- The count is right by what came before its end.
     pub counted_answered : IsRightCount n base w
     counted_answered = (let t = counted n ends in answered_by base w ends.history t.by BorrowedIndices (Number n) t.wrote t.called)
 
+    -- The count is at most the capacity.
     pub counted_most : n ≤ base.capacity
     counted_most = grind (arith, is_locked, counted_answered, count_most)
 
+    -- The count is 0 where the lock had been seen.
     pub counted_none : is_locked base.seen ≡ true → n ≡ 0
     counted_none lock = counted_answered.right.0 (lock_stays counted_answered.since lock)
 
+  -- A call of `is_locked` that has ended is a call of the history.
   pub looked : (b : Bool) → Ends one_word kinds.Robust looks_owned base b m w → HasLooked b base w
   looked b ends = grind (arith, called, one_word, looks_owned)
 
+  -- Its answer is right by what came before its end.
   pub looked_answered : (b : Bool) → Ends one_word kinds.Robust looks_owned base b m w → IsRightLook b base w
   looked_answered b ends = (let t = looked b ends in answered_by base w ends.history t.by IsLocked (Truth b) t.wrote t.called)
 
+  -- If it answers true the pass has seen the lock, and if it answers false it had not seen it before.
   pub looked_lock : (b : Bool) → Ends one_word kinds.Robust looks_owned base b m w → FoundLock b base w
   looked_lock true ends = (let a = looked_answered true ends in lock_stays (last_of a) (sym a.right))
   looked_lock false ends = (let a = looked_answered false ends in not_locked a.since (sym a.right))
@@ -256,11 +279,12 @@ module _ (base w : View ℕ) (m : Unit {0}) (idle : base.going ≡ None) where
 
 module _ (base w : View ℕ) (idle : base.going ≡ None) (mode : ReleaseMode) (state : ReleaseState) (visits : List Visit)
     (ends : Ends one_word kinds.Robust (recovers_owned mode) base state visits w) where
+  -- In the history the recovery is one call, which wrote just the events of its visits.
   recover_called : Called ends.party (Robust (Recover mode)) (State state) (wrote_by ends.party visits) base w
   recover_called = grind (arith, called, one_word, recovers_owned)
 
-  -- a recovery that has ended came to these visits, was told what its closures say of them, and
-  -- wrote just that
+  -- A recovery that has ended came to these visits, and wrote just what it did at them; its closures
+  -- were called as the visits say.
   pub recovered : {F S : Type 0} (step : F → ℕ → ℕ → Bool → F → Type 0) (tell : S → ℕ → ℕ → S → Type 0) (f q : F) (s y : S)
       → HasVisited step tell f s visits q y → HasRecovered step tell mode state f s q y base w
   recovered step tell f q s y visited =
@@ -274,9 +298,11 @@ module _ (base w : View ℕ) (idle : base.going ≡ None) (mode : ReleaseMode) (
         nothing = visits_none mode base w idle ends.party visits ends.wrote _ ends.since ends.history (ends.tells idle).1;
       }
 
+  -- A recovery answers right by what came before its end, in the words of the laws.
   recovered_by : AnsweredBy (Recover mode) (State state) base w
   recovered_by = answered_by base w ends.history ends.party (Recover mode) (State state) (wrote_by ends.party visits) recover_called
 
+-- The state that a recovery answers is right.
 pub recovered_answered : (base w : View ℕ) (idle : base.going ≡ None) (mode : ReleaseMode) (state : ReleaseState) (visits : List Visit)
     → Ends one_word kinds.Robust (recovers_owned mode) base state visits w → IsRightRecovery mode state base w
 recovered_answered base w idle mode states.Locked visits ends = recovered_by base w idle mode states.Locked visits ends
@@ -316,6 +342,7 @@ only_looked capacity v w h =
       apart = h.apart;
     }
 
+-- What a pass knows after a look goes on from what it knew before.
 pub looks_goes : (capacity : ℕ) (base w : View ℕ) → Looks one_word kinds.Robust capacity base w → Goes base w
 looks_goes capacity base w looks = grind arith
 
@@ -335,11 +362,14 @@ looks_after capacity base v w first looks =
 
 -- base and w are what the pass knew before the call and after it, e is its end, m its room then
 module _ {C M E : Type 0} (call : Calling ℕ C M E) (base w : View ℕ) (e : E) (m : M) (idle : base.going ≡ None) where
+  -- A call that has ended took no more operations than the model says of it.
   takes_so : AllowsOne (guarantee_of kinds.Robust base.capacity one_word.size call.start) → Ends one_word kinds.Robust call base e m w
       → TakesBy one_word kinds.Robust base.capacity (guarantee_of kinds.Robust base.capacity one_word.size call.start) base w
   takes_so least ends = takes one_word kinds.Robust call base w e m idle (robust_pays one_word base.capacity) least ends
 
 module _ (base w : View ℕ) (idle : base.going ≡ None) where
+  -- An acquire takes capacity + 3 operations alone, and capacity + 1 more for each change
+  -- of a word by others.
   pub acquire_takes : (owner : ℕ) (e : Acquired) (m : Unit {0}) → Ends one_word kinds.Robust (takes_owned owner) base e m w
       → TakesAlone (base.capacity + 3) (base.capacity + 1) base w
   acquire_takes owner e m ends = takes_so (takes_owned owner) base w e m idle (omega arith) ends
@@ -352,13 +382,16 @@ module _ (base w : View ℕ) (idle : base.going ≡ None) where
   release_takes index owner LockIfLastIndex e m ends =
       takes_so (gives_owned (record { index = index; owner = owner; mode = LockIfLastIndex })) base w e m idle (omega arith) ends
 
+  -- A count takes capacity + 2 operations alone, and as many more for each change of a word by others.
   pub count_takes : (e : ℕ) (m : Unit {0}) → Ends one_word kinds.Robust counts_owned base e m w
       → TakesAlone (base.capacity + 2) (base.capacity + 2) base w
   count_takes e m ends = takes_so counts_owned base w e m idle (omega arith) ends
 
+  -- A call of `is_locked` takes one operation at most.
   pub look_takes : (e : Bool) (m : Unit {0}) → Ends one_word kinds.Robust looks_owned base e m w → TakesAtMost 1 base w
   look_takes e m ends = takes_so looks_owned base w e m idle (omega arith) ends
 
+  -- A recovery takes at most what the model says of it in its mode.
   pub recover_takes : (mode : ReleaseMode) (e : ReleaseState) (m : List Visit) → Ends one_word kinds.Robust (recovers_owned mode) base e m w
       → RecoverTakes base.capacity mode base w
   recover_takes Default e m ends = takes_so (recovers_owned Default) base w e m idle (omega arith) ends

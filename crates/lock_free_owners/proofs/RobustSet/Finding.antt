@@ -27,20 +27,25 @@ at_cell capacity so_many index = record { capacity = capacity; stage = finds.Loa
 
 -- ---- fewer steps are left behind each
 
+-- Coming to a next index leaves a find fewer steps.
 comes_down : (c : Find) (cap left index found : ℕ) → c.capacity ≡ cap → 2 * (cap - index) + 1 < left → GoesDown cap left (find_comes_to c index found)
 comes_down c cap left index found same_cap left_above = grind (arith, by_test, nat_lt, at_find)
 
 module _ (c : Find) (cap : ℕ) (is : c.capacity ≡ cap) where
-  -- from a cell that it has come to
+  -- The load of a cell leaves a find fewer steps than it had left when it came to that cell
+  -- or to an earlier one.
   pub load_down : (first so_many index found owner k : ℕ) → first ≤ index → index < cap
       → GoesDown cap (find_left cap (finds.LoadsCell first so_many)) (find_takes c (finds.LoadsCell index found) owner k)
   load_down first so_many index found owner k first_up_to_index index_below_cap = grind (arith, by_eq, find_left, at_find, one_more, find_comes_to, comes_down)
 
+  -- An answer of the closure leaves a find fewer steps than it had at its question.
   pub ask_down : (index found owner : ℕ) (answer : CallbackProgression) → index < cap
       → GoesDown cap (find_left cap (finds.Asks index found)) (find_takes c (finds.Asks index found) owner (says answer))
   ask_down index found owner answer index_below_cap = grind (arith, comes_down)
 
 module _ {F : Type 0} (step : F → ℕ → CallbackProgression → F → Type 0) (cap owner : ℕ) (base : View ℕ) (f : F) where
+  -- `Came`, `Looked`, `SoFar`, `Search` and `On` are the relations of this find, which began in `base`
+  -- with the closure f
   abbrev Came : ℕ → ℕ → List (Event ℕ) → F → Type 0
   Came = finding.Came step cap owner base f
 
@@ -58,6 +63,7 @@ module _ {F : Type 0} (step : F → ℕ → CallbackProgression → F → Type 0
 
   -- ---- the list
 
+  -- At first the find has called its closure with no index.
   came_none : Came 0 0 base.seen f
   came_none = grind (arith, owned_none)
 
@@ -124,12 +130,13 @@ module _ {F : Type 0} (step : F → ℕ → CallbackProgression → F → Type 0
             owned = owned_more owner base.seen low h.indices es on h.owned has;
           }
 
+    -- Where the find has come past the last index, it has found what `HasFound` says.
     found_all : low ≡ cap → HasFound step cap owner f n p base.seen es
     found_all low_is_cap = grind arith
 
   -- ---- a turn
 
-  -- it has come past the indices below this one
+  -- a find that is past the indices below `index` comes to its cell, or ends if there is none
   comes : (w : View ℕ) (c : Find) (index found : ℕ) (q : F) → Looked w → w.capacity ≡ cap → 0 < w.share.part → c.capacity ≡ cap → index ≤ cap
       → TakesAtMost index base w → Came index found w.seen q → On (find_comes_to c index found) w q
   comes w c index found q looked first_capacity_is_cap part_positive second_capacity_is_cap index_up_to_cap takes_at_most came =
@@ -138,16 +145,20 @@ module _ {F : Type 0} (step : F → ℕ → CallbackProgression → F → Type 0
   module _ (small : cap < 2 ^ 32) (fits : owner < empty) (v w : View ℕ) (c : Find) (p : F) (h : Search v c p) where
     module _ (index found k : ℕ) (at : SoFar (finds.LoadsCell index found) v p) (looks : LooksAt one_word kinds.Robust cap (cell_word index) v k w)
         (few : TakesAtMost index base v) (counted : w.asked ≡ v.asked + 1) where
+      -- after the load of the cell the pass has looked at the set up to now
       looked_then : Looked w
       looked_then = go at.1
         where
+          -- the cases are whether this load was the find's first one
           go : (v ≡ base) ⊎ Looked v → Looked w
           go (inl same) = subst (λ (z : View ℕ). Looks one_word kinds.Robust cap z w) same looks.looks
           go (inr before) = looks_then one_word kinds.Robust cap base v w before looks.looks
 
+      -- The find has come to this index with what the pass knows now.
       came_there : Came index found w.seen p
       came_there = came_later index found v.seen p at.2 w.seen looks.looks.mine
 
+      -- It has taken one step for each cell.
       few_now : TakesAtMost (index + 1) base w
       few_now = (let before = few in let one = counted in omega arith)
 
@@ -187,6 +198,7 @@ module _ {F : Type 0} (step : F → ℕ → CallbackProgression → F → Type 0
           steps = (let most = few in omega arith);
         }
 
+  -- A find that is about to begin has called its closure with no index.
   pub starts : (c : Find) → c ≡ first_find cap → base.capacity ≡ cap → 0 < base.share.part → 0 < cap → Search base c f
   starts c c_is capacity_is_cap part_positive cap_positive = grind (arith, came_none)
 
@@ -195,5 +207,6 @@ module _ {F : Type 0} (step : F → ℕ → CallbackProgression → F → Type 0
       → FindAsks pre cap c.stage p
   may_go {pre} v c p takes h = go c.stage h.so_far
     where
+      -- The cases are the find's stages. Only at a question is the closure called.
       go : (stage : FindStage) → SoFar stage v p → FindAsks pre cap stage p
       go stage so_far = grind arith

@@ -1,4 +1,4 @@
--- A look at a word is one operation.
+-- A look at a word takes one operation, and the pass then knows the history up to this load.
 use Rattle.lock_free_owners.proofs.Names.{ℕ, ◌<◌, [], ◌∷◌, slice_index, ap, ◌∙◌, OwesAsk, one_word, View, IsMachine, LooksAt}
 use Rattle.steps.specs.declared.ask.Op.TheVariants.{Load}
 use Rattle.model.specs.declared.turn.Kind.TheVariants as kinds
@@ -12,6 +12,7 @@ pub owes_word : (capacity words slots id word : ℕ) (v : View ℕ) → word < w
 owes_word capacity words slots id word v below some = (
   below,
   λ s m long at small. (
+      -- The load is a look at the whole history, and what it finds is the word in the machine of that moment.
       let x = looks_at one_word kinds.Robust capacity slots id word v some (λ late h. h) s m long at small in (
         x.0,
         x.1,

@@ -18,7 +18,7 @@ worn_on may capacity before (Finished p (Robust (Release index owner LockIfLastI
 worn_on may capacity before (Finished p (Robust (Recover mode)) (State Unlocked)) h = h
 worn_on may capacity before e h = h
 
--- a history of a robust set says of itself what each one does
+-- each history of a robust set is sound: its events do to the set what they may, and its answers are right
 pub sound_history : (capacity : ℕ) (events : List (Event ℕ)) → IsHistory one_word kinds.Robust capacity events → IsSound capacity events
 sound_history capacity events h =
     let set : IsOpenSet h.trace = is_open_set one_word capacity h.trace h.run in

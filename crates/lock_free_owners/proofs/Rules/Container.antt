@@ -1,4 +1,5 @@
--- What keeps the rule of a container's table, and what its closures were called with.
+-- How calls of a container keep the rule of its table, and what the closures of a find and a recovery
+-- were called with.
 pub mod Bare
 pub mod Places
 pub mod LookRuns

@@ -34,8 +34,9 @@ use Rattle.lock_free_owners.proofs.Worn.RobustPays.{late_in, late_in_most, recov
 use Rattle.lock_free_owners.proofs.Worn.ContainerPays.{remove_late, container_credit, container_late, container_locks}
 use Rattle.lock_free_owners.proofs.Worn.ContainerPays as container
 
--- ---- a call that does not lock is not late, and one that does is so by 1
+-- ---- ---- a call that may not lock is not late, and any call is late by 1 at most
 
+-- In a mode that does not lock, a call is late by 0.
 late_by_mode : (mode : ReleaseMode) (n : ℕ) → locks_in mode ≡ false → late_in mode n ≡ 0
 late_by_mode Default n e = refl
 late_by_mode LockIfLastIndex n e = absurd (cc)
@@ -49,18 +50,22 @@ robust_not_late n (robust_calls.Find run) e = refl
 robust_not_late n (robust_calls.BorrowedIndices run) e = refl
 robust_not_late n (robust_calls.IsLocked run) e = refl
 
+-- A release of a robust set is late by 1 at most.
 release_late_most : (n : ℕ) (stage : ReleaseStage) → release_late n stage ≤ 1
 release_late_most n (releases.Locks lock) = lock_late_most n lock
 release_late_most n stage = omega arith
 
+-- A remove is late by 1 at most.
 remove_late_most : (n : ℕ) (stage : RemoveStage) → remove_late n stage ≤ 1
 remove_late_most n (removes.Releases count stage) = release_late_most n stage
 remove_late_most n stage = omega arith
 
+-- A recovery of a robust set is late by 1 at most.
 recover_late_most : (n : ℕ) (stage : recovers.RecoverStage) → recover_late n stage ≤ 1
 recover_late_most n (recovers.TheVariants.Locks index lock) = lock_late_most n lock
 recover_late_most n stage = omega arith
 
+-- A recovery of a container is late by 1 at most.
 container_recover_late_most : (n : ℕ) (stage : RecoverStage) → container.recover_late n stage ≤ 1
 container_recover_late_most n (container_recovers.Locks index lock) = lock_late_most n lock
 container_recover_late_most n stage = omega arith
@@ -76,29 +81,35 @@ robust_late_once n flight = omega arith
 -- ---- a call of any family
 
 module _ {T : Type 0} where
+  -- credit, late and `locks` (whether it may lock) of a call of any family: other families have no counter
   abbrev pub credit : Flight T → ℕ
   credit (flights.Robust flight) = robust_credit flight
   credit (flights.Container flight) = container_credit flight
   credit flight = 0
 
+  -- 1 where a call of this flight has to count again, since the counter has moved, else 0.
   abbrev pub late : ℕ → Flight T → ℕ
   late n (flights.Robust flight) = robust_late n flight
   late n (flights.Container flight) = container_late n flight
   late n flight = 0
 
+  -- Whether a call of this flight may lock.
   abbrev pub locks : Flight T → Bool
   locks (flights.Robust flight) = robust_locks flight
   locks (flights.Container flight) = container_locks flight
   locks flight = false
 
+  -- The credit of the call under way, or 0 where there is none.
   abbrev pub credit_of : Option (Flight T) → ℕ
   credit_of None = 0
   credit_of (Some flight) = credit flight
 
+  -- Whether the call under way is late, as 1 or 0, and 0 where there is none.
   abbrev pub late_of : ℕ → Option (Flight T) → ℕ
   late_of n None = 0
   late_of n (Some flight) = late n flight
 
+  -- Whether there is a call under way that may lock.
   abbrev pub locks_of : Option (Flight T) → Bool
   locks_of None = false
   locks_of (Some flight) = locks flight
@@ -114,11 +125,13 @@ module _ {T : Type 0} where
   container_not_late n (container_calls.Count which run) e = refl
   container_not_late n (container_calls.IsLocked run) e = refl
 
+  -- A call that may not lock is not late.
   not_late : (n : ℕ) (flight : Flight T) → locks flight ≡ false → late n flight ≡ 0
   not_late n (flights.Robust flight) e = robust_not_late n flight e
   not_late n (flights.Container flight) e = container_not_late n flight e
   not_late n flight e = refl
 
+  -- a party whose call may not lock, or that has none, is not late
   pub none_late : (n : ℕ) (o : Option (Flight T)) → locks_of o ≡ false → late_of n o ≡ 0
   none_late n None e = refl
   none_late n (Some flight) e = not_late n flight e
@@ -133,30 +146,39 @@ module _ {T : Type 0} where
       omega arith
   container_late_once n flight = omega arith
 
+  -- A call is late by 1 at most.
   late_once : (n : ℕ) (flight : Flight T) → late n flight ≤ 1
   late_once n (flights.Robust flight) = robust_late_once n flight
   late_once n (flights.Container flight) = container_late_once n flight
   late_once n flight = omega arith
 
+  -- no party is late by more than 1
   pub late_most : (n : ℕ) (o : Option (Flight T)) → late_of n o ≤ 1
   late_most n None = omega arith
   late_most n (Some flight) = late_once n flight
 
   -- ---- what all calls have
 
+  -- the credit of the call that party q has under way, and whether it may lock
   abbrev pub credit_at : Trace T → ℕ → ℕ
   credit_at t q = credit_of (flight_in t.world q)
 
+  -- Whether the call of this party may lock.
   abbrev pub locks_at : Trace T → ℕ → Bool
   locks_at t q = locks_of (flight_in t.world q)
 
+  -- the generation counter: the first word
   abbrev pub counter : Trace T → ℕ
   counter t = counter_of t.world.words
 
-  -- so many parties have begun calls; one of them at most may lock
+  -- What bounds the counter between two turns. Only parties below `seats` have a call under way, and
+  -- one of these at most may lock. Unless the counter is locked, it and the credits of all calls are
+  -- within three for each change.
   pub record Bounded (t : Trace T) : Type 0 where
     pub some : 0 < length t.world.words
+    -- A number above p and above each party that has a call under way.
     pub seats : ℕ
+    -- Parties from `seats` on have no call under way.
     pub beyond : (q : ℕ) → seats ≤ q → flight_in t.world q ≡ None
     pub alone : (q r : ℕ) → locks_at t q ≡ true → locks_at t r ≡ true → q ≡ r
     pub fits : counter t ≢ locked → counter t + sum_below (credit_at t) seats ≤ 3 * changes t.events
@@ -178,9 +200,11 @@ module _ {T : Type 0} where
         ≤ counter old + (credit_at old p + late_of (counter old) (flight_in old.world p)) + 3 * changes es
     pub alone : locks_at new p ≡ true → (locks_at old p ≡ true) ⊎ ((q : ℕ) → q ≢ p → locks_at old q ≡ false)
 
+  -- The changes of two lists of events sum up.
   pub changes_more : (xs ys : List (Event T)) → changes (xs ++ ys) ≡ changes xs + changes ys
   changes_more xs ys = sum_by-append change xs ys
 
+  -- The end of a call is no change.
   pub ends_none : (p : ℕ) (start : Start T) (o : Option (Answer T)) → changes (ending_of p start o) ≡ 0
   ends_none p start None = refl
   ends_none p start (Some answer) = refl
@@ -191,21 +215,26 @@ module _ {T : Type 0} where
     abbrev seats : ℕ
     seats = b.seats + (p + 1)
 
+    -- The credits of all calls before the turn.
     abbrev before : ℕ
     before = sum_below (credit_at old) b.seats
 
+    -- The credits of all calls after the turn.
     abbrev after : ℕ
     after = sum_below (credit_at new) seats
 
+    -- Further parties have no credit before the turn.
     longer : sum_below (credit_at old) seats ≡ before
     longer = sum_longer (credit_at old) b.seats seats (omega arith) (λ i far. ap credit_of (b.beyond i far))
 
+    -- the credits of all calls together differ only by the one of this party's call
     differ : after + credit_at old p ≡ before + credit_at new p
     differ =
         let moves = sum_moved (credit_at new) (credit_at old) seats p (omega arith) (λ i ne. ap credit_of (owes.others i ne)) in
         let long = longer in
         omega arith
 
+    -- The changes after the turn are those before it and those that it writes.
     all_changes : changes new.events ≡ changes old.events + changes es
     all_changes = ap changes owes.events ∙ changes_more old.events es
 
@@ -219,7 +248,8 @@ module _ {T : Type 0} where
         let more = all_changes in
         omega arith
 
-    -- a call of another is late only where it may lock, and then this one may not
+    -- The bound with what the call of another party is late by. That call is late only where it may
+    -- lock, and then this party's call may not.
     there : (q : ℕ) → q ≢ p → counter new ≢ locked → counter new + after + late_of (counter new) (flight_in old.world q) ≤ 3 * changes new.events
     there q ne open_now = by (locks_at old q) refl (locks_at old p) refl
       where
@@ -245,6 +275,7 @@ module _ {T : Type 0} where
                 let moves = differ in
                 let more = all_changes in
                 omega arith
+            -- The counter moved: the move counts 1 in what the turn pays, which covers late.
             stays false t =
                 let pays : counter new + (credit_at new p + late_of (counter new) (flight_in new.world p)) + 1
                 ≤ counter old + (credit_at old p + late_of (counter old) (flight_in old.world p)) + 3 * changes es =
@@ -257,23 +288,29 @@ module _ {T : Type 0} where
                 let more = all_changes in
                 omega arith
 
+    -- the bound with what the call of any party is late by: this party's or another's
     at_any : counter new ≢ locked → (q : ℕ) → counter new + after + late_of (counter new) (flight_in new.world q) ≤ 3 * changes new.events
     at_any open_now q = ⊎_elim mine theirs (cases_eq q p)
       where
+        -- The bound holds with what the call of the turn's own party is late by.
         mine : q ≡ p → counter new + after + late_of (counter new) (flight_in new.world q) ≤ 3 * changes new.events
         mine e = subst (λ i. counter new + after + late_of (counter new) (flight_in new.world i) ≤ 3 * changes new.events) (sym e) (here open_now)
 
+        -- The bound holds with what another party's call is late by.
         theirs : q ≢ p → counter new + after + late_of (counter new) (flight_in new.world q) ≤ 3 * changes new.events
         theirs ne =
             subst (λ o. counter new + after + late_of (counter new) o ≤ 3 * changes new.events) (sym (owes.others q ne)) (there q ne open_now)
 
+    -- Another party's call may lock after the turn only if it could before.
     other_locks : (q : ℕ) → q ≢ p → locks_at new q ≡ true → locks_at old q ≡ true
     other_locks q ne e = sym (ap locks_of (owes.others q ne)) ∙ e
 
+    -- No other party's call may lock beside that of the party of the turn.
     with_other : (q : ℕ) → q ≢ p → locks_at new p ≡ true → locks_at new q ≡ true → p ≡ q
     with_other q ne mine other =
         ⊎_elim (λ was. b.alone p q was (other_locks q ne other)) (λ none. absurd (true≢false (sym (other_locks q ne other) ∙ none q ne))) (owes.alone mine)
 
+    -- after the turn one call at most may lock; the cases are whether q and r are the party of the turn
     still_alone : (q r : ℕ) → locks_at new q ≡ true → locks_at new r ≡ true → q ≡ r
     still_alone q r x y = ⊎_elim first (λ ne. ⊎_elim (second ne) (neither ne) (cases_eq r p)) (cases_eq q p)
       where
@@ -301,6 +338,6 @@ module _ {T : Type 0} where
           late = at_any;
         }
 
-  -- nothing has happened
+  -- a turn that writes nothing and changes nothing keeps the bounds
   pub bounded_same : (t : Trace T) → Bounded t → Bounded record { world = t.world; events = t.events ++ [] }
   bounded_same t b = subst (λ es. Bounded record { world = t.world; events = es }) (sym (append-nil t.events)) b

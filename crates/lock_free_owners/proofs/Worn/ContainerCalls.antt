@@ -68,7 +68,7 @@ module _ (n : ℕ) where
 -- ---- its step
 
 module _ {T : Type 0} (code : Coding T) (state : Option (ContainerState T)) where
-  -- it goes on as a call that may lock, or that may not
+  -- A step keeps whether the call is one that may lock: a remove or a recovery in the mode that locks.
   pub container_mode : (flight : ContainerFlight T) (old : ℕ) → SameMode (container_locks flight) (after code state flight old)
   container_mode (Add run) old = (add_same T 0 run.given run.room (add_after code.size run.call old)).1
   container_mode (Remove run) old = (remove_same T 0 run.given run.room (remove_after run.call run.given old)).1
@@ -81,6 +81,7 @@ module _ {T : Type 0} (code : Coding T) (state : Option (ContainerState T)) wher
   container_mode (Count which run) old = count_mode T which run.given run.room run.call (count_after run.call.capacity run.call.count old)
   container_mode (IsLocked run) old = tt
 
+  -- the step of a call of a container keeps to what the call can still add to the counter
   abbrev pub ContainerPays : ℕ → ℕ → ℕ → ℕ → ContainerFlight T → Type 0
   ContainerPays n new p cell flight =
       new + container_left new (after code state flight (container_old flight n cell)) + counts_move (container_locks flight) n new
@@ -94,12 +95,14 @@ module _ {T : Type 0} (code : Coding T) (state : Option (ContainerState T)) wher
       let same = add_same T new run.given run.room (add_after code.size run.call (add_old run.call.stage n cell)) in
       let left = same.0 in
       omega arith
+  -- a remove and a recovery may lock, so they may be late
   container_pays n new p cell (Remove run) stands is open_then =
       let pays = remove_pays T run.call n new p cell run.given run.call.stage stands is open_then in
       let same = remove_same T new run.given run.room (remove_after run.call run.given (remove_old run.call.stage n cell)) in
       let left = same.0 in
       let late = remove_late_in n run.given.mode run.call.stage stands in
       omega arith
+  -- a replace, a find, a look and the look at the lock leave the counter
   container_pays n new p cell (Replace run) stands is open_then =
       let still = moved_none n new is in
       let same = replace_same T new run.given run.room (replace_after code.size run.call run.given cell) in
@@ -110,6 +113,7 @@ module _ {T : Type 0} (code : Coding T) (state : Option (ContainerState T)) wher
       let same = find_same T new run.given (find_kept kept_at run.call run.room cell) (find_after code.size run.call run.given cell) in
       let left = same.0 in
       omega arith
+  -- A recovery pays as it does by itself.
   container_pays n new p cell (Recover run) stands is open_then =
       let pays = recover_pays run.call n new code.size p cell run.given (read_in code run.room) run.call.stage stands is open_then in
       let same =
@@ -123,6 +127,7 @@ module _ {T : Type 0} (code : Coding T) (state : Option (ContainerState T)) wher
       let same = looks_same T code new which call state cell in
       let left = same.0 in
       omega arith
+  -- a count raises the counter once at most, for which it has two
   container_pays n new p cell (Count which run) stands is open_then =
       let same =
       count_same T n new which run.given run.room run.call (count_after run.call.capacity run.call.count (count_old run.call.count n cell))
@@ -131,10 +136,12 @@ module _ {T : Type 0} (code : Coding T) (state : Option (ContainerState T)) wher
   container_pays n new p cell (IsLocked run) stands is open_then = let still = moved_none n new is in omega arith
 
 module _ {T : Type 0} (code : Coding T) where
+  -- A flight that fits its span stands at a stage that there is.
   pub container_stands : (c : ℕ) (all : List SetAct) (done : List (Act T)) (start : ContainerStart T) (flight : ContainerFlight T)
       → At c code.size all done start flight → ContainerStands flight
   container_stands c all done start flight at = grind arith
 
+  -- A flight that may lock is of a begin that may lock.
   pub container_may : (c : ℕ) (all : List SetAct) (done : List (Act T)) (start : ContainerStart T) (flight : ContainerFlight T)
       → At c code.size all done start flight → container_locks flight ≡ true → may_lock (Container start) ≡ true
   container_may c all done start flight at e = grind arith

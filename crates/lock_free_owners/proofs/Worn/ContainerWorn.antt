@@ -1,4 +1,4 @@
--- The counter of a container's set is at its end only after so many changes.
+-- The generation counter of a container is at its end only after at least a third of 2^64 - 2 changes.
 use Rattle.std.proofs.Common.{◌≡◌, ℕ, ◌<◌, ◌==◌, Bool, true, false, Option, Some, None, option_map, if◌then◌else◌}
 use Rattle.std.proofs.Common.{nat_lt, List, length, refl, sym, ap, subst, ◌∙◌, arith}
 use Rattle.steps.specs.Indices.Robust.Parts.{locked}
@@ -60,19 +60,24 @@ use Rattle.lock_free_owners.proofs.Worn.ContainerCalls.{container_stands, contai
 use Rattle.lock_free_owners.proofs.Worn.Bounded.{Bounded, locks_of, counter, changes_more}
 use Rattle.lock_free_owners.proofs.Worn.Turns.{left, SameLocks, PaysBy, BeginPays, Facts, run_bounded, opening_bounded}
 
+-- Equal options have equal values.
 pub some_same : {A : Type 0} (x y : A) → Some x ≡ Some y → x ≡ y
 some_same x y e = cc
 
+-- a remove at its first stage has no credit; the cases are whether its index is below the capacity
 first_credit : (c index : ℕ) (mode : ReleaseMode) → remove_credit mode (first_remove c index).stage ≡ 0
 first_credit c index mode = go (nat_lt index c) refl
   where
+    -- the cases are whether the index is below the capacity
     go : (t : Bool) → nat_lt index c ≡ t → remove_credit mode (first_remove c index).stage ≡ 0
     go true t = rw t refl
     go false t = rw t refl
 
+-- a remove at its first stage is not late
 first_late : (n c index : ℕ) → remove_late n (first_remove c index).stage ≡ 0
 first_late n c index = go (nat_lt index c) refl
   where
+    -- the cases are whether the index is below the capacity
     go : (t : Bool) → nat_lt index c ≡ t → remove_late n (first_remove c index).stage ≡ 0
     go true t = rw t refl
     go false t = rw t refl
@@ -80,23 +85,28 @@ first_late n c index = go (nat_lt index c) refl
 module _ {T : Type 0} (code : Coding T) where
   -- ---- a step, as one of any family
 
+  -- A call of a container, read as a call of any structure.
   abbrev any_call : After (ContainerFlight T) (Answer T) → After (Flight T) (Answer T)
   any_call a = as_call flights.Container (λ answer. answer) a
 
+  -- What it can still add is the same, read as a call of any structure.
   same_left : (new : ℕ) (a : After (ContainerFlight T) (Answer T)) → left new (any_call a) ≡ container_left new a
   same_left new (GoOn flight) = refl
   same_left new (Done answer) = refl
 
+  -- Whether it may lock is the same, read as a call of any structure.
   same_locks : (may : Bool) (a : After (ContainerFlight T) (Answer T)) → SameMode may a → SameLocks may (any_call a)
   same_locks may (GoOn flight) h = h
   same_locks may (Done answer) h = tt
 
+  -- A step of a call of a container, read as a step of any structure.
   abbrev any_step : ℕ → ContainerFlight T → ℕ → List ℕ → List (ℕ × ContainerState T) → Step (Flight T) (Registry T) T
   any_step p flight answer dead states =
       as_step flights.Container (λ kept. registries.Container kept.0 kept.1) (calls.step code p flight answer dead states)
 
   module _ (words : List ℕ) (p : ℕ) (ask : Option Ask) (dead : List ℕ) (states : List (ℕ × ContainerState T)) (flight : ContainerFlight T)
       (stands : ContainerStands flight) (leaves : counter_of (words_after words ask) ≡ container_then flight (counter_of words)) where
+    -- the step of the call with this answer pays for what it adds
     abbrev Paid : ℕ → Type 0
     Paid answer = PaysBy words (flights.Container flight) ask (any_step p flight answer dead states)
 
@@ -120,6 +130,7 @@ module _ {T : Type 0} (code : Coding T) where
               (container_mode code (state_of p states) flight (container_old flight (counter_of words) cell));
         }
 
+    -- The step pays for what it adds with each answer that it may find.
     paid : (answer : ℕ) → answer ≡ container_old flight (counter_of words) answer → Paid answer
     paid answer finds = subst Paid (sym finds) (paid_there answer)
 
@@ -148,38 +159,47 @@ module _ {T : Type 0} where
   begins_so n c p starts.IsEmpty = record { pays = omega arith; mode = λ e. absurd (cc) }
   begins_so n c p starts.IsLocked = record { pays = omega arith; mode = λ e. absurd (cc) }
 
+  -- where a begin is admitted, its call has no more than the begin pays for
   begins_by : (n c p : ℕ) (start : ContainerStart T) (flight : Flight T) (b : Bool)
       → option_map flights.Container (if b then Some (first c start) else None) ≡ Some flight → BeginPays n p (Container start) flight
   begins_by n c p start flight true e =
       subst (BeginPays n p (Container start)) (some_same (flights.Container (first c start)) flight e) (begins_so n c p start)
   begins_by n c p start flight false e = absurd (cc)
 
+  -- Each call that the machine of a container begins has no more than its begin pays for.
   begins_any : (n c p : ℕ) (start : Start T) (kept : Registry T) (flight : Flight T) → first_of kinds.Container c start kept ≡ Some flight
       → BeginPays n p start flight
   begins_any n c p (Container start) kept flight e = begins_by n c p start flight (names_owner start) e
   begins_any n c p start kept flight e = absurd (cc)
 
 module _ {T : Type 0} (code : Coding T) (c : ℕ) where
-  -- the terms of any open run
+  -- The terms of the laws of any open run: an owner is gone by a recovery's word too, and steps for the
+  -- dead are not refused.
   abbrev pub terms : Terms
   terms = record { by = Word; kept = false }
 
+  -- the machine keeps the laws of containers
   abbrev pub Sound : Trace T → Type 0
   Sound t = frame.Sound (family_by terms code c) t
 
+  -- A turn that is not refused keeps the laws of containers.
   pub sound_on : (t : Trace T) (turn : Turn T) → open_refusal t.world turn ≡ None → Sound t → Sound (after_turn t turn)
   sound_on t turn e s = open_turn_sound false code c t s (λ keeps. absurd (cc)) turn e (λ keeps. absurd (cc))
 
   module _ (t : Trace T) (s : Sound t) where
+    -- The words of the machine.
     abbrev ws : List ℕ
     ws = t.world.words
 
+    -- What the machine keeps beside its words: the dead owners and the states.
     abbrev Kept : Registry T
     Kept = registries.Container s.state.dead s.state.states
 
+    -- the step of a call pays for what it adds, in a machine with these words and parties
     abbrev PaysIn : Coding T → ℕ → Option Ask → ℕ → Registry T → Start T → Flight T → Type 0
     PaysIn z p ask answer kept start flight = PaysBy ws flight ask (step_of z ws (beside_of ws kept t.world.latest p) p start flight answer kept)
 
+    -- The machine keeps just that.
     owners : t.world.kept ≡ Kept
     owners = s.fit.kept
 
@@ -206,18 +226,20 @@ module _ {T : Type 0} (code : Coding T) (c : ℕ) where
     locks_in_span all done (Container start) (flights.Container flight) at e = container_may code c all done start flight at e
     locks_in_span all done start flight at e = absurd at
 
+    -- a party whose call may lock has a span of such a call in the events
     spans_there : (q : ℕ) (o : Option (Party T)) → party_of q t.world.latest ≡ o → locks_of (flight_of (doing_of o)) ≡ true
         → is_locking (span_of q t.events) ≡ true
     spans_there q None found e = absurd (cc)
     spans_there q (Some x) found e = go x.doing refl e
       where
+        -- the cases are whether the party's latest call is under way or over
         go : (doing : Doing T) → x.doing ≡ doing → locks_of (flight_of (Some doing)) ≡ true → is_locking (span_of q t.events) ≡ true
         go (Going flight since) d e =
             let there = stands_there (family_by terms code c) t s q x since flight found d in
             ap is_locking there.span ∙ locks_in_span (set_acts_of q s.state.events) (acts_of q s.state.events) x.start flight there.at e
         go (Over others) d e = absurd (cc)
 
-    -- what each turn of an open run of a container owes is so
+    -- `Facts` of each machine of an open run of a container
     pub facts : Facts t
     facts =
         record {
@@ -261,6 +283,7 @@ module _ {T : Type 0} where
       subst (λ kind. Bounded (opening w.coding kind w.capacity w.parties)) (sym is)
       (opening_bounded (opening w.coding kinds.Container w.capacity w.parties) refl refl (omega arith))
 
+  -- the counter of a container in an open run is bounded if no two calls that may lock overlap
   pub reached_bounded : (t : Trace T) → t.world.kind ≡ kinds.Container → IsReachedOpen t → LocksApart t.events → Bounded t
   reached_bounded t is r apart =
       let code = t.world.coding in

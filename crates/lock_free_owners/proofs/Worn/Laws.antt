@@ -1,4 +1,5 @@
--- The laws of the counter, of every history.
+-- A history after which the generation counter of a set or container may be at its end has at least
+-- (2^64 - 2) / 3 changes, if no two calls that may lock overlap in it.
 use Rattle.std.proofs.Common.{◌≡◌, ℕ, ◌-◌, ◌*◌, ◌^◌, ◌≤◌, List, ◌∷◌, ◌++◌, refl, sym, ap, subst, ◌∙◌, arith}
 use Rattle.std.proofs.lemmas.List.Sums.{sum_by-append, sum_by-cons}
 use Rattle.model.specs.declared.event.Event.{Event}
@@ -11,11 +12,13 @@ use Rattle.lock_free_owners.proofs.Worn.RobustWorn as robust
 use Rattle.lock_free_owners.proofs.Worn.RobustWorn.{worn_after}
 use Rattle.lock_free_owners.proofs.Worn.ContainerWorn as container
 
+-- A history of a robust set after which its counter may be at its end has at least (2^64 - 2) / 3 changes.
 pub worn_set : (capacity : ℕ) (events : List (Event ℕ)) → IsWorn capacity events → LocksApart events → 2 ^ 64 - 2 ≤ 3 * changes events
 worn_set capacity events h apart =
     let bounded = robust.reached_bounded h.trace h.run.of_kind h.run.reached (subst LocksApart h.is apart) in
     subst (λ es. 2 ^ 64 - 2 ≤ 3 * changes es) (sym h.is) (worn_after h.trace bounded h.worn)
 
+-- A history of a container after which its counter may be at its end has at least (2^64 - 2) / 3 changes.
 pub worn_container : {T : Type 0} (code : Coding T) (capacity : ℕ) (events : List (Event T)) → containers.IsWorn code capacity events → LocksApart events
     → 2 ^ 64 - 2 ≤ 3 * changes events
 worn_container code capacity events h apart =

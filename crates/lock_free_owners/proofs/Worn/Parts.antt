@@ -1,12 +1,17 @@
--- What a part of a call can still add to the counter, and that its steps keep to it: a raise, a count, a lock, an acquire
--- and a release. Each change of the history is good for three: a raise of the counter, a raise more that a lock may have
--- to make because of it, and a first raise of a lock.
+-- What a part of a call (a raise, a count, a lock, an acquire, a release) can still add to the
+-- generation counter, and that its steps keep to it. Each change of the history pays for three: one
+-- raise of the counter, one further raise that a lock may have to make because of it, and a first raise
+-- of a lock.
 --
--- Of each part and each call, here and in `RobustPays`, at a stage:
--- credit: raises that changes so far have paid for, and that it, or a lock because of it, may still make;
--- late: 1 where a lock has to count again, since the counter has moved;
--- left: credit and late of the call that goes on from the step, 0 where it is done;
--- pays: counter and left after the step are no more than counter, credit and late before it, and three for each change.
+-- In this file and in `RobustPays`, of each part and each call at a stage:
+--
+-- - credit: the raises that changes so far have paid for, and that it, or a lock because of it, may
+--   still make;
+-- - late: 1 where a lock has to count again, since the counter has moved, else 0;
+-- - left: credit and late of the call as it goes on from the step, 0 where it is done;
+-- - pays: the counter and left after the step are at most the counter, credit and late before it, and
+--   three for each change;
+-- - n and new: the counter before the step and after it.
 use Rattle.std.proofs.Common.{◌≡◌, ◌≢◌, ◌⊎◌, inl, inr, ℕ, ◌+◌, ◌*◌, ◌≤◌, ◌==◌, nat_lt, if◌then◌else◌}
 use Rattle.std.proofs.Common.{Bool, true, false, refl, arith, eq-eqb}
 use Rattle.steps.specs.Indices.Robust.Acquire.{Acquired, acquire_sees, acquire_tries, acquire_raised, acquire_takes}
@@ -39,35 +44,42 @@ use Rattle.laws_robust.proofs.Counter.{tested, raise_then, count_then, count_old
 use Rattle.laws_robust.proofs.Counter.{acquire_then, acquire_old, release_then, release_old}
 use Rattle.lock_free_owners.specs.Worn.{changes}
 
--- 1 where the counter has moved
+-- 1 where the counter is another after the step, else 0
 abbrev pub moved : ℕ → ℕ → ℕ
 moved n new = if new == n then 0 else 1
 
+-- A counter that is as it was has moved 0 times.
 pub moved_none : (n new : ℕ) → new ≡ n → moved n new ≡ 0
 moved_none n new same = let t = eq-eqb new n same in rw t (omega arith)
 
+-- a step moves the counter once at most
 pub moved_most : (n new : ℕ) → moved n new ≤ 1
 moved_most n new = go (new == n)
   where
+    -- the cases are whether the counter is as it was
     go : (t : Bool) → (if t then 0 else 1) ≤ 1
     go true = omega arith
     go false = omega arith
 
 -- ---- a raise
 
--- it goes on where the counter has stayed, and ends with at most one more
+-- A raise that goes on has left the counter, and one that has ended has raised it by 1 at most.
 abbrev pub RaiseMoves : ℕ → ℕ → After Raise ReleaseState → Type 0
 RaiseMoves n new (GoOn raise) = new ≡ n
 RaiseMoves n new (Done state) = new ≤ n + 1
 
+-- a raise that has loaded the counter has left it; the cases are whether it found the lock, or the
+-- greatest counter
 raise_sees_moves : (n new : ℕ) → new ≡ n → RaiseMoves n new (raise_sees n)
 raise_sees_moves n new same = go (n == locked) refl (n == greatest) refl
   where
+    -- the cases are whether the counter is locked, and whether it is the greatest
     go : (t : Bool) → (n == locked) ≡ t → (u : Bool) → (n == greatest) ≡ u → RaiseMoves n new (raise_sees n)
     go true t u e = rw t (omega arith)
     go false t true u = rw (t, u) (omega arith)
     go false t false u = rw (t, u) same
 
+-- each step of a raise moves the counter as `RaiseMoves` says
 pub raise_moves : (raise : Raise) (n new : ℕ) → new ≡ raise_then raise n → RaiseMoves n new (raise_after raise n)
 raise_moves raises.LoadsCounter n new is = raise_sees_moves n new is
 raise_moves (raises.ExchangesCounter k) n new is = go (n == k) refl
@@ -82,21 +94,26 @@ raise_moves (raises.ExchangesCounter k) n new is = go (n == k) refl
 
 -- ---- a count
 
--- it ends with the counter that it has left, or at the greatest
+-- A count that goes on, or has found the lock, has left the counter. One that has counted knows the
+-- counter that it has left, raised by 1 at most, or left it at the greatest.
 abbrev pub CountMoves : ℕ → ℕ → After Count Counted → Type 0
 CountMoves n new (GoOn count) = new ≡ n
 CountMoves n new (Done ends.Locked) = new ≡ n
 CountMoves n new (Done (ends.Filled filled counter)) =
     ((new ≡ n) × (counter ≡ greatest)) ⊎ ((new ≤ n + 1) × (new ≡ counter))
 
+-- A count that comes to the next cell, or to its last exchange, has left the counter. The cases are
+-- whether there is a cell, and whether the counter is at the greatest.
 count_comes_moves : (c n new counter index filled : ℕ) → new ≡ n → CountMoves n new (count_comes_to c counter index filled)
 count_comes_moves c n new counter index filled same = go (nat_lt index c) refl (counter == greatest) refl
   where
+    -- the cases are whether there is a cell at the index, and whether the counter is the greatest
     go : (t : Bool) → nat_lt index c ≡ t → (u : Bool) → (counter == greatest) ≡ u → CountMoves n new (count_comes_to c counter index filled)
     go true t u e = rw t same
     go false t true u = rw (t, u) (inl (same, tested counter greatest u))
     go false t false u = rw (t, u) same
 
+-- each step of a count moves the counter as `CountMoves` says
 pub count_moves : (c : ℕ) (count : Count) (n new cell : ℕ) → new ≡ count_then count n
     → CountMoves n new (count_after c count (count_old count n cell))
 count_moves c counts.LoadsCounter n new cell is = go (n == locked) refl
@@ -119,26 +136,31 @@ count_moves c (counts.ExchangesCounter k filled) n new cell is = go (n == k) ref
         rw t (inr (low, next))
     go false t = let same : new ≡ n = rw t at is in rw t same
 
--- a call that counts and does no more has two, until it ends
+-- a count that has ended has raised the counter by 1 at most
 pub count_ends : (n new : ℕ) (filled counter : ℕ) → CountMoves n new (Done (ends.Filled filled counter)) → new ≤ n + 1
 count_ends n new filled counter (inl h) = let same = h.0 in omega arith
 count_ends n new filled counter (inr h) = h.0
 
 -- ---- a lock
 
--- its next count raises the counter; and it counts again where the counter is another than the one that it has left
+-- A lock may still raise the counter while it counts. It is late where the counter is another than the
+-- one that its count has left: then it counts again.
 abbrev pub lock_credit : Lock → ℕ
 lock_credit (locks.Counts count) = 1
 lock_credit (locks.ExchangesCounter counter) = 0
 
+-- 1 where a lock has to count again, since the counter has moved, else 0.
 abbrev pub lock_late : ℕ → Lock → ℕ
 lock_late n (locks.Counts count) = 0
 lock_late n (locks.ExchangesCounter counter) = if n == counter then 0 else 1
 
+-- A lock is late by 1 at most.
 pub lock_late_most : (n : ℕ) (lock : Lock) → lock_late n lock ≤ 1
 lock_late_most n (locks.Counts count) = omega arith
 lock_late_most n (locks.ExchangesCounter counter) = moved_most counter n
 
+-- a step of a lock adds to the counter, and leaves to be added, no more than its credit
+-- and late were before it
 abbrev pub LockPays : ℕ → ℕ → Lock → After Lock ReleaseState → Type 0
 LockPays n new lock (GoOn next) = new + (lock_credit next + lock_late new next) ≤ n + (lock_credit lock + lock_late n lock)
 LockPays n new lock (Done state) = new ≤ n + (lock_credit lock + lock_late n lock)
@@ -160,12 +182,13 @@ module _ (n new : ℕ) (count : Count) where
       let low = h.0 in
       rw (z, g, same) (omega arith)
 
+  -- a lock whose count takes a step keeps to what it can still add
   counted_pays : (a : After Count Counted) → CountMoves n new a → LockPays n new (locks.Counts count) (lock_counted a)
   counted_pays (GoOn next) m = omega arith
   counted_pays (Done ends.Locked) m = omega arith
   counted_pays (Done (ends.Filled filled counter)) m = counted_filled filled counter m (filled == 0) refl (counter == greatest) refl
 
--- unless it locks
+-- each step of a lock but the one that locks keeps to what the lock can still add
 pub lock_pays : (c : ℕ) (lock : Lock) (n new cell : ℕ) → new ≡ lock_then lock n → new ≢ locked
     → LockPays n new lock (lock_after c lock (lock_old lock n cell))
 lock_pays c (locks.Counts count) n new cell is open_then =
@@ -184,32 +207,40 @@ lock_pays c (locks.ExchangesCounter k) n new cell is open_then = go (n == k) ref
 
 -- ---- an acquire
 
+-- An acquire that has filled a cell has two: the raise that it makes next, and one that a lock may make
+-- because of it.
 abbrev pub acquire_credit : AcquireStage → ℕ
 acquire_credit acquires.LoadsCounter = 0
 acquire_credit (acquires.FillsCell counter index) = 0
 acquire_credit (acquires.ChecksCounter counter) = 0
 acquire_credit (acquires.Raises index raise) = 2
 
+-- what is left of an acquire after a step
 abbrev pub acquire_left : After Acquire Acquired → ℕ
 acquire_left (GoOn run) = acquire_credit run.stage
 acquire_left (Done answer) = 0
 
 module _ (call : Acquire) (n new : ℕ) where
+  -- an acquire that comes to the next cell, or finds no more, has nothing left to add
   tries_none : (counter index : ℕ) → acquire_left (acquire_tries call counter index) ≡ 0
   tries_none counter index = go (nat_lt index call.capacity) refl
     where
+      -- the cases are whether there is a cell at the index
       go : (t : Bool) → nat_lt index call.capacity ≡ t → acquire_left (acquire_tries call counter index) ≡ 0
       go true t = rw t (omega arith)
       go false t = rw t (omega arith)
 
+  -- an acquire that has loaded the counter has nothing left to add
   sees_none : acquire_left (acquire_sees call n) ≡ 0
   sees_none = go (n == locked) refl (n == greatest) refl
     where
+      -- the cases are whether the counter is locked, and whether it is the greatest
       go : (t : Bool) → (n == locked) ≡ t → (u : Bool) → (n == greatest) ≡ u → acquire_left (acquire_sees call n) ≡ 0
       go true t u e = rw t (omega arith)
       go false t true u = rw (t, u) (omega arith)
       go false t false u = rw (t, u) (tries_none n 0)
 
+  -- a step of its raise keeps to the two that the acquire has
   raised_pays : (index : ℕ) (raise : Raise) (a : After Raise ReleaseState) → RaiseMoves n new a
       → new + acquire_left (acquire_raised call index a) + moved n new ≤ n + 2
   raised_pays index raise (GoOn next) m = let none = moved_none n new m in omega arith
@@ -217,15 +248,18 @@ module _ (call : Acquire) (n new : ℕ) where
   raised_pays index raise (Done states.Unlocked) m = let most = moved_most n new in omega arith
 
   module _ (T : Type 0) (p owner : ℕ) (cell : ℕ) where
+    -- the step of an acquire at this stage keeps to what the acquire can still add
     abbrev AcquirePays : AcquireStage → Type 0
     AcquirePays stage =
         new + acquire_left (acquire_takes call stage (acquire_old stage n cell)) + moved n new
         ≤ n + acquire_credit stage + 3 * changes {T = T} (acquire_effects p owner stage (acquire_old stage n cell))
 
+    -- each step of an acquire keeps to what the acquire can still add; the cases are its stages
     pub acquire_pays : (stage : AcquireStage) → new ≡ acquire_then stage n → AcquirePays stage
     acquire_pays acquires.LoadsCounter is = let none = moved_none n new is in let left = sees_none in omega arith
     acquire_pays (acquires.FillsCell counter index) is = go (cell == empty) refl
       where
+        -- the cases are whether the cell has no owner
         go : (t : Bool) → (cell == empty) ≡ t → AcquirePays (acquires.FillsCell counter index)
         go true t = let none = moved_none n new is in rw t (omega arith)
         go false t = let none = moved_none n new is in let left = tries_none counter (index + 1) in rw t (omega arith)
@@ -255,48 +289,58 @@ abbrev pub for_mode : ReleaseMode → ℕ
 for_mode Default = 2
 for_mode LockIfLastIndex = 3
 
+-- A change is good for 3 at most.
 pub for_mode_most : (mode : ReleaseMode) → for_mode mode ≤ 3
 for_mode_most Default = omega arith
 for_mode_most LockIfLastIndex = omega arith
 
+-- whether a call in this mode may lock
 abbrev pub locks_in : ReleaseMode → Bool
 locks_in Default = false
 locks_in LockIfLastIndex = true
 
+-- the credit of a release: after it has freed its index what the change is good for in its mode, at its
+-- lock that of the lock
 abbrev pub release_credit : ReleaseMode → ReleaseStage → ℕ
 release_credit mode releases.EmptiesCell = 0
 release_credit mode (releases.Raises raise) = for_mode mode
 release_credit mode (releases.Locks lock) = lock_credit lock
 
+-- a release is late at its lock, as the lock is
 abbrev pub release_late : ℕ → ReleaseStage → ℕ
 release_late n releases.EmptiesCell = 0
 release_late n (releases.Raises raise) = 0
 release_late n (releases.Locks lock) = lock_late n lock
 
--- what is left of it, which a lock that is late has too
+-- what is left of a release after a step: its credit, and 1 where its lock is late
 abbrev pub release_left : ReleaseMode → ℕ → After Release Released → ℕ
 release_left mode new (GoOn run) = release_credit mode run.stage + release_late new run.stage
 release_left mode new (Done answer) = 0
 
--- a move of the counter counts, but for a call that may lock
+-- A move of the counter is counted against a call that may not lock, since the move may make the lock
+-- of another call late.
 abbrev pub counts_move : Bool → ℕ → ℕ → ℕ
 counts_move true n new = 0
 counts_move false n new = moved n new
 
+-- Where the counter did not move, no move is counted.
 pub counts_none : (may : Bool) (n new : ℕ) → new ≡ n → counts_move may n new ≡ 0
 counts_none true n new same = omega arith
 counts_none false n new same = moved_none n new same
 
+-- A step counts one move at most.
 pub counts_most : (may : Bool) (n new : ℕ) → counts_move may n new ≤ 1
 counts_most true n new = omega arith
 counts_most false n new = moved_most n new
 
--- where the release stands at its lock, its mode is the one that locks
+-- a release stands at its lock only in the mode that locks
 abbrev pub StandsIn : ReleaseMode → ReleaseStage → Type 0
 StandsIn mode (releases.Locks lock) = mode ≡ LockIfLastIndex
 StandsIn mode stage = Unit {0}
 
 module _ (call : Release) (n new : ℕ) where
+  -- after a step to `a` the counter, what is left of the release, and a move that counts are within the
+  -- counter before and this credit
   abbrev ReleaseLeaves : ReleaseMode → ℕ → After Release Released → Type 0
   ReleaseLeaves mode credit a = new + release_left mode new a + counts_move (locks_in mode) n new ≤ n + credit
 
@@ -309,6 +353,7 @@ module _ (call : Release) (n new : ℕ) where
   release_raises Default (Done state) m = let most = moved_most n new in omega arith
   release_raises LockIfLastIndex (Done state) m = omega arith
 
+  -- a step of its lock leaves a release within what the lock could add
   release_locks : (lock : Lock) (a : After Lock ReleaseState) → LockPays n new lock a
       → ReleaseLeaves LockIfLastIndex (lock_credit lock + lock_late n lock) (release_locked call a)
   release_locks lock (GoOn next) m = omega arith
@@ -323,6 +368,8 @@ module _ (call : Release) (n new : ℕ) where
         ≤ n + (release_credit given.mode stage + release_late n stage)
         + 3 * changes {T = T} (release_effects p given stage (release_old stage n cell))
 
+    -- each step of a release but one that locks keeps to what the release can still add; the
+    -- cases are its stages
     pub release_pays : (stage : ReleaseStage) → StandsIn given.mode stage → new ≡ release_then stage n → new ≢ locked → ReleasePays stage
     release_pays releases.EmptiesCell stands is open_then = go (cell == given.owner) refl
       where

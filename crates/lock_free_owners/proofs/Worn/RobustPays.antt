@@ -49,42 +49,52 @@ use Rattle.laws_robust.proofs.Counter.{release_old}
 use Rattle.lock_free_owners.proofs.Worn.Parts.{for_mode, for_mode_most, locks_in, release_credit, release_late}
 use Rattle.lock_free_owners.proofs.Worn.Parts.{release_left, counts_move, counts_none, StandsIn, release_pays}
 
--- only a call in the mode that locks is late
+-- how late a call in this mode is, where its lock is late by this: in mode `Default` it is not late
 abbrev pub late_in : ReleaseMode → ℕ → ℕ
 late_in Default late = 0
 late_in LockIfLastIndex late = late
 
+-- In either mode a call is late at most by what its lock is late by.
 pub late_in_most : (mode : ReleaseMode) (late : ℕ) → late_in mode late ≤ late
 late_in_most Default late = omega arith
 late_in_most LockIfLastIndex late = omega arith
 
 -- ---- a recovery
 
+-- the credit of a recovery: after it has freed an index what the change is good for in its mode, at its
+-- lock that of the lock
 abbrev pub recover_credit : ReleaseMode → RecoverStage → ℕ
 recover_credit mode (recovers.Raises index raise) = for_mode mode
 recover_credit mode (recovers.Locks index lock) = lock_credit lock
 recover_credit mode stage = 0
 
+-- a recovery is late at its lock, as the lock is
 abbrev pub recover_late : ℕ → RecoverStage → ℕ
 recover_late n (recovers.Locks index lock) = lock_late n lock
 recover_late n stage = 0
 
+-- what is left of a recovery after a step
 abbrev pub recover_left : ReleaseMode → ℕ → After recovering.Recover ReleaseState → ℕ
 recover_left mode new (GoOn run) = recover_credit mode run.stage + recover_late new run.stage
 recover_left mode new (Done state) = 0
 
+-- a recovery stands at its lock only in the mode that locks
 abbrev pub RecoverStands : ReleaseMode → RecoverStage → Type 0
 RecoverStands mode (recovers.Locks index lock) = mode ≡ LockIfLastIndex
 RecoverStands mode stage = Unit {0}
 
 module _ (call : recovering.Recover) (n new : ℕ) where
+  -- a recovery that comes to the next cell, or past the last, has nothing left to add
   comes_none : (mode : ReleaseMode) (index : ℕ) → recover_left mode new (recover_comes_to call index) ≡ 0
   comes_none mode index = go (nat_lt index call.capacity) refl
     where
+      -- the cases are whether there is a cell at the index
       go : (t : Bool) → nat_lt index call.capacity ≡ t → recover_left mode new (recover_comes_to call index) ≡ 0
       go true t = rw t (omega arith)
       go false t = rw t (omega arith)
 
+  -- after a step to `a` the counter, what is left of the recovery, and a move that counts are within
+  -- the counter before and this credit
   abbrev RecoverLeaves : ReleaseMode → ℕ → After recovering.Recover ReleaseState → Type 0
   RecoverLeaves mode credit a = new + recover_left mode new a + counts_move (locks_in mode) n new ≤ n + credit
 
@@ -100,30 +110,37 @@ module _ (call : recovering.Recover) (n new : ℕ) where
       let most = moved_most n new in let none = comes_none Default (index + 1) in omega arith
   recover_raises LockIfLastIndex index (Done states.Unlocked) m = omega arith
 
+  -- a step of its lock leaves a recovery within what the lock could add
   recover_locks : (index : ℕ) (lock : locks.Lock) (a : After locks.Lock ReleaseState) → LockPays n new lock a
       → RecoverLeaves LockIfLastIndex (lock_credit lock + lock_late n lock) (recover_locked call index a)
   recover_locks index lock (GoOn next) m = omega arith
   recover_locks index lock (Done state) m = let none = comes_none LockIfLastIndex (index + 1) in omega arith
 
   module _ (T : Type 0) (p : ℕ) (mode : ReleaseMode) (cell : ℕ) where
+    -- the step of a recovery at this stage keeps to what the recovery can still add
     abbrev RecoverPays : RecoverStage → Type 0
     RecoverPays stage =
         new + recover_left mode new (recover_takes call stage mode (recover_old stage n cell)) + counts_move (locks_in mode) n new
         ≤ n + (recover_credit mode stage + recover_late n stage) + 3 * changes {T = T} (recover_effects p stage (recover_old stage n cell))
 
+    -- each step of a recovery but one that locks keeps to what the recovery can still add; the cases
+    -- are its stages
     pub recover_pays : (stage : RecoverStage) → RecoverStands mode stage → new ≡ recover_then stage n → new ≢ locked → RecoverPays stage
     recover_pays recovers.LoadsCounter stands is open_then = go (n == locked) refl
       where
+        -- the cases are whether the counter is locked
         go : (t : Bool) → (n == locked) ≡ t → RecoverPays recovers.LoadsCounter
         go true t = let still = counts_none (locks_in mode) n new is in rw t (omega arith)
         go false t = let still = counts_none (locks_in mode) n new is in let none = comes_none mode 0 in rw t (omega arith)
     recover_pays (recovers.LoadsCell index) stands is open_then = go (cell == empty) refl
       where
+        -- the cases are whether the cell has no owner
         go : (t : Bool) → (cell == empty) ≡ t → RecoverPays (recovers.LoadsCell index)
         go true t = let still = counts_none (locks_in mode) n new is in let none = comes_none mode (index + 1) in rw t (omega arith)
         go false t = let still = counts_none (locks_in mode) n new is in rw t (omega arith)
     recover_pays (recovers.Asks index owner) stands is open_then = go (cell == 0) refl
       where
+        -- the cases are whether the answer is a no
         go : (t : Bool) → (cell == 0) ≡ t → RecoverPays (recovers.Asks index owner)
         go true t = let still = counts_none (locks_in mode) n new is in let none = comes_none mode (index + 1) in rw t (omega arith)
         go false t = let still = counts_none (locks_in mode) n new is in rw t (omega arith)
@@ -148,8 +165,8 @@ module _ (call : recovering.Recover) (n new : ℕ) where
 
 -- ---- any call
 
--- what changes so far have paid for, and a call of a robust set, or a lock because of it, may
--- still add
+-- the raises that changes so far have paid for, and that a call of a robust set, or a lock because of
+-- it, may still make
 abbrev pub robust_credit : RobustFlight → ℕ
 robust_credit (Acquire run) = acquire_credit run.call.stage
 robust_credit (Release run) = release_credit run.given.mode run.call.stage
@@ -158,23 +175,26 @@ robust_credit (Recover run) = recover_credit run.given run.call.stage
 robust_credit (BorrowedIndices run) = 2
 robust_credit (IsLocked run) = 0
 
+-- 1 where the call stands at a lock that has to count again
 abbrev pub robust_late : ℕ → RobustFlight → ℕ
 robust_late n (Release run) = late_in run.given.mode (release_late n run.call.stage)
 robust_late n (Recover run) = late_in run.given (recover_late n run.call.stage)
 robust_late n flight = 0
 
+-- whether the call may lock
 abbrev pub robust_locks : RobustFlight → Bool
 robust_locks (Release run) = locks_in run.given.mode
 robust_locks (Recover run) = locks_in run.given
 robust_locks flight = false
 
+-- the call stands at a lock only in the mode that locks
 abbrev pub RobustStands : RobustFlight → Type 0
 RobustStands (Release run) = StandsIn run.given.mode run.call.stage
 RobustStands (Recover run) = RecoverStands run.given run.call.stage
 RobustStands flight = Unit {0}
 
 module _ (n : ℕ) where
-  -- a lock alone is late
+  -- a release is late only in the mode that locks
   pub release_late_in : (mode : ReleaseMode) (stage : ReleaseStage) → StandsIn mode stage
       → release_late n stage ≤ late_in mode (release_late n stage)
   release_late_in LockIfLastIndex stage stands = omega arith
@@ -195,11 +215,12 @@ module _ (n : ℕ) where
   recover_late_in Default recovers.LoadsCounterAgain stands = omega arith
 
 module _ {T : Type 0} where
+  -- what is left of a call of a robust set after a step
   abbrev pub robust_left : ℕ → After RobustFlight (Answer T) → ℕ
   robust_left new (GoOn flight) = robust_credit flight + robust_late new flight
   robust_left new (Done answer) = 0
 
-  -- it goes on as a call that may lock where it is one
+  -- a call that goes on may lock just if it could before
   abbrev pub SameMode : Bool → After RobustFlight (Answer T) → Type 0
   SameMode may (GoOn flight) = robust_locks flight ≡ may
   SameMode may (Done answer) = Unit {0}
@@ -207,42 +228,52 @@ module _ {T : Type 0} where
 module _ (T : Type 0) where
   -- ---- a call from its part
 
+  -- An acquire after a step, read as a call of a robust set.
   abbrev acquire_as : ℕ → Unit {0} → After acquiring.Acquire Acquired → After RobustFlight (Answer T)
   acquire_as given room a = as_call Acquire acquire_answer (went_on as_it_is given room a)
 
+  -- Read as a call of a robust set, an acquire has left what it has by itself, and never may lock.
   acquire_same : (new given : ℕ) (room : Unit {0}) (a : After acquiring.Acquire Acquired)
       → (robust_left new (acquire_as given room a) ≡ acquire_left a) × SameMode false (acquire_as given room a)
   acquire_same new given room (GoOn run) = (omega arith, refl)
   acquire_same new given room (Done answer) = (refl, tt)
 
+  -- A release after a step, read as a call of a robust set.
   abbrev release_as : GiveBack → Unit {0} → After releasing.Release Released → After RobustFlight (Answer T)
   release_as given room a = as_call Release release_answer (went_on as_it_is given room a)
 
+  -- read as a call of a robust set, a release has no more left than by itself, and may lock as its mode says
   release_same : (new : ℕ) (given : GiveBack) (room : Unit {0}) (a : After releasing.Release Released)
       → (robust_left new (release_as given room a) ≤ release_left given.mode new a)
       × SameMode (locks_in given.mode) (release_as given room a)
   release_same new given room (GoOn run) = (let most = late_in_most given.mode (release_late new run.stage) in omega arith, refl)
   release_same new given room (Done answer) = (omega arith, tt)
 
+  -- A recovery after a step, read as a call of a robust set.
   abbrev recover_as : ReleaseMode → Unit {0} → After recovering.Recover ReleaseState → After RobustFlight (Answer T)
   recover_as given room a = as_call Recover answers.State (went_on as_it_is given room a)
 
+  -- read as a call of a robust set, a recovery has no more left than by itself, and may lock as its mode says
   recover_same : (new : ℕ) (given : ReleaseMode) (room : Unit {0}) (a : After recovering.Recover ReleaseState)
       → (robust_left new (recover_as given room a) ≤ recover_left given new a) × SameMode (locks_in given) (recover_as given room a)
   recover_same new given room (GoOn run) = (let most = late_in_most given (recover_late new run.stage) in omega arith, refl)
   recover_same new given room (Done state) = (omega arith, tt)
 
+  -- A find after a step, read as a call of a robust set.
   abbrev find_as : ℕ → Unit {0} → After finding.Find ℕ → After RobustFlight (Answer T)
   find_as given room a = as_call Find answers.Number (went_on as_it_is given room a)
 
+  -- A find has nothing to add to the counter, and never may lock.
   find_same : (new given : ℕ) (room : Unit {0}) (a : After finding.Find ℕ)
       → (robust_left new (find_as given room a) ≡ 0) × SameMode false (find_as given room a)
   find_same new given room (GoOn run) = (omega arith, refl)
   find_same new given room (Done number) = (refl, tt)
 
+  -- A count after a step, read as a call of a robust set.
   abbrev borrowed_as : Unit {0} → Unit {0} → After counting.BorrowedIndices ℕ → After RobustFlight (Answer T)
   borrowed_as given room a = as_call BorrowedIndices answers.Number (went_on as_it_is given room a)
 
+  -- a count of the indices that have an owner never may lock
   borrowed_mode : (given room : Unit {0}) (call : counting.BorrowedIndices) (a : After counts.Count Counted)
       → SameMode false (borrowed_as given room (borrowed_counted call a))
   borrowed_mode given room call (GoOn count) = refl
@@ -260,7 +291,7 @@ module _ (T : Type 0) where
 
   -- ---- its step
 
-  -- it goes on as a call that may lock, or that may not
+  -- after a step a call may lock just if it could before
   pub robust_mode : (flight : RobustFlight) (old : ℕ) → SameMode (robust_locks flight) (after {T = T} flight old)
   robust_mode (Acquire run) old = (acquire_same 0 run.given run.room (acquire_takes run.call run.call.stage old)).1
   robust_mode (Release run) old = (release_same 0 run.given run.room (release_takes run.call run.call.stage run.given old)).1
@@ -269,6 +300,7 @@ module _ (T : Type 0) where
   robust_mode (BorrowedIndices run) old = borrowed_mode run.given run.room run.call (count_after run.call.capacity run.call.count old)
   robust_mode (IsLocked run) old = tt
 
+  -- the step of a call of a robust set keeps to what the call can still add
   abbrev pub RobustPays : ℕ → ℕ → ℕ → ℕ → RobustFlight → Type 0
   RobustPays n new p cell flight =
       new + robust_left new (after {T = T} flight (robust_old flight n cell)) + counts_move (robust_locks flight) n new

@@ -1,4 +1,4 @@
--- The counter of a robust index set is at its end only after so many changes.
+-- The generation counter of a robust index set is at its end only after at least a third of 2^64 - 2 changes.
 use Rattle.std.proofs.Common.{◌≡◌, ◌≢◌, ℕ, ◌-◌, ◌*◌, ◌^◌, ◌<◌, ◌≤◌, ◌==◌, Bool, true, false, Option, Some, None}
 use Rattle.std.proofs.Common.{option_map, if◌then◌else◌, List, length, refl, sym, ap, subst, ◌∙◌, arith}
 use Rattle.steps.specs.Indices.Robust.Parts.{locked, greatest}
@@ -49,29 +49,35 @@ use Rattle.lock_free_owners.proofs.Worn.RobustCalls.{robust_stands, robust_may}
 use Rattle.lock_free_owners.proofs.Worn.Bounded.{Bounded, locks_of, counter}
 use Rattle.lock_free_owners.proofs.Worn.Turns.{left, SameLocks, PaysBy, BeginPays, Facts, run_bounded, opening_bounded}
 
+-- Equal options have equal values.
 some_same : {A : Type 0} (x y : A) → Some x ≡ Some y → x ≡ y
 some_same x y e = cc
 
 module _ {T : Type 0} where
   -- ---- a step, as one of any family
 
+  -- A call of a robust set, read as a call of any structure.
   abbrev any_call : After RobustFlight (Answer T) → After (Flight T) (Answer T)
   any_call a = as_call flights.Robust (λ answer. answer) a
 
+  -- What it can still add is the same, read as a call of any structure.
   same_left : (new : ℕ) (a : After RobustFlight (Answer T)) → left new (any_call a) ≡ robust_left new a
   same_left new (GoOn flight) = refl
   same_left new (Done answer) = refl
 
+  -- Whether it may lock is the same, read as a call of any structure.
   same_locks : (may : Bool) (a : After RobustFlight (Answer T)) → SameMode may a → SameLocks may (any_call a)
   same_locks may (GoOn flight) h = h
   same_locks may (Done answer) h = tt
 
+  -- A step of a call of a robust set, read as a step of any structure.
   abbrev set_step : ℕ → RobustFlight → ℕ → List ℕ → Step (Flight T) (Registry T) T
   set_step p flight answer dead = as_step flights.Robust registries.Owners (set.step p flight answer dead)
 
 module _ (T : Type 0) where
   module _ (words : List ℕ) (p : ℕ) (ask : Option Ask) (dead : List ℕ) (flight : RobustFlight) (stands : RobustStands flight)
       (leaves : counter_of (words_after words ask) ≡ robust_then flight (counter_of words)) where
+    -- the step of the call with this answer pays for what it adds
     abbrev Paid : ℕ → Type 0
     Paid answer = PaysBy {T = T} words (flights.Robust flight) ask (set_step p flight answer dead)
 
@@ -89,13 +95,14 @@ module _ (T : Type 0) where
               (robust_mode T flight (robust_old flight (counter_of words) cell));
         }
 
+    -- The step pays for what it adds with each answer that it may find.
     paid : (answer : ℕ) → answer ≡ robust_old flight (counter_of words) answer → Paid answer
     paid answer finds = subst Paid (sym finds) (paid_there answer)
 
 module _ {T : Type 0} where
   -- ---- a begin
 
-  -- a call as it begins
+  -- Each call of a robust index set, as it begins, has no more steps at the counter than its begin pays for.
   begins_so : (n c p : ℕ) (start : RobustStart) → BeginPays {T = T} n p (Robust start) (flights.Robust (first c start))
   begins_so n c p (starts.Acquire owner) = record { pays = omega arith; mode = λ e. absurd (cc) }
   begins_so n c p (starts.Release index owner Default) = record { pays = omega arith; mode = λ e. absurd (cc) }
@@ -106,29 +113,35 @@ module _ {T : Type 0} where
   begins_so n c p starts.BorrowedIndices = record { pays = omega arith; mode = λ e. absurd (cc) }
   begins_so n c p starts.IsLocked = record { pays = omega arith; mode = λ e. absurd (cc) }
 
+  -- where a begin is admitted, its call has no more than the begin pays for
   begins_by : (n c p : ℕ) (start : RobustStart) (flight : Flight T) (b : Bool)
       → option_map flights.Robust (if b then Some (first c start) else None) ≡ Some flight → BeginPays n p (Robust start) flight
   begins_by n c p start flight true e =
       subst (BeginPays n p (Robust start)) (some_same (flights.Robust (first c start)) flight e) (begins_so n c p start)
   begins_by n c p start flight false e = absurd (cc)
 
+  -- Each call that the machine of a robust set begins has no more than its begin pays for.
   begins_any : (n c p : ℕ) (start : Start T) (kept : Registry T) (flight : Flight T) → first_of kinds.Robust c start kept ≡ Some flight
       → BeginPays n p start flight
   begins_any n c p (Robust start) kept flight e = begins_by n c p start flight (names_owner start) e
   begins_any n c p start kept flight e = absurd (cc)
 
 module _ {T : Type 0} (code : Coding T) (c : ℕ) where
+  -- the machine keeps the laws of robust sets
   abbrev Sound : Trace T → Type 0
   Sound t = frame.Sound (family_by Word code c) t
 
   module _ (t : Trace T) (s : Sound t) where
+    -- The words of the machine.
     abbrev ws : List ℕ
     ws = t.world.words
 
+    -- the step of a call pays for what it adds, in the machine t
     abbrev PaysIn : ℕ → Option Ask → ℕ → Registry T → Start T → Flight T → Type 0
     PaysIn p ask answer kept start flight =
         PaysBy ws flight ask (step_of t.world.coding ws (beside_of ws kept t.world.latest p) p start flight answer kept)
 
+    -- Beside its words the machine keeps the dead owners.
     owners : t.world.kept ≡ registries.Owners s.state.dead
     owners = s.fit.kept
 
@@ -155,18 +168,20 @@ module _ {T : Type 0} (code : Coding T) (c : ℕ) where
     locks_in_span all (Robust start) (flights.Robust flight) at e = robust_may T c all start flight at e
     locks_in_span all start flight at e = absurd at
 
+    -- a party whose call may lock has a span of such a call in the events
     spans_there : (q : ℕ) (o : Option (Party T)) → party_of q t.world.latest ≡ o → locks_of (flight_of (doing_of o)) ≡ true
         → is_locking (span_of q t.events) ≡ true
     spans_there q None found e = absurd (cc)
     spans_there q (Some x) found e = go x.doing refl e
       where
+        -- the cases are whether the party's latest call is under way or over
         go : (doing : Doing T) → x.doing ≡ doing → locks_of (flight_of (Some doing)) ≡ true → is_locking (span_of q t.events) ≡ true
         go (Going flight since) d e =
             let there = stands_there (family_by Word code c) t s q x since flight found d in
             ap is_locking there.span ∙ locks_in_span (set_acts_of q s.state.events) x.start flight there.at e
         go (Over others) d e = absurd (cc)
 
-    -- what each turn of an open run of a robust set owes is so
+    -- `Facts` of each machine of an open run of a robust set
     facts : Facts t
     facts =
         record {
@@ -199,19 +214,21 @@ module _ {T : Type 0} where
       subst (λ kind. frame.Sound (family_by Word w.coding w.capacity) (opening w.coding kind w.capacity w.parties))
       (sym is) (opening_sound Word w.coding w.capacity w.parties may.0 may.1)
 
+  -- as a robust set opens, its counter is 0 and no call has begun
   opens_bounded : (t : Trace T) → t.world.kind ≡ kinds.Robust → Bounded (opening t.world.coding t.world.kind t.world.capacity t.world.parties)
   opens_bounded t is =
       let w = t.world in
       subst (λ kind. Bounded (opening w.coding kind w.capacity w.parties)) (sym is)
       (opening_bounded (opening w.coding kinds.Robust w.capacity w.parties) refl refl (omega arith))
 
+  -- the counter of a robust set in an open run is bounded if no two calls that may lock overlap
   pub reached_bounded : (t : Trace T) → t.world.kind ≡ kinds.Robust → IsReachedOpen t → LocksApart t.events → Bounded t
   reached_bounded t is r apart =
       let code = t.world.coding in
       let c = t.world.capacity in
       run_bounded (Sound code c) (facts code c) (open_turn_sound code c) t r (opens_so t is r) (opens_bounded t is) apart
 
--- where it is at its end, so many changes were made
+-- A bounded counter that is at its end has had at least a third of 2^64 - 2 changes.
 pub worn_after : {T : Type 0} (t : Trace T) → Bounded t → counter t ≡ greatest → 2 ^ 64 - 2 ≤ 3 * changes t.events
 worn_after t b worn =
     let open_now : counter t ≢ locked = λ shut. absurd (omega arith) in

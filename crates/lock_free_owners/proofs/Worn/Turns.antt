@@ -45,22 +45,27 @@ use Rattle.lock_free_owners.proofs.Worn.Bounded.{Bounded, Owes, changes_more, en
 module _ {T : Type 0} where
   -- ---- where a step leaves its party
 
+  -- the call that its party has under way after a step: none if the step ended it
   abbrev pub flight_after : After (Flight T) (Answer T) → Option (Flight T)
   flight_after (GoOn flight) = Some flight
   flight_after (Done answer) = None
 
+  -- The flight behind a step is the one with which the call goes on, if it does.
   doing_is : (changes since : ℕ) (a : After (Flight T) (Answer T)) → flight_of (Some (doing_after changes since a)) ≡ flight_after a
   doing_is changes since (GoOn flight) = refl
   doing_is changes since (Done answer) = refl
 
+  -- credit and late of the call after a step, 0 where the step ended it
   abbrev pub left : ℕ → After (Flight T) (Answer T) → ℕ
   left new (GoOn flight) = credit flight + late new flight
   left new (Done answer) = 0
 
+  -- The credit of the call behind a step, and what it is late by, are what it has left.
   left_is : (new : ℕ) (a : After (Flight T) (Answer T)) → credit_of (flight_after a) + late_of new (flight_after a) ≡ left new a
   left_is new (GoOn flight) = refl
   left_is new (Done answer) = refl
 
+  -- a call that goes on may lock just if it could before
   abbrev pub SameLocks : Bool → After (Flight T) (Answer T) → Type 0
   SameLocks may (GoOn flight) = locks flight ≡ may
   SameLocks may (Done answer) = Unit {0}
@@ -81,10 +86,11 @@ module _ {T : Type 0} where
         ≤ counter_of words + (credit flight + late (counter_of words) flight) + 3 * changes s.wrote
     pub mode : SameLocks (locks flight) s.after
 
+  -- the step of this party's call, with this answer, pays for what it adds
   abbrev pub StepPays : World T → ℕ → Party T → Flight T → Option Ask → ℕ → Type 0
   StepPays w p x flight ask answer = PaysBy w.words flight ask (step_in w p x flight answer)
 
-  -- the trace after it
+  -- the trace after the step `s` of party p
   abbrev pub stepped : Trace T → ℕ → Party T → ℕ → Option Ask → Step (Flight T) (Registry T) T → Trace T
   stepped t p x since ask s = record { world = after_step t.world p x since ask s; events = t.events ++ events_of_step p x.start s }
 
@@ -92,24 +98,30 @@ module _ {T : Type 0} where
   module _ (t : Trace T) (p : ℕ) (x : Party T) (flight : Flight T) (since : ℕ) (ask : Option Ask) (answer : ℕ)
       (found : party_of p t.world.latest ≡ Some x) (doing : x.doing ≡ Going flight since)
       (pays : StepPays t.world p x flight ask answer) where
+    -- The step that the party takes.
     abbrev s : Step (Flight T) (Registry T) T
     s = step_in t.world p x flight answer
 
+    -- The trace behind the step.
     abbrev new : Trace T
     new = stepped t p x since ask s
 
+    -- The flight of the party before the step.
     was : flight_in t.world p ≡ Some flight
     was = ap (λ o. flight_of (doing_of o)) found ∙ ap (λ d. flight_of (Some d)) doing
 
+    -- The flight of the party behind the step.
     then_is : flight_in new.world p ≡ flight_after s.after
     then_is = ap (λ o. flight_of (doing_of o)) (party_put_same p _ t.world.latest) ∙ doing_is _ _ s.after
 
+    -- the end of a call is no change, so the step's changes are those that its call wrote
     wrote_is : changes (events_of_step p x.start s) ≡ changes s.wrote
     wrote_is =
         let more = changes_more s.wrote (ending_of p x.start (answer_in s.after)) in
         let none = ends_none p x.start (answer_in s.after) in
         omega arith
 
+    -- what `Owes` says of the counter, where the party's call was `old` and is `now`
     abbrev OwesAs : Option (Flight T) → Option (Flight T) → Type 0
     OwesAs old now =
         counter new + (credit_of now + late_of (counter new) now) + counts_move (locks_of old) (counter t) (counter new)
@@ -137,25 +149,28 @@ module _ {T : Type 0} where
     pub pays : credit flight + late n flight ≤ 3 * change (Begun p start)
     pub mode : locks flight ≡ true → may_lock start ≡ true
 
+  -- the trace after a begin of party p
   abbrev pub begun : Trace T → ℕ → Start T → Option (Flight T) → Trace T
   begun t p start o = record { world = after_begin t.world p start o; events = t.events ++ Begun p start ∷ [] }
 
   -- t is the trace before a begin of party p
   module _ (t : Trace T) (p : ℕ) (start : Start T) (flight : Flight T) (pays : BeginPays (counter t) p start flight)
       (free : flight_in t.world p ≡ None) (none : locks flight ≡ true → (q : ℕ) → locks_at t q ≡ false) where
+    -- The trace behind the begin.
     abbrev after_it : Trace T
     after_it = begun t p start (Some flight)
 
+    -- Behind the begin the party has the first flight of its call.
     begun_is : flight_in after_it.world p ≡ Some flight
     begun_is = ap (λ o. flight_of (doing_of o)) (party_put_same p (party_at_begin start flight t.world.changes) t.world.latest)
 
+    -- what `Owes` says of the counter at a begin, where the party's call was `old` and is `now`
     abbrev BeginOwes : Option (Flight T) → Option (Flight T) → Type 0
     BeginOwes old now =
         counter t + (credit_of now + late_of (counter t) now) + counts_move (locks_of old) (counter t) (counter t)
         ≤ counter t + (credit_of old + late_of (counter t) old) + 3 * changes (Begun p start ∷ [])
 
-    -- a begin makes a turn that pays for what its call has, where no call under way may lock if
-    -- this one may
+    -- A begin makes a turn that pays for what its call has. If the call may lock, no call under way may.
     pub begin_owes : Owes t after_it p (Begun p start ∷ [])
     begin_owes =
         record {
@@ -171,7 +186,9 @@ module _ {T : Type 0} where
 
   -- ---- a turn
 
-  -- what the family tells of a machine
+  -- What is known of a machine of either family: each step and each decision pays for what it adds,
+  -- each begin for what its call has; a call that may lock has such a span in the events; and the
+  -- counter is locked just where the events tell of the lock.
   pub record Facts (t : Trace T) : Type 0 where
     pub steps : 0 < length t.world.words → (p : ℕ) (x : Party T) (flight : Flight T) (since : ℕ)
         → party_of p t.world.latest ≡ Some x → x.doing ≡ Going flight since
@@ -184,7 +201,7 @@ module _ {T : Type 0} where
     pub spans : (q : ℕ) → locks_at t q ≡ true → is_locking (span_of q t.events) ≡ true
     pub lock : (counter t == locked) ≡ is_locked t.events
 
-  -- it was not locked, where it is not after more events
+  -- a counter that is not locked after further events was not locked before them
   pub opens_by : (t new : Trace T) (es : List (Event T)) → new.events ≡ t.events ++ es
       → (counter t == locked) ≡ is_locked t.events → (counter new == locked) ≡ is_locked new.events → counter new ≢ locked → counter t ≢ locked
   opens_by t new es is before after open_now shut =
@@ -233,15 +250,18 @@ module _ {T : Type 0} where
         let pays = facts.begins p start flight e in
         bounded_on t _ p _ (begin_owes t p start flight pays free (λ may q. none_locks q (apart t.events [] (Begun p start) refl (pays.mode may) q))) b
       where
+        -- a party in whose span no call that may lock is under way has none
         none_locks : (q : ℕ) → is_locking (span_of q t.events) ≡ false → locks_at t q ≡ false
         none_locks q e = by (locks_at t q) refl
           where
+            -- the cases are whether the party's call may lock; one that may would have such a span
             by : (m : Bool) → locks_at t q ≡ m → locks_at t q ≡ false
             by false m = m
             by true m = let is = facts.spans q m in absurd (cc)
 
   -- ---- what is not refused
 
+  -- a decision that is not refused is of a party whose call awaits an answer
   must_be_asked : (w : World T) (p : ℕ) (said : Bool) → open_refusal w (Decide p said) ≡ None → is_due w.coding (flight_in w p) ≡ true
   must_be_asked w p said e =
       let may : MayGoOn w p × (is_due w.coding (flight_in w p) ≡ true) = possible_open w (Decide p said) e in may.1
@@ -263,6 +283,8 @@ module _ {T : Type 0} where
 
   module _ (Sound : Trace T → Type 0) (facts : (t : Trace T) → Sound t → Facts t)
       (on : (t : Trace T) (turn : Turn T) → open_refusal t.world turn ≡ None → Sound t → Sound (after_turn t turn)) where
+    -- what each turn of an open run keeps: `Sound`, and the bound of the counter if no two calls that
+    -- may lock overlap
     abbrev pub Holds : Trace T → Type 0
     Holds t = Sound t × (LocksApart t.events → Bounded t)
 
@@ -278,6 +300,7 @@ module _ {T : Type 0} where
               (opens_by t (after_turn t turn) (events_of t.world turn) refl known.lock after.lock),
         )
 
+    -- in each open run the counter is bounded if no two calls that may lock overlap
     pub run_bounded : (t : Trace T) (r : IsReachedOpen t) → Sound (opening t.world.coding t.world.kind t.world.capacity t.world.parties)
         → Bounded (opening t.world.coding t.world.kind t.world.capacity t.world.parties) → LocksApart t.events → Bounded t
     run_bounded t r first none apart = (kept_by open_refusal Holds turn_holds t (first, λ _. none) r).1 apart

@@ -12,7 +12,7 @@ pub record Visit (T : Type 0) : Type 0 where
   pub handle : ContainerHandle
 
 module _ {T : Type 0} where
-  -- the handles are such as a find may come to, each at an index above the one before
+  -- each handle is one that `mine` admits, at an index above that of the one before
   abbrev pub VisitsAscend : (ContainerHandle → Type 0) → List (Visit T) → Type 0
   VisitsAscend mine visits =
       AllPairs (λ (x y : Visit T). x.handle.index < y.handle.index) visits
@@ -23,8 +23,8 @@ module _ {T : Type 0} where
       → F → Visit T → F → Type 0
   goes_on step p x q = step p x.value x.handle Continue q
 
--- after visits that ascend, the closure may be called with any value and any such handle at an
--- index above them
+-- after visits at ascending indices the closure may be called with any value, and any handle that
+-- `mine` admits at an index above them
 pub record TakesVisits {F T : Type 0} (pre : F → T → ContainerHandle → Type 0)
     (step : F → T → ContainerHandle → CallbackProgression → F → Type 0)
     (mine : ContainerHandle → Type 0) (f : F) : Type 0 where
@@ -33,7 +33,8 @@ pub record TakesVisits {F T : Type 0} (pre : F → T → ContainerHandle → Typ
       → All (λ (y : Visit T). y.handle.index < x.handle.index) before
       → mine x.handle → pre now x.value x.handle
 
--- it was told to go on at each but the last one, on which it was told to stop, and it came to no further index
+-- The closure said at each visit but the last one to go on, and at the last one to stop. The find came
+-- to no index behind that.
 pub record WasStopped {F T : Type 0} (step : F → T → ContainerHandle → CallbackProgression → F → Type 0)
     (f : F) (indices : List ℕ) (visits : List (Visit T)) (last : F) : Type 0 where
   pub before : List (Visit T)
@@ -44,8 +45,7 @@ pub record WasStopped {F T : Type 0} (step : F → T → ContainerHandle → Cal
   pub stops : step now x.value x.handle Stop last
   pub highest : All (λ i. i ≤ x.handle.index) indices
 
--- A find came to n indices, and at some of these it called the closure, which said to go on at each, and the bound is the
--- capacity; or it said to stop, and the bound is behind that index.
+-- A find came to `n` indices, ascending, and called the closure at some of them.
 pub record HasFound {F T : Type 0}
     (step : F → T → ContainerHandle → CallbackProgression → F → Type 0) (capacity : ℕ)
     (mine : ContainerHandle → Type 0) (f : F) (n bound : ℕ) (visits : List (Visit T)) (last : F) : Type 0 where
@@ -54,5 +54,7 @@ pub record HasFound {F T : Type 0}
   pub number : length indices ≡ n
   pub visits_ascend : VisitsAscend mine visits
   pub among : All (λ (x : Visit T). Contains indices x.handle.index) visits
+  -- either the closure said each time to go on, and the bound is the capacity; or it said at last to
+  -- stop, and the bound is behind the index of that visit
   pub calls : (FoldsTo (goes_on step) f visits last × (bound ≡ capacity))
       ⊎ ((stopped : WasStopped step f indices visits last) × (bound ≡ stopped.x.handle.index + 1))

@@ -28,7 +28,8 @@ use Rattle.lock_free_owners.specs.Container.Names.{view, container_of, IsHandleF
 module _ {T : Type 0} {words : Ghosts T} where
   -- ---- what a call keeps
 
-  -- of a pass, by each call but a find and those of states
+  -- what each call but a find and those of states keeps of a pass: its container, a view that goes on,
+  -- and the state that it has; no call is under way
   pub record KeepsPass (old new : Pass T words) : Type 0 where
     pub container : container_of new ≡ container_of old
     pub idle : (view new).going ≡ None
@@ -36,13 +37,15 @@ module _ {T : Type 0} {words : Ghosts T} where
     pub aside : FewAside (view old) (view new)
     pub keeps : KeepsState (view old) (view new)
 
-  -- the same, where the handle that it is given is the container's own; with another's nothing changes
+  -- what a remove or a replace keeps of a pass: if the handle is of this container, what each call
+  -- keeps; with a handle of another one the view stays
   pub record KeepsPassIf (own : Type 0) (old new : Pass T words) : Type 0 where
     pub container : container_of new ≡ container_of old
     pub keeps : own → KeepsPass old new
     pub foreign : (own → ⊥) → view new ≡ view old
 
-  -- the same of a find, whose call may rest at its end
+  -- what a find keeps of a pass: its container, a view that goes on, and the state that it has; its
+  -- call may rest at its end
   pub record FindKeepsPass (old new : Pass T words) : Type 0 where
     pub container : container_of new ≡ container_of old
     pub goes : Goes (view old) (view new)
@@ -72,10 +75,11 @@ module _ {T : Type 0} {words : Ghosts T} where
     pub latest : IsLatestState new now
     pub shows : ShowsCopied now.shown (view new)
 
--- what a handle names, to be given back, and to be replaced
+-- a handle and a mode, as a remove of the model takes them
 abbrev pub given_back : ContainerHandle → ReleaseMode → GiveBack
 given_back key mode = record { index = key.index; owner = key.owner; mode = mode }
 
+-- a handle and a value, as a replace of the model takes them
 abbrev pub put_at : {T : Type 0} → ContainerHandle → T → Replacement T
 put_at key value = record { index = key.index; owner = key.owner; value = value }
 
@@ -89,7 +93,7 @@ module _ {T : Type 0} where
     pub filled : WasFilled key.index given.owner old new
     pub granted : WasGranted key.index given.owner old new
 
-  -- one that placed none
+  -- an add that placed no value
   pub record AddRefused (given : Owned T) (failure : ContainerAddFailure) (old new : View T) : Type 0 where
     pub added : HasAdded given (Err failure) old new
     pub refused : WasNotAdded given.value given.owner failure old new
@@ -105,7 +109,7 @@ module _ {T : Type 0} where
     pub answered : IsRightRemove (given_back key mode) (Ok state) old new
     pub released : HasReleased state mode old new
 
-  -- one that freed none, which is no call of the history with another's handle
+  -- a remove that freed no index; with a handle of another container it is no call of the history
   pub record RemoveRefused (s : Container T) (key : ContainerHandle) (mode : ReleaseMode) (failure : ContainerRemoveError)
       (old new : View T) : Type 0 where
     pub removed : IsOwn s key → HasRemoved (given_back key mode) (Err failure) old new
@@ -119,7 +123,7 @@ module _ {T : Type 0} where
     pub replaced : HasReplaced (put_at key value) (Ok tt) old new
     pub answered : IsRightReplace (put_at key value) (Ok tt) old new
 
-  -- one that placed none, as of a remove
+  -- a replace that placed no value; with a handle of another container it is no call of the history
   pub record ReplaceRefused (s : Container T) (key : ContainerHandle) (value : T) (failure : ContainerRemoveError)
       (old new : View T) : Type 0 where
     pub replaced : IsOwn s key → HasReplaced (put_at key value) (Err failure) old new
@@ -127,17 +131,21 @@ module _ {T : Type 0} where
 
   -- ---- lengths, the lock
 
+  -- a count of the indices that have an owner: it is right, at most the capacity, and 0 where the pass
+  -- had seen the lock
   pub record LenDone (capacity number : ℕ) (old new : View T) : Type 0 where
     pub counted : HasCounted number old new
     pub answered : IsRightLength number old new
     pub most : number ≤ capacity
     pub lock : is_locked old.seen ≡ true → number ≡ 0
 
+  -- the answer of `is_empty` is right, and true where the pass had seen the lock
   pub record IsEmptyDone (empty : Bool) (old new : View T) : Type 0 where
     pub tested : HasTested empty old new
     pub answered : IsRightTest empty old new
     pub lock : is_locked old.seen ≡ true → empty ≡ true
 
+  -- a look at the lock, whose answer is right
   pub record IsLockedDone (locked : Bool) (old new : View T) : Type 0 where
     pub looked : HasLooked locked old new
     pub answered : IsRightLook locked old new
@@ -145,6 +153,8 @@ module _ {T : Type 0} where
 
   -- ---- recover
 
+  -- a recovery: what became of its closure and of the indices, that its answer is right, and what it
+  -- tells of the lock
   pub record RecoverDone {F : Type 0} (step : F → T → Bool → F → Type 0) (given : DeadOwner) (state : ReleaseState)
       (capacity : ℕ) (f last : F) (old new : View T) : Type 0 where
     pub recovered : HasRecovered step given state capacity f last old new

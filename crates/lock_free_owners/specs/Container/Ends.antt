@@ -8,7 +8,8 @@ use Rattle.history.specs.declared.view.View.{View}
 use Rattle.history.specs.History.{AreFirst, IsBeginning, Knows, others_by, run_of, steps_of_run}
 
 module _ {T : Type 0} (code : Coding T) (capacity : ℕ) where
-  -- of the turns that a pass knows the first ones make a run with just these events, the last of them the end of a call
+  -- The first of the turns that a pass knows make a run whose events are `before` and then `last`,
+  -- which is the end of a call.
   pub record RanTo (v : View T) (before : List (Event T)) (last : Event T) : Type 0 where
     pub turns : List (Turn T)
     pub first : AreFirst turns v.turns
@@ -19,6 +20,6 @@ module _ {T : Type 0} (code : Coding T) (capacity : ℕ) where
           others = others_by (run_of code kinds.Container capacity turns).world v.party;
           asked = v.aside + steps_of_run code kinds.Container capacity turns;
         })
-    -- it goes on from a run that the pass knew before
+    -- this run goes on from each run that the pass knew before
     pub since : (old : View T) → Knows code kinds.Container capacity old → AreFirst old.turns v.turns
         → IsBeginning old.seen before → AreFirst old.turns turns

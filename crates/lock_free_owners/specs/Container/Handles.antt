@@ -10,9 +10,11 @@ use Rattle.lock_free_owners.specs.declared.mpmc.container.handles.Handle.{Handle
 use Rattle.lock_free_owners.specs.Container.Names.{view, IsStateOf}
 
 module _ {T : Type 0} {words : Ghosts T} where
+  -- the container of a handle
   abbrev pub container_in : Handle T words → Container T
   container_in h = h.container.now
 
+  -- the pass of a handle
   abbrev pub pass_in : Handle T words → Pass T words
   pass_in h = h.pass
 
@@ -25,7 +27,7 @@ module _ {T : Type 0} {words : Ghosts T} where
     pub container : container_in new ≡ container_in old
     pub pass : Keeps (pass_in old) (pass_in new)
 
-  -- an update leaves it the container, of which the state is one
+  -- what an update keeps of a handle: its container, and that the state is one of this container
   pub record UpdateKeepsHandle (old new : Handle T words) (now : ContainerState T) : Type 0 where
     pub container : container_in new ≡ container_in old
     pub state : IsStateOf (container_in old) now

@@ -31,6 +31,7 @@ module _ {T : Type 0} where
   abbrev pub container_id : Container T → SetId
   container_id s = record { table = home_id s.home; capacity = s.capacity }
 
+  -- the capacity of a container
   abbrev pub capacity_of : Container T → ℕ
   capacity_of s = s.capacity
 
@@ -42,7 +43,7 @@ module _ {T : Type 0} where
   abbrev pub IsOwn : Container T → ContainerHandle → Type 0
   IsOwn s h = (h.container ≡ number_of s) × (h.index < capacity_of s)
 
-  -- the same, and it is this owner's
+  -- the handle is the container's own, and names this owner
   abbrev pub IsHandleFor : Container T → ℕ → ContainerHandle → Type 0
   IsHandleFor s owner h = IsOwn s h × (h.owner ≡ owner)
 
@@ -83,6 +84,7 @@ module _ {T : Type 0} {words : Ghosts T} where
   abbrev pub container_of : Pass T words → SetId
   container_of p = record { table = p.token.seated.seat.table_id; capacity = p.token.capacity }
 
+  -- the pass is for this container
   abbrev pub IsPassOf : Container T → Pass T words → Type 0
   IsPassOf s p = container_of p ≡ container_id s
 

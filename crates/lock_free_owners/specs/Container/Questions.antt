@@ -16,6 +16,7 @@ module _ {T : Type 0} where
       AllPairs (λ (x y : Answered T). x.index < y.index) asked
       × All (λ (a : Answered T). a.index < capacity) asked
 
+  -- one call of the closure: it answered this question so, and became q
   abbrev pub asks : {F : Type 0} → (F → T → Bool → F → Type 0) → F → Answered T → F → Type 0
   asks step p a q = step p a.value a.yes q
 

@@ -5,7 +5,7 @@ use Rattle.history.specs.declared.view.View.{View}
 use Rattle.history.specs.Settled.{SettledFrom}
 use Rattle.lock_free_owners.specs.Container.Bare.{IsCounted}
 
--- the call has ended where it rested, and then one operation is counted
+-- if the last call of the pass rested, it has ended (`from`); then one further operation may be counted
 pub record HasSettled {T : Type 0} (code : Coding T) (old new : View T) : Type 0 where
   pub from : View T
   pub settled : SettledFrom code kinds.Container old from

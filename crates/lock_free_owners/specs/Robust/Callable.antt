@@ -17,7 +17,8 @@ module _ {F : Type 0} (step : F → ℕ → CallbackProgression → F → Type 0
   abbrev pub WentOn : F → List ℕ → F → Type 0
   WentOn = FoldsTo (λ p x q. step p x Continue q)
 
-  -- called with these in turn, it said to go on, and at the last to stop
+  -- called with these indices in turn, the closure said at each but the last one to go on, and at the last
+  -- one to stop; the bound is the last index plus 1
   pub record WasStopped (f : F) (indices : List ℕ) (bound : ℕ) (last : F) : Type 0 where
     pub before : List ℕ
     pub index : ℕ
@@ -52,28 +53,31 @@ pub record Asked : Type 0 where
   pub of : Owned
   pub yes : Bool
 
+-- the owner is one that there may be, and the index is below the capacity
 abbrev pub IsOwned : ℕ → Owned → Type 0
 IsOwned capacity o = (o.owner < empty) × (o.index < capacity)
 
--- each index is below the capacity, and above the one before
+-- each index is below the capacity and above the one before it, and each owner is one that there may be
 abbrev pub TheyAscend : ℕ → List Owned → Type 0
 TheyAscend capacity told =
     AllPairs (λ (x y : Owned). x.index < y.index) told × All (IsOwned capacity) told
 
--- the same of questions
+-- the questions are about indices below the capacity, each above that of the question before it, of
+-- owners that may be one
 abbrev pub QuestionsAscend : ℕ → List Asked → Type 0
 QuestionsAscend capacity asked =
     AllPairs (λ (x y : Asked). x.of.index < y.of.index) asked
     × All (λ (a : Asked). IsOwned capacity a.of) asked
 
--- there was a yes about it
+-- a question about this index and owner was answered yes
 abbrev pub WasAgreed : List Asked → Owned → Type 0
 WasAgreed asked o = Contains asked (record { of = o; yes = true })
 
--- the calls of a closure that is asked, and of one that is told
+-- one call of the closure that is asked: it answered this question so, and became q
 abbrev pub asks : {F : Type 0} → (F → ℕ → ℕ → Bool → F → Type 0) → F → Asked → F → Type 0
 asks step p a q = step p a.of.owner a.of.index a.yes q
 
+-- one call of the closure that is told: it was told of this index and owner, and became q
 abbrev pub tells : {S : Type 0} → (S → ℕ → ℕ → S → Type 0) → S → Owned → S → Type 0
 tells step p o q = step p o.owner o.index q
 
@@ -97,30 +101,35 @@ pub record TakesFreed {F S : Type 0} (step : F → ℕ → ℕ → Bool → F �
 
 -- ---- what the closures were called with at the visits of a recovery
 
+-- at this visit of a recovery the closure said yes
 abbrev pub was_told : Came → Bool
 was_told HasAsked = false
 was_told came = true
 
+-- at this visit of a recovery the index was freed
 abbrev pub was_freed : Came → Bool
 was_freed HasAsked = false
 was_freed WasTold = false
 was_freed came = true
 
+-- the index of a visit with its owner
 abbrev pub owned_at : Visit → Owned
 owned_at v = record { owner = v.owner; index = v.index }
 
+-- the question at a visit, with the answer of the closure
 abbrev pub question_at : Visit → Asked
 question_at v = record { of = owned_at v; yes = was_told v.came }
 
--- the first one about each, with its answer
+-- the questions to the first closure: one about each visit, with its answer
 abbrev pub questions_of : List Visit → List Asked
 questions_of visits = map question_at visits
 
--- the second one with those that were freed
+-- what the second closure is told of: the visits at which the index was freed
 abbrev pub freed_of : List Visit → List Owned
 freed_of visits = map owned_at (filter (λ (v : Visit). was_freed v.came) visits)
 
--- so called, the two became these; and each visit has an owner that may be one
+-- Called as these visits say, the first closure became `f_last` and the second `s_last`, and the owner
+-- at each visit is one that there may be.
 pub record HasVisited {F S : Type 0} (step : F → ℕ → ℕ → Bool → F → Type 0)
     (tell : S → ℕ → ℕ → S → Type 0) (f : F) (s : S) (visits : List Visit) (f_last : F) (s_last : S)
     : Type 0 where

@@ -19,7 +19,7 @@ pub record AcquireDone (capacity owner index : ℕ) (old new : View ℕ) : Type 
   pub filled : WasFilled index owner old new
   pub granted : WasGranted index owner old new
 
--- one that took none
+-- an acquire that took no index
 pub record AcquireRefused (owner : ℕ) (failure : UniqueIndexSetAcquireFailure) (old new : View ℕ) : Type 0 where
   pub taken : HasTaken owner (Err failure) old new
   pub refused : WasRefused owner failure old new
@@ -33,7 +33,7 @@ pub record ReleaseDone (index owner : ℕ) (mode : ReleaseMode) (state : Release
   pub answered : IsRightRelease index owner mode (Ok state) old new
   pub released : HasReleased state mode old new
 
--- one that freed none
+-- a release that freed no index
 pub record ReleaseRefused (index owner : ℕ) (mode : ReleaseMode) (failure : RobustUniqueIndexSetReleaseError)
     (old new : View ℕ) : Type 0 where
   pub given : HasGiven (record { index = index; owner = owner; mode = mode }) (Err failure) old new
@@ -41,20 +41,25 @@ pub record ReleaseRefused (index owner : ℕ) (mode : ReleaseMode) (failure : Ro
 
 -- ---- recover
 
+-- a recovery: what became of its closures and of the indices, that its answer is right, and what it
+-- tells of the lock
 pub record RecoverDone {F S : Type 0} (step : F → ℕ → ℕ → Bool → F → Type 0) (tell : S → ℕ → ℕ → S → Type 0)
     (mode : ReleaseMode) (state : ReleaseState) (f : F) (s : S) (f_last : F) (s_last : S) (old new : View ℕ) : Type 0 where
   pub recovered : HasRecovered step tell mode state f s f_last s_last old new
   pub answered : IsRightRecovery mode state old new
   pub lock : FoundState state old new
 
--- ---- the number of those that have an owner, the lock
+-- ---- `borrowed_indices` and `is_locked`
 
+-- a count of the indices that have an owner: it is right, at most the capacity, and 0 where the pass
+-- had seen the lock
 pub record BorrowedDone (capacity number : ℕ) (old new : View ℕ) : Type 0 where
   pub counted : HasCounted number old new
   pub answered : IsRightCount number old new
   pub most : number ≤ capacity
   pub lock : is_locked old.seen ≡ true → number ≡ 0
 
+-- a look at the lock, whose answer is right
 pub record IsLockedDone (locked : Bool) (old new : View ℕ) : Type 0 where
   pub looked : HasLooked locked old new
   pub answered : IsRightLook locked old new

@@ -6,9 +6,11 @@ use Rattle.lock_free_owners.specs.declared.mpmc.robust_unique_index_set.Pass.{Pa
 use Rattle.lock_free_owners.specs.declared.mpmc.robust_unique_index_set.handles.Handle.{Handle}
 use Rattle.lock_free_owners.specs.RobustUniqueIndexSet.{capacity_of, view, LeavesPass, SamePass}
 
+-- the set of a handle
 abbrev pub set_in : Handle → RobustUniqueIndexSet
 set_in h = h.set.now
 
+-- the pass of a handle
 abbrev pub pass_in : Handle → Pass
 pass_in h = h.pass
 
@@ -21,7 +23,8 @@ pub record SameHandle (old new : Handle) : Type 0 where
   pub set : set_in new ≡ set_in old
   pub pass : SamePass (pass_in old) (pass_in new)
 
--- the same of a find
+-- what a find keeps of a handle: its set, and of its pass what the set's `find` keeps, with one look
+-- aside for each cell
 pub record FindKeepsHandle (old new : Handle) : Type 0 where
   pub set : set_in new ≡ set_in old
   pub pass : LeavesPass (capacity_of (set_in old) + 1) (pass_in old) (pass_in new)

@@ -13,18 +13,20 @@ use Rattle.steps.specs.declared.indices.robust.recover.RecoverStage.{RecoverStag
 use Rattle.steps.specs.declared.indices.robust.recover.RecoverStage.TheVariants as recovers
 use Rattle.model.specs.Turns.{number_of}
 
+-- the closure's answer as the call of the model takes it
 abbrev pub says : CallbackProgression → ℕ
 says Continue = 1
 says Stop = 0
 
--- a call that has come past its last cell takes its last step, and any other stays
+-- what `look_again` does: a recovery past its last cell loads the counter again; at any other stage it
+-- stays as it is
 abbrev pub LooksAgain : Recover → ReleaseMode → RecoverStage
     → After Recover ReleaseState → Type 0
 LooksAgain call mode recovers.LoadsCounterAgain after =
     (k : ℕ) × (after ≡ recover_after call mode k)
 LooksAgain call mode stage after = after ≡ GoOn call
 
--- an exchange that emptied its cell
+-- this stage comes right after the exchange that emptied a cell
 abbrev pub stage_frees : RecoverStage → Bool
 stage_frees recovers.LoadsCounter = false
 stage_frees (recovers.LoadsCell index) = false
@@ -34,12 +36,14 @@ stage_frees (recovers.Raises index raise) = true
 stage_frees (recovers.Locks index lock) = false
 stage_frees recovers.LoadsCounterAgain = false
 
+-- the step that led here emptied a cell
 abbrev pub has_freed : After Recover ReleaseState → Bool
 has_freed (GoOn d) = stage_frees d.stage
 has_freed (Done state) = false
 
 module _ {F S : Type 0} where
-  -- what a step asks of the closures: of the second one it may be told after the exchange
+  -- what a step asks of the closures: at a question the first one may be called, and at the exchange of
+  -- a cell the second one may be, since it is told of the index if the exchange frees it
   abbrev pub RecoverAsks : (F → ℕ → ℕ → Type 0) → (S → ℕ → ℕ → Type 0)
       → RecoverStage → F → S → Type 0
   RecoverAsks pre may recovers.LoadsCounter p s = Unit {0}
@@ -50,13 +54,14 @@ module _ {F S : Type 0} where
   RecoverAsks pre may (recovers.Locks index lock) p s = Unit {0}
   RecoverAsks pre may recovers.LoadsCounterAgain p s = Unit {0}
 
-  -- it goes on as its table says where it has heard this, and leaves the closures
+  -- the call goes on as its table of steps says for the answer `k`, and no closure is called
   abbrev pub GoesQuietly : Recover → ReleaseMode → ℕ → F → S → After Recover ReleaseState → F → S
       → Type 0
   GoesQuietly call mode k p s after q t =
       (q ≡ p) × (t ≡ s) × (after ≡ recover_after call mode k)
 
-  -- how the call goes on from what it has heard, and what becomes of the closures
+  -- How the call goes on from what it has heard, and what becomes of the closures. A question calls the
+  -- first one, an exchange that frees the index the second one, and any other step none.
   abbrev pub RecoverMoves : (F → ℕ → ℕ → Bool → F → Type 0) → (S → ℕ → ℕ → S → Type 0)
       → Recover → ReleaseMode → RecoverStage → ℕ → F → S → After Recover ReleaseState
       → F → S → Type 0

@@ -1,8 +1,8 @@
 //! Values at indices that have owners, which threads share. The indices of a dead owner are recovered.
 //!
-//! How many atomic steps a call takes is what its clause `steps` says (not of an update of another state): operations
-//! that its pass has counted, at most so many *alone*, so many more for each change by others of any word of the
-//! container during the call, and, but of `find`, one more where the last call of the pass rested.
+//! The clause `steps` of a call bounds its atomic steps (not of an update of a state that the pass has not).
+//! It gives a number for a call *alone*, and one for each change by others of any word of the container
+//! during the call. All calls but `find` take one step more where the last call of the pass rested.
 use self::rule::ContainerRule;
 use self::token::Token;
 use history::view::View;

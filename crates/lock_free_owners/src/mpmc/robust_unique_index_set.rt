@@ -1,9 +1,9 @@
 //! A set of indices that threads share, each of which is handed out to one owner at a time. The indices of an owner
 //! that is dead are recovered.
 //!
-//! How many atomic steps a call takes is what its clause `steps` says: the operations on words that its pass has
-//! counted, at most so many *alone*, and so many more for each change by others of any word of the set while the call
-//! is under way.
+//! The clause `steps` of a call bounds its atomic steps, the operations on words that its pass
+//! counts. It gives a number for a call *alone*, and a number for each change by others of any word
+//! of the set during the call.
 ghost use Rattle.std.specs.Prelude.{◌≡◌, ◌<◌, ◌+◌, [], None};
 ghost use Rattle.std.specs.Coded.{Coded-set, coded_ℕ};
 ghost use Rattle.model.specs.declared.turn.Kind.TheVariants as kinds;

@@ -1,4 +1,4 @@
--- What the words that were read say of the list that is made of them.
+-- What the words that a `close` read of a bounded queue say of the list that is made of them.
 use Rattle.lock_free_queues.proofs.Names.{◌≡◌, inl, inr, ⊎_elim, ℕ, zero, suc, ◌+◌, ◌-◌, ◌*◌, ◌%◌, ◌<◌, ◌≤◌, Some}
 use Rattle.lock_free_queues.proofs.Names.{List, [], ◌∷◌, ◌++◌, length, map, take, drop, get_or, slice_get, slice_index, refl}
 use Rattle.lock_free_queues.proofs.Names.{sym, ap, subst, ◌∙◌, append-nil, arith, cases_lt, flat_map-append}
@@ -56,8 +56,8 @@ words_alike ws xs at b (suc k) h =
     ap (λ z. get_or ws z 0) x ∙ (h (i + 1) (omega arith) ∙ ap (λ z. get_or xs z 0) y)) in
     λ j. head j ∷ tail j
 
--- the value at a place of a list that was read from words, from position p on, is the one that the
--- words have at the position that lies so far behind p
+-- In a list that was read from words, from position p on, the value at place k is the one that the
+-- words have at position p + k.
 value_in_list : {V : Type 0} (value_of : List ℕ → V) (size capacity : ℕ) (words : List ℕ) (p m k : ℕ) → k < m
     → slice_get (values_from value_of size capacity words p m) k ≡ Some (value_at value_of size capacity words (p + k))
 value_in_list value_of size capacity words p zero k low = absurd (omega arith)
@@ -67,18 +67,21 @@ value_in_list value_of size capacity words p (suc m) (suc k) low =
     let there : (p + 1) + k ≡ p + suc k = omega arith in
     value_in_list value_of size capacity words (p + 1) m k (omega arith) ∙ ap (λ q. Some (value_at value_of size capacity words q)) there
 
+-- The k-th element behind the first n is the element n + k.
 get_dropped : {A : Type 0} (xs : List A) (n k : ℕ) → slice_get (drop n xs) k ≡ slice_get xs (n + k)
 get_dropped xs zero k = (let same : 0 + k ≡ k = omega arith in ap (slice_get xs) (sym same))
 get_dropped [] (suc n) k = refl
 get_dropped (x ∷ xs) (suc n) k =
     (let same : suc n + k ≡ suc (n + k) = omega arith in get_dropped xs n k ∙ ap (slice_get (x ∷ xs)) (sym same))
 
+-- A list of length 0 is empty.
 pub no_element : {A : Type 0} (xs : List A) → length xs ≡ 0 → xs ≡ []
 no_element [] long = refl
 no_element (x ∷ xs) long = absurd (omega arith)
 
 -- ---- the words that were read
 
+-- The words of the cells are as many as a value's words times the cells.
 cells_are_words : {T : Type 0} (code : Coding T) (kd : QueueKind) (capacity : ℕ)
     → words_in_cells code.size kd capacity ≡ (encoded code kd).size * cells_of kd capacity
 cells_are_words code IndexQueue capacity = omega arith
@@ -101,19 +104,23 @@ module _ {T : Type 0} (code : Coding T) (law : IsCoding code) (kd : QueueKind) (
   abbrev cells : ℕ
   cells = cells_of kd capacity
 
-  -- the values of the queue, and their words
+  -- the values of a queue of this kind
   abbrev V : Type 0
   V = Val T kd
 
+  -- How values of the queue are written in words.
   abbrev z : Coding V
   z = encoded code kd
 
+  -- A value of the queue as an item.
   abbrev named : V → Item T
   named x = item kd x
 
+  -- The write position that was read.
   abbrev write : ℕ
   write = slice_index words 0
 
+  -- The read position that was read.
   abbrev taken : ℕ
   taken = slice_index words 1
 
@@ -121,13 +128,16 @@ module _ {T : Type 0} (code : Coding T) (law : IsCoding code) (kd : QueueKind) (
   abbrev pub moment : List (Event T)
   moment = l.new.seen
 
+  -- What was seen at the moment is a history of the queue.
   pub history : IsHistory code kind capacity moment
   history =
       record { trace = l.taken_read.trace; run = l.taken_read.run; is = sym (read_here code kd capacity l.new 1 taken l.taken_read) }
 
+  -- At the moment the queue's list is in order: what was taken out is a beginning of what was published.
   list : IsListed cells moment
   list = listed_always code capacity moment kd history moment [] (sym (append-nil moment))
 
+  -- The moment lies behind all that the pass had seen.
   pub since : IsBeginning v.seen moment
   since = begins_further v.seen l.begun.seen moment l.opening.since l.reading.since
 
@@ -135,6 +145,7 @@ module _ {T : Type 0} (code : Coding T) (law : IsCoding code) (kd : QueueKind) (
   write_is : write ≡ length (published l.begun.seen)
   write_is = write_here code kd capacity l.begun write l.first_read
 
+  -- The read position is the number of items that were taken out by that moment.
   pub taken_is : taken ≡ length (handed_out moment)
   taken_is = taken_here code kd capacity l.new taken l.taken_read
 
@@ -156,12 +167,15 @@ module _ {T : Type 0} (code : Coding T) (law : IsCoding code) (kd : QueueKind) (
       let book = ap length list.book in
       omega (arith, length-append (handed_out moment) (waiting moment), ap length quiet, write_is, taken_is)
 
+  -- At most as many items as cells waited.
   near : write ≤ taken + cells
   near = omega (arith, number, list.few)
 
+  -- The read position is at most the write position.
   behind : taken ≤ write
   behind = omega (arith, number)
 
+  -- The words are the four of the head and those of the cells.
   long : length words ≡ 4 + z.size * cells
   long = l.long ∙ ap (λ n. 4 + n) (cells_are_words code kd capacity)
 
@@ -184,16 +198,21 @@ module _ {T : Type 0} (code : Coding T) (law : IsCoding code) (kd : QueueKind) (
     pub there : value_at z.value_of z.size cells words i ≡ value
 
   module _ (i : ℕ) (x : Item T) (at : slice_get (published moment) i ≡ Some x) (high : taken ≤ i) where
+    -- The position lies below the write position that was read.
     low_one : i < write
     low_one =
         omega (arith, slice_get_within (published moment) i x at, ap length quiet, write_is)
 
+    -- The queue has a cell, as an item was published.
     some : 0 < cells
     some = omega (arith, low_one, near)
 
+    -- The place of word k of the position in the words that were read.
     abbrev place : ℕ → ℕ
     place k = 4 + (z.size * (i % cells) + k)
 
+    -- Each word of the cell was read between the first load of the write position and the load
+    -- of the read position.
     read_at : (k : ℕ) → k < z.size → WasRead code kind capacity l.begun l.new (place k) (slice_index words (place k))
     read_at k below = (let inside = cell_within z.size cells i k some below in let all = long in l.cells (place k) (omega arith) (omega arith))
 
@@ -210,20 +229,24 @@ module _ {T : Type 0} (code : Coding T) (law : IsCoding code) (kd : QueueKind) (
         let out = taken_is in
         stands code kd capacity t w.run i x there (omega arith)
 
-    -- it has a word
+    -- A value of the queue has at least one word.
     one : 0 < z.size
     one = omega (arith, (coded code law kd).some)
 
+    -- The value that the first word of the cell is of.
     abbrev first_one : V
     first_one = (stood 0 one).value
 
+    -- Each word that was read at the place of the position is that word of one value, the first that
+    -- was read there.
     same_words : (k : ℕ) → k < z.size → get_or words (place k) 0 ≡ get_or (z.words_of first_one) k 0
     same_words k below =
         let s = stood k below in
         let same : s.value ≡ first_one = item_same kd s.value first_one (sym s.is ∙ (stood 0 one).is) in
         (read_at k below).found_is ∙ (s.words k below ∙ ap (λ y. get_or (z.words_of y) k 0) same)
 
-    -- an item that was published at a position from which nobody had taken is a value that the words have there
+    -- an item that was published at a position from which nobody had taken is the value that the words
+    -- have there, so it waits
     waits : Waits i x
     waits =
         let y = first_one in
@@ -241,21 +264,25 @@ module _ {T : Type 0} (code : Coding T) (law : IsCoding code) (kd : QueueKind) (
   pub whole_seen : IsAll v.share → moment ≡ v.seen
   whole_seen all = (let x = l.opening.whole all in l.reading.whole (subst IsAll (sym l.opening.share) all) ∙ x)
 
-  -- ---- the list: these words, but that it may begin later
+  -- ---- ---- the list that is made of these words; of an overflowing queue it may begin one number
+  -- ---- later
 
   -- ws are words with the same cells and the same write position, and a read position that is no lower
   module _ (ws : List ℕ) (alike : (word : ℕ) → 4 ≤ word → slice_index ws word ≡ slice_index words word)
       (end : slice_index ws 0 ≡ write) (from : taken ≤ slice_index ws 1) (to : slice_index ws 1 ≤ write) where
+    -- The read position in ws.
     abbrev first : ℕ
     first = slice_index ws 1
 
+    -- How many values the list has.
     abbrev count : ℕ
     count = slice_index ws 0 - first
 
+    -- The values of the list, from the read position in ws on.
     abbrev values : List V
     values = values_from z.value_of z.size cells ws first count
 
-    -- those that wait before it
+    -- The items that waited at the moment and were taken out before the read position in ws.
     abbrev pub older : List (Item T)
     older = take (first - taken) (waiting moment)
 
@@ -270,9 +297,11 @@ module _ {T : Type 0} (code : Coding T) (law : IsCoding code) (kd : QueueKind) (
           length-append older (drop (first - taken) (waiting moment)),
         )
 
+    -- The value at a position is the same in ws as in the words that were read.
     same_value : (i : ℕ) → value_at z.value_of z.size cells ws i ≡ value_at z.value_of z.size cells words i
     same_value i = grind (arith, words_alike)
 
+    -- The value at a position of the list stands at its place in the list.
     value_there : (i : ℕ) → first ≤ i → i < write → slice_get values (i - first) ≡ Some (value_at z.value_of z.size cells words i)
     value_there i first_up_to_i i_below_write = grind (arith, value_in_list, value_at, same_value)
 
@@ -299,6 +328,7 @@ module _ {T : Type 0} (code : Coding T) (law : IsCoding code) (kd : QueueKind) (
             ap (slice_get values) (sym back) ∙ value_there i (omega arith) w.low in
             slice_get-map named values k ∙ (ap (λ o. option_map named o) there ∙ ap Some (ap named w.there ∙ sym w.is))
 
+    -- What waits are the older items and the values of the list.
     pub waiting_is : waiting moment ≡ older ++ map named values
     waiting_is = sym (take-append-drop (first - taken) (waiting moment)) ∙ ap (λ xs. older ++ xs) rest_is
 
@@ -308,6 +338,7 @@ module _ {T : Type 0} (code : Coding T) (law : IsCoding code) (kd : QueueKind) (
     closes_later exact =
         record {
           same = refl;
+          -- A published value lies before the list, or it still waits and stands in the list at its place.
           published_there = λ i x at. ⊎_elim (λ (before : i < first). inl before)
               (λ (after : first ≤ i).
               let still : slice_get (published moment) i ≡ Some (named x) =
@@ -319,6 +350,7 @@ module _ {T : Type 0} (code : Coding T) (law : IsCoding code) (kd : QueueKind) (
               inr (after, value_there i (omega arith) w.low ∙ ap Some (w.there ∙ same)))
               (cases_lt i first);
           taken = omega (arith, hits_grow hands_out v.seen moment since, taken_is);
+          -- With the whole share nothing is older than the list, so what waits are just its values.
           whole = λ all. (
             exact all ∙ (taken_is ∙ ap (λ es. length (handed_out es)) (whole_seen all)),
             subst (λ es. published es ≡ handed_out es ++ map named values) (whole_seen all)
@@ -328,7 +360,7 @@ module _ {T : Type 0} (code : Coding T) (law : IsCoding code) (kd : QueueKind) (
           );
         }
 
-  -- the list that these words make: from the read position to the write position
+  -- the list that these words make: what they have from the read position to the write position
   abbrev closed : Bounded V
   closed =
       record {
@@ -337,7 +369,7 @@ module _ {T : Type 0} (code : Coding T) (law : IsCoding code) (kd : QueueKind) (
         values = values_from z.value_of z.size cells words taken (write - taken);
       }
 
-  -- just these words
+  -- the list that these words make is one that closes the queue, and it begins at the read position
   pub closes : Closes named capacity v closed
   closes = closes_later words (λ word high. refl) refl (omega arith) behind (λ all. refl)
 
@@ -357,9 +389,11 @@ module _ {T : Type 0} (code : Coding T) (law : IsCoding code) (kd : QueueKind) (
             (let are = older_are words (λ word high. refl) refl (omega arith) behind in omega arith)));
       }
 
--- a pass as it stood then
+-- The pass has read these words. `l.then` is its seat, that knows just what the pass knew as it read
+-- the read position.
 module _ {E T : Type 0} {k : kinds.Ghosts E} {ws : Ghosts T} (pass : Pass E T k ws) (capacity : ℕ) (words : List ℕ)
     (l : LastSeen capacity pass.token words) where
+  -- That seat has made what the pass has made.
   pub made_then : (token_view l.then).made ≡ (view pass).made
   made_then = ap (λ (x : View T). x.made) l.view ∙ (l.last.reading.made ∙ l.last.opening.made)
 

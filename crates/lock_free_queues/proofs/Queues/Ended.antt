@@ -1,4 +1,4 @@
--- What a push and a pop say once they have ended, on a queue of indices or of values.
+-- What a push and a pop of a bounded queue have done once they have ended.
 use Rattle.std.proofs.Common.{arith}
 use Rattle.lock_free_queues.proofs.Names.{◌≡◌, ◌⊎◌, inl, inr, ℕ, Bool, true, false, Option, Some, None, IfSome}
 use Rattle.lock_free_queues.proofs.Names.{IfNone, List, [], length, sym, ap, subst, ◌∙◌, slice_index, ◌-◌, ◌^◌, ◌<◌}
@@ -38,6 +38,7 @@ module _ {T : Type 0} (code : Coding T) (kd : QueueKind) (base w : View T) where
       → IsAlone kd Producer → base.other ≡ [] → 0 < base.share.part → HasRole Producer base.made → (e : E) (m : M)
       → LeftOut code (machine_kind kd) call base e m w → WasAtEnd base w
   was_at_end call at_end only alone some has e m left =
+      -- The push was left out at a load of the write position, which found 2^64 - 1.
       let queue = queue_goes_on code kd base left.trace left.run in
       let at = at_end left.from left.room left.word left.ask left.skipped left.asks in
       let word : slice_index left.trace.world.words 0 ≡ 2 ^ 64 - 1 = ap (λ n. slice_index left.trace.world.words n) (sym at.0) ∙ (left.found ∙ at.1) in
@@ -51,20 +52,25 @@ module _ {T : Type 0} (code : Coding T) (kd : QueueKind) (base w : View T) where
 module _ {T : Type 0} (code : Coding T) (r : Ring) (base w : View T) (idle : base.going ≡ None) where
   module _ {C : Type 0} (item : Item T) (call : Calling T C (Unit {0}) Bool) (is : IsPush code item call)
       (alone : base.other ≡ []) (some : 0 < base.share.part) (has : HasRole Producer base.made) where
+    -- A push that has ended as a call of the history is one with the answer of its end.
     pushed_so : (e : Bool) (m : Unit {0}) → Ends code (machine_kind (kind_of r)) call base e m w → HasPushed item e base w
     pushed_so e m ends = grind (arith, called)
 
+    -- A push that is left out has found the last position.
     at_last : (e : Bool) (m : Unit {0}) → LeftOut code (machine_kind (kind_of r)) call base e m w → WasAtEnd base w
     at_last e m left = was_at_end code (kind_of r) base w call is.at_end (role_alone r Producer) alone some has e m left
 
+    -- A push that is over is a call of the history, or was left out at the last position and answers false.
     pub pushed : (e : Bool) (m : Unit {0}) → Over code (machine_kind (kind_of r)) call base e m w → HasPushed item e base w ⊎ (e ≡ false) × WasAtEnd base w
     pushed e m over = grind (arith, pushed_so, at_last)
 
+    -- A push that answers true has published its item.
     pub published_if : (e : Bool) (m : Unit {0}) → Over code (machine_kind (kind_of r)) call base e m w → e ≡ true → HasPublished item base w
     published_if e m (inl ends) took =
         has_published code r base.capacity base w ends.history item (subst (λ b. HasPushed item b base w) took (pushed_so e m ends))
     published_if e m (inr left) took = (let never : false ≡ true = sym (is.left e left.left) ∙ took in absurd (cc))
 
+    -- A push that answered false met a full queue, or was left out as the last position was reached.
     pub full : (e : Bool) (m : Unit {0}) → Over code (machine_kind (kind_of r)) call base e m w → e ≡ false
         → WasFull base.capacity item base w ⊎ WasAtEnd base w
     full e m (inl ends) refused =
@@ -74,6 +80,7 @@ module _ {T : Type 0} (code : Coding T) (r : Ring) (base w : View T) (idle : bas
 -- ---- pops
 
 module _ {T : Type 0} (code : Coding T) (kd : QueueKind) (base w : View T) (idle : base.going ≡ None) where
+  -- A pop that has ended is a call of the history with the value in its room, or with none.
   pub has_popped : {C M V : Type 0} (named : V → Item T) (value : M → V) (call : Calling T C M Bool)
       → IsPop named value call → (e : Bool) (m : M) → Ends code (machine_kind kd) call base e m w
       → HasPopped (option_map named (pop_answer (value m) e)) base w
@@ -82,10 +89,12 @@ module _ {T : Type 0} (code : Coding T) (kd : QueueKind) (base w : View T) (idle
 -- what its answer says of the list
 module _ {T V : Type 0} (code : Coding T) (r : Ring) (named : V → Item T) (capacity : ℕ) (base w : View T)
     (h : IsHistory code (machine_kind (kind_of r)) capacity w.seen) where
+  -- A pop that answers a value has taken it out.
   pub taken_if : (o : Option V) → HasPopped (option_map named o) base w → IfSome o (λ x. HasTakenOut (named x) base w)
   taken_if None popping = tt
   taken_if (Some x) popping = has_taken_out code r capacity base w h (named x) popping
 
+  -- A pop that answers none met an empty queue.
   pub empty_if : (o : Option V) → HasPopped (option_map named o) base w → IfNone o (WasEmpty base w)
   empty_if None popping = was_empty code r capacity base w h popping
   empty_if (Some x) popping = tt

@@ -1,4 +1,4 @@
--- What is known of whole calls on a queue.
+-- What contracts say of whole calls on a queue, from what their driver knows once they have ended.
 use Rattle.model.proofs.Readings.{Each-less}
 use Rattle.lock_free_queues.proofs.Names.{◌≡◌, ◌≤◌, ◌+◌, ◌⊎◌, inl, inr, ℕ, Bool, true, false, Some, None, List, [], ◌∷◌, ◌++◌}
 use Rattle.lock_free_queues.proofs.Names.{length, refl, sym, ap, subst, ◌∙◌, append_assoc, append-nil, arith, sum_by}
@@ -34,19 +34,23 @@ abbrev pub IsAlone : QueueKind → Role → Type 0
 IsAlone Overflow Consumer = ⊥
 IsAlone kd role = Unit {0}
 
+-- In a queue of each kind only the producer publishes.
 pushes_alone : (kd : QueueKind) → IsAlone kd Producer
 pushes_alone IndexQueue = tt
 pushes_alone Overflow = tt
 pushes_alone Queue = tt
 
 module _ {T : Type 0} where
+  -- An event that is right by `ByHolder` is right by `ByHolderOf` for each of both roles.
   of_one : (role : Role) (before : List (Event T)) (e : Event T) → ByHolder before e → ByHolderOf role before e
   of_one role before e rightly_done = grind arith
 
 module _ {T : Type 0} (code : Coding T) (kd : QueueKind) where
+  -- The kind of the machine.
   abbrev pub kind_here : Kind
   kind_here = machine_kind kd
 
+  -- these are the events of a history of a queue of this kind and capacity
   abbrev pub IsSeen : ℕ → List (Event T) → Type 0
   IsSeen capacity seen = IsHistory code kind_here capacity seen
 
@@ -54,33 +58,40 @@ module _ {T : Type 0} (code : Coding T) (kd : QueueKind) where
   promised : (capacity : ℕ) (seen : List (Event T)) → (h : IsSeen capacity seen) → IsQueue kd h.trace
   promised capacity seen h = queue_goes_on code kd (first_view capacity) h.trace h.run
 
+  -- In what was seen each role is granted and given back right.
   pub grants : (capacity : ℕ) (seen : List (Event T)) → IsSeen capacity seen → Each GrantsRight seen
   grants capacity seen is_seen = subst (Each GrantsRight) (sym is_seen.is) (promised capacity seen is_seen).roles
 
+  -- In what was seen each push and each pop that acted answers right.
   pub answers_right : (capacity : ℕ) (seen : List (Event T)) → IsSeen capacity seen → Each (AnswersRight capacity) seen
   answers_right capacity seen is_seen =
       subst (λ es. Each (AnswersRight capacity) es) (sym is_seen.is)
       (subst (λ n. Each (AnswersRight n) is_seen.trace.events) is_seen.run.sized (promised capacity seen is_seen).answers)
 
+  -- In what was seen each call on the length answers right by some moment of that call.
   pub tells_lengths : (capacity : ℕ) (seen : List (Event T)) → IsSeen capacity seen → Each (TellsLength capacity) seen
   tells_lengths capacity seen is_seen =
       subst (λ es. Each (TellsLength capacity) es) (sym is_seen.is)
       (subst (λ n. Each (TellsLength n) is_seen.trace.events) is_seen.run.sized (promised capacity seen is_seen).lengths)
 
+-- In what was seen each push is by the holder of the producer's role, and each pop by that of the consumer's.
 pub by_holder : {T : Type 0} (code : Coding T) (r : Ring) (capacity : ℕ) (seen : List (Event T)) → IsSeen code (kind_of r) capacity seen → Each ByHolder seen
 by_holder code r capacity seen is_seen = history_by_holders code r capacity seen is_seen
 
 module _ {T : Type 0} (code : Coding T) (capacity : ℕ) (seen : List (Event T)) where
+  -- In a bounded queue, what the holder of a role alone writes is written by him only.
   ring_marked : (r : Ring) (role : Role) → IsSeen code (kind_of r) capacity seen → Each (ByHolderOf role) seen
   ring_marked r role h before after e is = of_one role before e (by_holder code r capacity seen h before after e is)
 
+  -- In a queue of any kind, what the holder of a role alone writes is written by him only.
   pub by_its_holder : (kd : QueueKind) (role : Role) → IsAlone kd role → IsSeen code kd capacity seen → Each (ByHolderOf role) seen
   by_its_holder IndexQueue role alone is_seen = ring_marked of_indices role is_seen
   by_its_holder Queue role alone is_seen = ring_marked of_values role is_seen
   by_its_holder Overflow Producer alone is_seen = history_by_producers code capacity seen is_seen
   by_its_holder Overflow Consumer alone is_seen = absurd alone
 
-  -- at any time what was taken out is a beginning of what was published, and so many wait at most
+  -- at any time what was taken out is a beginning of what was published, and at most
+  -- `most_waiting` values wait
   pub listed_always : (kd : QueueKind) → IsSeen code kd capacity seen → (part rest : List (Event T))
       → seen ≡ part ++ rest → IsListed (most_waiting kd capacity) part
   listed_always IndexQueue is_seen part rest is = always_listed capacity code of_indices seen is_seen part rest is
@@ -90,18 +101,21 @@ module _ {T : Type 0} (code : Coding T) (capacity : ℕ) (seen : List (Event T))
 -- ---- pushes
 
 module _ {T : Type 0} where
-  -- what a push of an item is
+  -- A push of an index or of a value that ends was made by the party that held the producer's role
+  -- before its end.
   acted_by : (item : Item T) (p : ℕ) (taken : Bool) (before : List (Event T))
       → ByHolder before (Acted p (Queues (push_of item)) (Truth taken)) → producer_of before ≡ Some p
   acted_by (Index v) p taken before h = h
   acted_by (Value v) p taken before h = h
 
+  -- Where a push answers false, as many values as the capacity waited.
   full_by : (item : Item T) (p capacity : ℕ) (before : List (Event T))
       → AnswersRight capacity before (Acted p (Queues (push_of item)) (Truth false))
       → length (waiting before) ≡ capacity
   full_by (Index v) p capacity before h = h
   full_by (Value v) p capacity before h = h
 
+  -- The end of a push leaves the producer's role with its holder, and publishes nothing.
   plain_end : (item : Item T) (p : ℕ) (taken : Bool) → IsPlain (queue_role Producer) p (Finished p (Queues (push_of item)) (Truth taken))
   plain_end (Index v) p taken = (refl, refl)
   plain_end (Value v) p taken = (refl, refl)
@@ -142,12 +156,14 @@ found_none code kd capacity base w is_seen popping =
       empty = answers_right code kd capacity w.seen is_seen wrote_first.before wrote_first.after act wrote_first.is;
     }
 
+-- In a bounded queue each role has events that its holder alone writes.
 pub role_alone : (r : Ring) (role : Role) → IsAlone (kind_of r) role
 role_alone of_indices role = tt
 role_alone of_values role = tt
 
 -- r says whether the queue is of indices or of values; base and w are what the pass knew before a call and after it
 module _ {T : Type 0} (code : Coding T) (r : Ring) (capacity : ℕ) (base w : View T) (h : IsSeen code (kind_of r) capacity w.seen) where
+  -- In what the pass has seen, the holder of each role alone writes what belongs to it.
   marked : (role : Role) → Each (ByHolderOf role) w.seen
   marked role = ring_marked code capacity w.seen r role h
 
@@ -158,6 +174,7 @@ module _ {T : Type 0} (code : Coding T) (r : Ring) (capacity : ℕ) (base w : Vi
         let party_there = pushing.by in
         let act : Event T = Acted party_there (Queues (push_of item)) (Truth false) in
         let wrote_first = first_wrote party_there (Queues (push_of item)) (Truth false) act [] base w pushing.called in
+        -- The party of the push holds the producer's role, so nobody else published meanwhile.
         let all = by_holder code r capacity w.seen h in
         let holds = acted_by item party_there false wrote_first.before (all wrote_first.before wrote_first.after act wrote_first.is) in
         record {
@@ -245,6 +262,7 @@ module _ {T : Type 0} (code : Coding T) (kd : QueueKind) where
   module _ (base w : View T) (idle : base.going ≡ None) where
     -- ---- lengths
 
+    -- An answer of a call on the length is the one by the items that waited at some moment of that call.
     stood_as : (which : LengthOf) (p c : ℕ) (answer : Answer T) (xs : List (Event T))
         → TellsLength c xs (Finished p (Queues (length_start which)) answer)
         → HeldSometime p (λ part. answer ≡ length_answer which c (length (waiting part))) xs
@@ -265,6 +283,7 @@ module _ {T : Type 0} (code : Coding T) (kd : QueueKind) where
         let is : w.seen ≡ events_then ++ last ∷ [] =
         its_call.is ∙ sym (append_assoc (base.seen ++ its_call.others) (Begun party_now start ∷ its_call.during) (last ∷ [])) in
         let h = ends.history in
+        -- By the laws the answer is that of the number that waited at some moment of the call.
         let told : TellsLength base.capacity events_then last =
         subst (λ k. TellsLength k events_then last) h.run.sized ((promised code kd base.capacity w.seen h).lengths events_then [] last (sym h.is ∙ is)) in
         record {
@@ -291,16 +310,18 @@ module _ {T : Type 0} (code : Coding T) (kd : QueueKind) where
         told.is ∙ (ap (λ xs. xs ++ last ∷ []) stood.is ∙ append_assoc stood.part stood.rest (last ∷ [])) in
         omega (arith, (listed_always code base.capacity w.seen kd ends.history stood.part (stood.rest ++ last ∷ []) is).few)
 
+    -- An acquire of a role that has ended is a call of the history with its answer.
     pub acquired : (role : Role) (taken : Bool) (m : Unit {0}) → Ends code (machine_kind kd) (takes_role role) base taken m w → HasAcquired role taken base w
     acquired role taken m ends = grind (arith, called)
 
     -- ---- releases: while the role was held, and as it was given back, nobody else wrote what its holder writes
 
+    -- A release of a role that has ended is a call of the history.
     pub released : (role : Role) (e m : Unit {0}) → Ends code (machine_kind kd) (gives_role role) base e m w → HasReleased role base w
     released role e m ends = grind (arith, called)
 
-    -- where a role's holder alone writes what the role marks, who gave the role back has seen no
-    -- more of that than before
+    -- Where only a role's holder writes what the role marks (publishes or takes out), who gave the role
+    -- back has seen no more of it than before.
     left_after : (role : Role) → IsAlone kd role → IsHistory code (machine_kind kd) base.capacity w.seen
         → HasReleased role base w → flat_map (marks role) w.seen ≡ flat_map (marks role) base.seen
     left_after role only h left =
@@ -316,10 +337,12 @@ module _ {T : Type 0} (code : Coding T) (kd : QueueKind) where
         (Each-less (ByHolderOf role) xs (last ∷ []) (subst (Each (ByHolderOf role)) seen_is (by_its_holder code base.capacity w.seen kd role only h)))
         c.others_own c.during_own holds last (no_mark role p)
       where
+        -- A release ends while its party holds the role.
         held_at : (r : Role) (p : ℕ) (xs : List (Event T)) → GrantsRight xs (Finished p (Queues (release_start r)) Done) → held r xs ≡ Some p
         held_at Producer p xs grants_right = grants_right.1
         held_at Consumer p xs grants_right = grants_right.1
 
+        -- The end of a release is no publish and no hand-out.
         no_mark : (r : Role) (p : ℕ) → marks {T = T} r (Finished p (Queues (release_start r)) Done) ≡ []
         no_mark Producer p = refl
         no_mark Consumer p = refl
@@ -332,23 +355,28 @@ module _ {T : Type 0} (code : Coding T) (kd : QueueKind) where
 
 -- a producer's release; and a consumer's, where it says what was taken out
 module _ {T : Type 0} (code : Coding T) (base w : View T) (idle : base.going ≡ None) (e m : Unit {0}) where
+  -- A consumer's release leaves what was taken out as it was, except of an overflowing queue, where
+  -- pushes take out too.
   left_taken : (kd : QueueKind) → Ends code (machine_kind kd) (gives_role Consumer) base e m w → NoneTaken kd base w
   left_taken IndexQueue ends = left_alone code IndexQueue base w idle Consumer tt e m ends
   left_taken Overflow ends = tt
   left_taken Queue ends = left_alone code Queue base w idle Consumer tt e m ends
 
+  -- A release of a role leaves what the holder of the role alone writes as it was.
   pub left_marked : (kd : QueueKind) (role : Role) → Ends code (machine_kind kd) (gives_role role) base e m w → NoneMarked role kd base w
   left_marked kd Producer ends = left_alone code kd base w idle Producer (pushes_alone kd) e m ends
   left_marked kd Consumer ends = left_taken kd ends
 
 -- ---- what each call leaves
 
+-- If the operations aside are as many as before, or one more, they are at most one more.
 aside_most : {n m : ℕ} → (m ≡ n) ⊎ (m ≡ n + 1) → m ≤ n + 1
 aside_most (inl same) = omega arith
 aside_most (inr more) = omega arith
 
 module _ {T : Type 0} (code : Coding T) (kind : Kind) where
   module _ {C M E : Type 0} (call : Calling T C M E) (base w : View T) where
+    -- What is seen behind a call begins with what was seen before it.
     later_than : (p : ℕ) (wrote last : List (Event T)) → Since p call.start wrote last base w → IsBeginning base.seen w.seen
     later_than p wrote last since = grind (arith, opened, append_assoc)
 
@@ -362,20 +390,23 @@ module _ {T : Type 0} (code : Coding T) (kind : Kind) where
           all = λ whole. ends.all (subst IsAll ends.share whole);
         }
 
-    -- one operation of it is aside at most
+    -- A call that has ended leaves at most one operation more that was asked for and is no step of a call.
     pub aside_on : (e : E) (m : M) → Ends code kind call base e m w → w.aside ≤ base.aside + 1
     aside_on e m ends = aside_most ends.aside
 
+  -- What a pass knows after a look goes on from what it knew before.
   pub looked_on : (base w : View T) → Looks code kind base.capacity base w → Goes base w
   looked_on base w looks =
       record { share = looks.share; since = looks.mine; first = looks.ran.first; all = λ whole. looks.all (subst IsAll looks.share whole) }
 
   -- base and w are what the pass knew before the call and after it, e is its end, m its room then
   module _ {C M E : Type 0} (call : Calling T C M E) (base w : View T) (e : E) (m : M) where
+    -- What a pass knows after a call that is over goes on from what it knew before.
     pub goes_over : Over code kind call base e m w → Goes base w
     goes_over (inl ends) = goes_on call base w e m ends
     goes_over (inr left) = looked_on base w left.looked
 
+    -- A call that is over leaves at most one operation more aside.
     pub aside_over : Over code kind call base e m w → w.aside ≤ base.aside + 1
     aside_over (inl ends) = aside_on call base w e m ends
     aside_over (inr left) = omega (arith, left.asked, left.looked.aside)

@@ -10,21 +10,25 @@ use Rattle.lock_free_queues.proofs.Names.{role_after, sum_first, sound_of, grant
 use Rattle.model.specs.declared.turn.Kind.TheVariants as kinds
 use Rattle.history.proofs.Holders.{held}
 
+-- 1 where a role has a holder, else 0.
 abbrev one : Option ℕ → ℕ
 one None = 0
 one (Some p) = 1
 
+-- A role that counts 0 has no holder.
 nobody : (o : Option ℕ) → one o ≡ 0 → o ≡ None
 nobody None counts_none = refl
 nobody (Some p) counts_none = absurd (omega arith)
 
 module _ {T : Type 0} where
+  -- An event that grants right keeps the balance: its takes, and 1 if the role was held before, are its
+  -- gives, and 1 if the role is held after it.
   moves : (role : Role) (before : List (Event T)) (e : Event T) → GrantsRight before e
       → takes role e + one (held role before) ≡ gives role e + one (role_after role (held role before) e)
   moves role before e grants_right = grind (arith, granted)
 
-  -- where each grant is right, a role is taken in some events as often as it is given back there,
-  -- but for one time more if only after them somebody has it, and one less if only before
+  -- Where each grant is right, some events take a role as often as they give it back. They take it once
+  -- more if it is held only after them, and once less if it was held only before.
   adds_up : (role : Role) (before es : List (Event T)) → Each GrantsRight (before ++ es)
       → sum_by (takes role) es + one (held role before) ≡ sum_by (gives role) es + one (held role (before ++ es))
   adds_up role before [] each =
@@ -43,6 +47,7 @@ module _ {T : Type 0} where
         sum_first (gives role) e es,
       )
 
+  -- A role that was taken as often as it was given back is free.
   pub is_free : (role : Role) (events : List (Event T)) → Each GrantsRight events
       → sum_by (takes role) events ≡ sum_by (gives role) events → held role events ≡ None
   is_free role events each same = (let sum = adds_up role [] events each in nobody (held role events) (omega arith))

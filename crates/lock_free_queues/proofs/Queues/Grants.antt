@@ -11,25 +11,31 @@ module _ {T : Type 0} where
       → sum_by (gives role) more ≡ 0 → HasRole role es → HasRole role (es ++ more)
   still_has role es more takes_none gives_none has_role = grind (arith, sum_by-append, takes, gives)
 
+  -- Who had the role, and then gave it back once and took it no more, lacks it.
   lacks_after : (role : Role) (es more : List (Event T)) → sum_by (takes role) more ≡ 0
       → sum_by (gives role) more ≡ 1 → HasRole role es → LacksRole role (es ++ more)
   lacks_after role es more takes_none gives_is_one has_role = grind (arith, sum_by-append, takes, gives)
 
+  -- A pop of the item leaves either role with its holder.
   pub after_pop : (role : Role) (x : Item T) (es : List (Event T)) → HasRole role es → HasRole role (es ++ popped_once x)
   after_pop role x es has_role = grind (arith, still_has)
 
 -- a push moves no role: of a bounded queue, and of an overflowing one
 module _ {T : Type 0} where
+  -- a push with this answer neither takes a role nor gives one back
   abbrev pub IsQuiet : Answer T → Type 0
   IsQuiet answer = (role : Role) (x : Item T) → (sum_by (takes role) (pushed_once answer x) ≡ 0) × (sum_by (gives role) (pushed_once answer x) ≡ 0)
 
+  -- A push of a bounded queue moves no role.
   pub quiet_true : IsQuiet (Truth true)
   quiet_true role x = grind arith
 
+  -- A push of an overflowing queue moves no role.
   pub quiet_none : IsQuiet PoppedNone
   quiet_none role x = grind arith
 
 module _ {T : Type 0} (answer : Answer T) (quiet : IsQuiet answer) where
+  -- A push of the item leaves both roles with party 0.
   pub after_push : (role : Role) (x : Item T) (es : List (Event T)) → HasRole role es → HasRole role (es ++ pushed_once answer x)
   after_push role x es has = (let none = quiet role x in still_has role es (pushed_once answer x) none.0 none.1 has)
 

@@ -10,6 +10,7 @@ use Rattle.lock_free_queues.specs.Queues.Contracts.{push_events, popped_item, po
 use Rattle.lock_free_queues.proofs.Queues.Ended.{IsPush, IsPop}
 use Rattle.lock_free_queues.proofs.Queues.Peeks.{IsPeek}
 
+-- An index is written in one word, itself.
 pub is_coding : IsCoding one_word
 is_coding = grind arith
 
@@ -18,6 +19,7 @@ pub ends_at : {V : Type 0} (words_of : V → List ℕ) (value : V) (n : ℕ) (a 
     → push_skips stage n ≡ true → push_asks words_of stage value ≡ wants.Ask a → (a.word ≡ 0) × (n ≡ 2 ^ 64 - 1)
 ends_at words_of value n a stage skips push_asks_is = grind (arith, nat_tests)
 
+-- A number as an item.
 abbrev pub index_of : ℕ → Item ℕ
 index_of v = Index v
 
@@ -32,13 +34,16 @@ index_push v =
       at_end = λ c m n a skip asks. ends_at one_word.words_of v n a c.stage skip asks;
     }
   where
+    -- What a push of an index writes is what a push of the item writes.
     told : (p : ℕ) (taken : Bool) → push_wrote {T = ℕ} p v taken ≡ push_events p (Index v) taken
     told p true = refl
     told p false = refl
 
+-- The index in a room of one word.
 abbrev pub in_room : OneWord → ℕ
 in_room m = m.0
 
+-- The answer of a pop of an index is that of a pop of the item.
 pops_so : (o : Option ℕ) → popped {T = ℕ} o ≡ popped_item (option_map index_of o)
 pops_so None = refl
 pops_so (Some x) = refl
@@ -52,9 +57,11 @@ index_pop =
       tells = λ n p from e m es h. h ∙ told p m.0 e;
     }
   where
+    -- What a pop of an index writes is what a pop of the item writes.
     told : (p x : ℕ) (e : Bool) → pop_wrote p x e ≡ pop_events p (option_map index_of (pop_answer x e))
     told p x true = refl
     told p x false = refl
 
+-- The call of `steps` that peeks at an index is a peek, by way of a room of one word.
 pub index_peek : IsPeek index_of in_room peeks_index
 index_peek = record { start = refl; answer = λ e m. pops_so (pop_answer m.0 e); tells = λ n p from e m es h. h }

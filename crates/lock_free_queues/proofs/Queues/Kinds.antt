@@ -17,6 +17,7 @@ use Rattle.lock_free_queues.specs.Queues.Roles.{LacksRole}
 use Rattle.lock_free_queues.proofs.Queues.Grants.{has_none, quiet_true, quiet_none}
 
 module _ {T : Type 0} (code : Coding T) where
+  -- The machine of a queue has four words and those of the cells.
   pub words_long : (kd : QueueKind) (capacity : ℕ) (t : Trace T) → IsRun code (machine_kind kd) capacity t
       → length t.world.words ≡ 4 + words_in_cells code.size kd capacity
   words_long IndexQueue capacity t run = (index_owes code capacity).size t run
@@ -29,21 +30,25 @@ module _ {T : Type 0} (code : Coding T) where
   opens_bare kd capacity position = grind (arith, has_none, quiet_true, position_at, quiet_none)
 
 module _ {T : Type 0} (code : Coding T) (law : IsCoding code) where
+  -- each step of the call keeps the rule of the table of a queue of this kind
   abbrev Keeps : {C M E : Type 0} → QueueKind → Calling T C M E → (C → Want (Unit {0})) → (C → ℕ → After C E) → (C → M → ℕ → M) → Type 0
   Keeps kd call =
       KeepsRule (λ (z : View T). z.asked) (λ (z : View T). z.capacity) (At code (machine_kind kd) call) (Ends code (machine_kind kd) call)
       (λ key. 4 + words_in_cells code.size kd key + 1) (λ key. key) (λ key. IsMachine code (machine_kind kd) key)
 
+  -- Each step of an acquire of a role keeps the rule of the table.
   pub acquires_keep : (kd : QueueKind) (role : Role) → Keeps kd (takes_role role) acquire_want acquire_after (λ c m n. m)
   acquires_keep IndexQueue role = acquire_keeps code role
   acquires_keep Overflow role = over_acquire_keeps code role
   acquires_keep Queue role = value_acquire_keeps code law role
 
+  -- Each step of a release of a role keeps the rule of the table.
   pub releases_keep : (kd : QueueKind) (role : Role) → Keeps kd (gives_role role) release_want release_after (λ c m n. m)
   releases_keep IndexQueue role = release_keeps code role
   releases_keep Overflow role = over_release_keeps code role
   releases_keep Queue role = value_release_keeps code law role
 
+  -- Each step of a look at a role keeps the rule of the table.
   pub looks_keep : (kd : QueueKind) (role : Role) → Keeps kd (looks_role role) look_want look_after (λ c m n. m)
   looks_keep IndexQueue role = look_keeps code role
   looks_keep Overflow role = over_look_keeps code role

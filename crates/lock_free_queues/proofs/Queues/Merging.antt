@@ -19,11 +19,13 @@ use Rattle.lock_free_queues.proofs.Queues.TakenOut.{item, same_list, no_longer, 
 
 -- ---- all that was taken out is a merge of both
 
+-- Events that a pop acted in are not those of a push.
 one_of_two : (es : List (Event ℕ)) → by_pop es ≡ true → by_push es ≡ false
 one_of_two [] is_pop = refl
 one_of_two (Acted p (Queues Pop) answer ∷ es) is_pop = refl
 one_of_two (e ∷ es) is_pop = absurd (true≢false (sym is_pop))
 
+-- Pops and pushes together have taken out at most what was handed out.
 pub few_taken : (es : List (Event ℕ)) → length (taken by_pop es) + length (taken by_push es) ≤ length (handed_out es)
 few_taken [] = omega arith
 few_taken (HandedOut p x ∷ es) = go (by_pop (events_by p es)) (by_push (events_by p es)) refl refl (few_taken es)
@@ -39,6 +41,8 @@ few_taken (HandedOut p x ∷ es) = go (by_pop (events_by p es)) (by_push (events
     go false false s t few = omega arith
 few_taken (e ∷ es) = few_taken es
 
+-- If pops and pushes together have taken out all that was handed out, that list is a merge of what each
+-- of both took out.
 pub merged : (es : List (Event ℕ)) → length (taken by_pop es) + length (taken by_push es) ≡ length (handed_out es)
     → Merges (taken by_pop es) (taken by_push es) (handed_out es)
 merged [] e = (refl, refl)
@@ -63,7 +67,7 @@ merged (HandedOut p x ∷ es) e = go (by_pop (events_by p es)) (by_push (events_
     go false false s t few later k = absurd (omega arith)
 merged (e ∷ es) k = merged es k
 
--- numbers for items
+-- Only the empty list of numbers gives the empty list of items.
 none_of : (xs : List ℕ) → map item xs ≡ [] → xs ≡ []
 none_of [] no_items = refl
 none_of (x ∷ xs) no_items = absurd (cc)
@@ -105,15 +109,19 @@ module _ (n : ℕ) (role : Role) (all back came new : List ℕ) (v left right a 
         (r.share ∙ (cut.right_share ∙ ap half_of start)) i,
       ))))) refl
 
+  -- At the end the pass has the whole share.
   whole_there : IsAll u.share
   whole_there = subst IsAll (sym drain.popped.share) whole
 
+  -- So all that was published and handed out it made itself.
   counted : (length (published u.seen) ≡ sum_by puts u.made) × (length (handed_out u.seen) ≡ sum_by gets u.made)
   counted = whole_counted u whole_there (drain.popped.all goes.all)
 
+  -- The half that pushed began with an empty history.
   fresh_left : left.seen ≡ []
   fresh_left = cut.seen ∙ ap (λ (t : View ℕ). t.seen) opens
 
+  -- What the half that pushed had seen is the beginning of what is seen in the end.
   since : IsBeginning a.seen u.seen
   since = begins_further _ _ _ (begins_further _ _ _ h.ours goes.since) drain.popped.since
 
@@ -124,17 +132,21 @@ module _ (n : ℕ) (role : Role) (all back came new : List ℕ) (v left right a 
       let theirs : sum_by puts right.made ≡ 0 = ap (sum_by puts) cut.right_made in
       omega (arith, drain.popped.done.puts_more, (done_acquired z k role true acquired).puts_more, r.done.puts_more)
 
+  -- The half that pushed had pushed nothing before.
   mine : sum_by puts left.made ≡ 0
   mine = ap (sum_by puts) cut.made ∙ ap (λ (t : View ℕ). sum_by puts t.made) opens
 
+  -- It has pushed all numbers of the list, as they are fewer than positions.
   pushed : HasPushedAll all back left a
   pushed = s.all (let low = seen_later a u since in omega (arith, counted.0, s.few, puts_all, mine))
 
+  -- What was published in the end are the numbers of the list.
   all_published : published u.seen ≡ map Index all
   all_published =
       only_these publishes Index all (length all) (length back) left a u.seen (ap published fresh_left) pushed.added since
       (omega (arith, counted.0, puts_all, mine, pushed.added.done.puts_more))
 
+  -- All that was published was handed out.
   emptied : handed_out u.seen ≡ published u.seen
   emptied = drain.emptied whole goes.all
 

@@ -1,4 +1,5 @@
--- How a queue of numbers opens, of any kind: so many zeros, and one word more.
+-- The words with which a queue of numbers opens, of either kind: zeros in the cells, and one
+-- word more behind them.
 use Rattle.lock_free_queues.proofs.Names.{◌≡◌, ℕ, ◌*◌, ◌^◌, ◌<◌, min, List, [], ◌∷◌, ◌++◌, replicate, sym, ap, ◌∙◌}
 use Rattle.lock_free_queues.proofs.Names.{arith, opening, QueueKind, IndexQueue, Overflow, Queue, one_word}
 use Rattle.lock_free_queues.proofs.Names.{of_indices, of_values, IsMachine}
@@ -12,6 +13,7 @@ use Rattle.lock_free_queues.proofs.Queues.Opened.{queue_opens, queue_knows}
 use Rattle.lock_free_queues.proofs.Queues.OverOpened.{over_opens, over_knows}
 
 module _ (capacity : ℕ) (small : capacity < 2 ^ 32) (position : ℕ) (fits : position < 2 ^ 64) where
+  -- The words with both positions, free roles and these cells.
   abbrev words_with : List ℕ → List ℕ
   words_with cells = position_at capacity position ∷ position_at capacity position ∷ 1 ∷ 1 ∷ (cells ++ 0 ∷ [])
 
@@ -28,12 +30,14 @@ module _ (capacity : ℕ) (small : capacity < 2 ^ 32) (position : ℕ) (fits : p
       let one : 1 * capacity ≡ capacity = omega arith in
       queue_opens one_word is_coding of_values 0 capacity small position fits words (zeros words (same ∙ ap (λ n. words_with (replicate n 0)) one))
 
-  -- the first pass of the queue knows the run that led there
+  -- the first pass of the queue knows the run of the pushes and pops with which the queue opens
   pub numbers_know : (kd : QueueKind) → Knows one_word (machine_kind kd) capacity (opened_by one_word kd capacity position)
   numbers_know IndexQueue = queue_knows one_word is_coding of_indices 0 capacity small position fits
   numbers_know Overflow = over_knows one_word is_coding capacity small position fits
   numbers_know Queue = queue_knows one_word is_coding of_values 0 capacity small position fits
 
+  -- Words with both positions at `start`, free roles and cells of zeros are the machine of a queue of
+  -- numbers that opens at this position.
   pub numbers_open : (kd : QueueKind) (cells start : ℕ) (words : List ℕ) → words_in_cells 1 kd capacity ≡ cells
       → start ≡ position_at capacity position → words ≡ start ∷ start ∷ 1 ∷ 1 ∷ (replicate cells 0 ++ 0 ∷ [])
       → IsMachine one_word (machine_kind kd) capacity (opening words [] (opened_by one_word kd capacity position))

@@ -1,4 +1,4 @@
--- How a queue's table opens, also at a position: one party has pushed and popped one value as often, alone.
+-- The words with which a bounded queue opens at a position are those of a machine whose one party has pushed and popped.
 use Rattle.lock_free_queues.proofs.Names.{◌≡◌, ⊎_elim, ℕ, zero, suc, ◌+◌, ◌*◌, ◌-◌, ◌%◌, ◌^◌, ◌<◌, ◌≤◌, ◌==◌, min}
 use Rattle.lock_free_queues.proofs.Names.{true, false, Option, Some, None, List, [], ◌∷◌, ◌++◌, length, get_or, set}
 use Rattle.lock_free_queues.proofs.Names.{replicate, slice_index, slice_set, sum_by, refl, sym, ap, subst, ◌∙◌}
@@ -75,6 +75,7 @@ module _ {T : Type 0} (code : Coding T) (law : IsCoding code) (r : Ring) (v : Va
   abbrev machine : alone.OneMachine T
   machine = record { code = code; kind = kind; capacity = capacity; size = 4 + size * capacity; effects = effects; laws = owes }
 
+  -- party 0 alone has led the machine to these words, by these turns with these events, and has this call under way
   abbrev Here : List ℕ → List (Turn T) → List (Event T) → Option (Start T × Flight T) → Type 0
   Here = alone.Here machine
 
@@ -85,7 +86,7 @@ module _ {T : Type 0} (code : Coding T) (law : IsCoding code) (r : Ring) (v : Va
       → (f : Event T → ℕ) → sum_by f es ≡ sum_by (owned same_seat 0 f) h.u.events
   sums words ts es h = alone.sums machine words ts es None h
 
-  -- the positions and the roles, and the cells
+  -- the words of a queue's table: both positions, the flags of both roles, the cells, and a zero behind them
   abbrev words_at : ℕ → ℕ → ℕ → ℕ → List ℕ → List ℕ
   words_at write read producer consumer cells = write ∷ read ∷ producer ∷ consumer ∷ (cells ++ 0 ∷ [])
 
@@ -124,7 +125,7 @@ module _ {T : Type 0} (code : Coding T) (law : IsCoding code) (r : Ring) (v : Va
         wrote_all = λ n p from e m es. Unit {0};
       }
 
-  -- a step that goes on
+  -- a step of the call under way that does not end it leads party 0 to the words that it writes and the next flight
   step : (words : List ℕ) (ts : List (Turn T)) (es : List (Event T)) (start : Start T) (flight next : Flight T) (a : Ask)
       → Here words ts es (Some (start, flight)) → a.word < 4 + size * capacity → want_of code flight ≡ wants.Ask a
       → IsFreshCall (slice_index words a.word) flight → (words' : List ℕ)
@@ -134,7 +135,7 @@ module _ {T : Type 0} (code : Coding T) (law : IsCoding code) (r : Ring) (v : Va
       alone.goes_on machine words ts es start flight here a low asks finds
       words' next same goes.comes goes.quiet
 
-  -- n is the position of the next push and pop, ts are the turns so far, es the events so far
+  -- of one round of a push and a pop: n is the position of both, ts and es are the turns and the events before it
   module _ (room : 0 < capacity) (n : ℕ) (below_end : n < 2 ^ 64 - 1) (ts : List (Turn T)) (es : List (Event T)) where
     none : (capacity == 0) ≡ false
     none = some_cells capacity room
@@ -173,8 +174,7 @@ module _ {T : Type 0} (code : Coding T) (law : IsCoding code) (r : Ring) (v : Va
       word_low : (k : ℕ) → k < size → word_at cell k < 4 + size * capacity
       word_low k below = omega (arith, place_is k below, place_low k below)
 
-      -- the push stores the words of its value from word k of the cell on, one turn for each, and
-      -- then stands at its last store
+      -- the push stores the words of its value from word k of the cell on, and then stands at its last store
       fills : (us : List (Turn T)) (xs : List (Event T)) (rest k : ℕ) → k + suc rest ≡ size → Here (now k) us xs (Some (name, storing k))
           → Here (now size) (then_next us (suc rest)) xs (Some (name, pushing r v capacity (pushes.StoresWrite n)))
       fills us xs zero k sum here =
@@ -198,8 +198,7 @@ module _ {T : Type 0} (code : Coding T) (law : IsCoding code) (r : Ring) (v : Va
           (now (suc k)) (stored k (omega arith))
           (push_stores_cell code capacity r v n cell k (slice_index (now k) (word_at cell k)) t)))
 
-      -- a push by the party that has the producer's role, while it is alone and both positions are
-      -- n, moves the write position on, and publishes the value
+      -- a push by the party with the producer's role, at position n, moves the write position on and publishes the value
       pushed : HasRole Producer es → Here (now 0) ts es None
           → Here (words_at (n + 1) n 0 0 (cells size)) (moved_turns size name ts) (es ++ pushed_once (Truth true) it) None
       pushed has here =
@@ -214,6 +213,7 @@ module _ {T : Type 0} (code : Coding T) (law : IsCoding code) (r : Ring) (v : Va
           (λ kept. push_named code capacity r v kept) Producer (λ o p. tt)
           (λ roles p is. push_lacks code capacity r v roles p is) has here.u same_seat 0 here.between.run refl refl
           (sums (now 0) ts es here)) in
+          -- b, c: the turns that load both positions; d: those that store the words; e: the store of the write position
           let b =
           step (now 0) ts1 xs name (pushing r v capacity pushes.LoadsWrite)
           (pushing r v capacity (pushes.LoadsRead n)) (record { word = 0; op = Load }) begun_so (omega arith)
@@ -241,12 +241,12 @@ module _ {T : Type 0} (code : Coding T) (law : IsCoding code) (r : Ring) (v : Va
 
     -- ---- the pop of what it pushed
 
-    -- the room once so many words were read
+    -- the room of the pop once it has read this number of words
     abbrev room_at : ℕ → Room r
     room_at zero = fresh r
     room_at (suc k) = with_word r (room_at k) k (get_or ws k 0)
 
-    -- a room into which the first k words were read has these words first, and behind them what it had
+    -- after k words were read, the room has these words first, and behind them what it had at first
     room_is : (k : ℕ) → k ≤ size → words_in r (room_at k) ≡ mix k ws (words_in r (fresh r))
     room_is zero low = refl
     room_is (suc k) low =
@@ -290,8 +290,7 @@ module _ {T : Type 0} (code : Coding T) (law : IsCoding code) (r : Ring) (v : Va
       then_low : (k : ℕ) → k < size → word_at cell k < 4 + size * capacity
       then_low k below = omega (arith, place_is k below, place_low k below)
 
-      -- the pop loads the words of the cell from word k on, one turn for each, and then stands at
-      -- its store of the read position
+      -- the pop loads the words of the cell from word k on, and then stands at its store of the read position
       loads : (us : List (Turn T)) (xs : List (Event T)) (rest k : ℕ) → k + suc rest ≡ size → Here then us xs (Some (Queues Pop, loading k))
           → Here then (then_next us (suc rest)) xs (Some (Queues Pop, last_of))
       loads us xs zero k sum here =
@@ -309,6 +308,7 @@ module _ {T : Type 0} (code : Coding T) (law : IsCoding code) (r : Ring) (v : Va
           (pop_fresh code capacity r (slice_index then (word_at cell k)) (pops.LoadsCell n cell k) (room_at k))
           then (set_same then (word_at cell k))
           (pop_loads_last code capacity r n cell k (slice_index then (word_at cell k)) (room_at k) t)))
+      -- a word before the last one: the pop goes on to the next word
       loads us xs (suc rest) k sum here =
           let t = before_last k size (omega arith) in
           let same : k + 1 ≡ suc k = omega arith in
@@ -327,8 +327,7 @@ module _ {T : Type 0} (code : Coding T) (law : IsCoding code) (r : Ring) (v : Va
           then (set_same then (word_at cell k))
           (pop_loads_cell code capacity r n cell k (slice_index then (word_at cell k)) (room_at k) t))))
 
-      -- a pop by the party that has the consumer's role, while it is alone and the value stands in
-      -- the cell, moves the read position on, and takes the value out
+      -- a pop by the party with the consumer's role, at position n, moves the read position on and takes the value out
       popped : HasRole Consumer es → Here then ts es None
           → Here (words_at (n + 1) (n + 1) 0 0 cells) (moved_turns size (Queues Pop) ts) (es ++ popped_once it) None
       popped role here =
@@ -342,6 +341,7 @@ module _ {T : Type 0} (code : Coding T) (law : IsCoding code) (r : Ring) (v : Va
           (role_starts code (kind_of r) (maker ts es) pop_call Pop (first_pop capacity) (fresh r) refl
           (λ kept. pop_named code capacity r kept) Consumer (λ o p. tt) (λ roles p is. holds_it roles.consumer p is)
           role here.u same_seat 0 here.between.run refl refl (sums then ts es here)) in
+          -- b, c: the turns that load both positions; d: those that load the words; e: the store of the read position
           let b =
           step then ts1 xs (Queues Pop) (popping r capacity pops.LoadsRead (room_at 0))
           (popping r capacity (pops.LoadsWrite n) (room_at 0)) (record { word = 1; op = Load }) begun_so
@@ -377,7 +377,7 @@ module _ {T : Type 0} (code : Coding T) (law : IsCoding code) (r : Ring) (v : Va
   abbrev took : ℕ → List (Turn T)
   took n = round_turns size it n
 
-  -- a round, in which the push writes so
+  -- one round of a push and a pop, in which the push changes the cells from `cells 0` to `cells size`
   round : (n : ℕ) → (room : 0 < capacity) → n < 2 ^ 64 - 1 → (cells : ℕ → List ℕ)
       → ((k : ℕ) → length (cells k) ≡ size * capacity)
       → ((k : ℕ) → k < size → set (cells k) (size * (n % capacity) + k) (get_or ws k 0) ≡ cells (suc k))
@@ -401,12 +401,14 @@ module _ {T : Type 0} (code : Coding T) (law : IsCoding code) (r : Ring) (v : Va
   -- after n rounds both positions are n, and the cells have the words of what was pushed
   driven : (n : ℕ) → 0 < capacity → n < 2 ^ 64 → Here (words_at n n 0 0 (cells_at n)) (took n) (rounds (Truth true) it n) None
   driven zero room low =
+      -- no round: the roles are taken, and the cells are zeros
       let a =
       takes_both code (kind_of r) capacity (4 + size * capacity) effects owes (omega arith) quiet_roles 0 0
       (replicate (size * capacity) 0 ++ 0 ∷ []) starts in
       subst (λ m. Here (words_at 0 0 0 0 (filled ws size capacity m)) (took zero) (rounds (Truth true) it zero) None) (sym (none_used size capacity)) a
   driven (suc n) room low =
       let driven_so = driven n room (omega arith) in
+      -- a round that writes a fresh cell
       ⊎_elim (λ (early : n < capacity).
       let here : n % capacity ≡ n = mod-eq_of_lt early in
       let as_many : min n capacity ≡ n = omega arith in
@@ -428,6 +430,7 @@ module _ {T : Type 0} (code : Coding T) (law : IsCoding code) (r : Ring) (v : Va
       (λ k below. ap (λ q. get_or (cells size) (size * q + k) 0) here
       ∙ (filled_there ws size capacity (size * n + size) (size * n + k) (omega arith) up_to ∙ ap (λ i. get_or ws i 0) (rank n k below)))
       (subst (λ m. Here (words_at n n 0 0 (filled ws size capacity m)) (took n) (rounds (Truth true) it n) None) start driven_so)))
+      -- a round that writes a cell again, which has the words of the value already
       (λ (late : capacity ≤ n).
       let all : min n capacity ≡ capacity = omega arith in
       let all_later : min (suc n) capacity ≡ capacity = omega arith in
@@ -452,12 +455,13 @@ module _ {T : Type 0} (code : Coding T) (law : IsCoding code) (r : Ring) (v : Va
       gives_both code (kind_of r) capacity (4 + size * capacity) effects owes (omega arith) quiet_roles k k
       (cells_at k ++ 0 ∷ []) (took k) (rounds (Truth true) it k) (has_it (Truth true) quiet_true it k) (driven k room low)
 
+  -- for each position below 2^64, the words there are those after as many rounds, with both roles free
   rests : (position : ℕ) → position < 2 ^ 64
       → Here (words_at (position_at capacity position) (position_at capacity position) 1 1 (cells_at position))
       (opened_turns size it (position_at capacity position)) (opened (Truth true) it (position_at capacity position)) None
   rests position low = go capacity refl
     where
-      -- a queue of any capacity rests so; without capacity nothing was done
+      -- the cases are whether the queue has a capacity; without one nothing was done
       go : (c : ℕ) → c ≡ capacity
           → Here (words_at (position_at capacity position) (position_at capacity position) 1 1 (cells_at position))
           (opened_turns size it (position_at capacity position)) (opened (Truth true) it (position_at capacity position)) None
@@ -472,7 +476,7 @@ module _ {T : Type 0} (code : Coding T) (law : IsCoding code) (r : Ring) (v : Va
           subst (λ p. Here (words_at p p 1 1 (cells_at position)) (opened_turns size it p) (opened (Truth true) it p) None) (sym start)
           (rests_at position (omega arith) low)
 
-  -- a queue opens so, at any position
+  -- the words with which a queue opens at a position are those of its machine, and the first view fits it
   pub queue_opens : (position : ℕ) → position < 2 ^ 64 → (words : List ℕ)
       → words ≡ position_at capacity position ∷ position_at capacity position ∷ 1 ∷ 1 ∷ (cells_at position ++ 0 ∷ [])
       → IsMachine code kind capacity (opening words [] (opened_view size it capacity position))
@@ -482,14 +486,14 @@ module _ {T : Type 0} (code : Coding T) (law : IsCoding code) (r : Ring) (v : Va
       (alone.opens_so machine (words_at position_now position_now 1 1 (cells_at position))
       (opened_turns size it position_now) (opened (Truth true) it position_now) (rests position low))
 
-  -- the first pass of the queue knows the run that led there
+  -- the first pass of the queue knows the run of the pushes and pops with which the queue opens
   pub queue_knows : (position : ℕ) → position < 2 ^ 64 → Knows code kind capacity (opened_view size it capacity position)
   queue_knows position low =
       let position_now = position_at capacity position in
       alone.knows_so machine (words_at position_now position_now 1 1 (cells_at position))
       (opened_turns size it position_now) (opened (Truth true) it position_now) (rests position low)
 
--- at position 0 nothing was done
+-- at position 0 the history is empty
 pub opens_at_first : {T : Type 0} (words : ℕ) (answer : Answer T) (x : Item T) (capacity : ℕ) → opened_with words answer x capacity 0 ≡ first_view capacity
 opens_at_first words answer x zero = refl
 opens_at_first words answer x (suc less) = refl

@@ -1,5 +1,5 @@
--- What the words that were read of an overflowing queue say of the list that is made of them: it begins later where one
--- value more than the capacity stands there.
+-- What the words that a `close` read of an overflowing queue say of the list that is made of them. The
+-- list begins one number later where one more than the capacity waits.
 use Rattle.lock_free_queues.proofs.Names.{◌≡◌, ℕ, ◌+◌, ◌-◌, ◌^◌, ◌<◌, ◌≤◌, max, List, length, set, slice_index, refl}
 use Rattle.lock_free_queues.proofs.Names.{sym, ap, subst, ◌∙◌, length-set, get_or-set_same, get_or-set_other}
 use Rattle.lock_free_queues.proofs.Names.{sum_by, arith, list_in, Producer, Event, Index, Overflow, one_word}
@@ -31,27 +31,35 @@ module _ (capacity : ℕ) (v : View ℕ) (words : List ℕ)
   abbrev first : ℕ
   first = max (slice_index words 1) (slice_index words 0 - capacity)
 
+  -- The words with the read position moved on so far that at most the capacity waits.
   abbrev pub later : List ℕ
   later = set words 1 first
 
+  -- The words are the head of four, and capacity + 1 cells.
   long : length words ≡ 5 + capacity
   long = omega (arith, l.long)
 
+  -- Their read position is the moved one.
   first_is : slice_index later 1 ≡ first
   first_is = get_or-set_same words 1 first 0 (omega (arith, long))
 
+  -- Their write position is as before.
   other : (word : ℕ) → word < 1 → slice_index later word ≡ slice_index words word
   other word low = get_or-set_other words 1 word first 0 (λ e. absurd (omega arith))
 
+  -- Their cells are as before.
   above : (word : ℕ) → 4 ≤ word → slice_index later word ≡ slice_index words word
   above word high = get_or-set_other words 1 word first 0 (λ e. absurd (omega arith))
 
+  -- The read position moves up only.
   from : slice_index words 1 ≤ slice_index later 1
   from = omega (arith, first_is)
 
+  -- The moved read position is at most the write position.
   to : slice_index later 1 ≤ slice_index words 0
   to = omega (arith, first_is, closing.number one_word is_coding Overflow capacity v words l)
 
+  -- The write position stays.
   end : slice_index later 0 ≡ slice_index words 0
   end = other 0 (omega arith)
 
@@ -66,6 +74,7 @@ module _ (capacity : ℕ) (v : View ℕ) (words : List ℕ)
         fits = subst (λ n. n < 2 ^ 64) (sym end) l.fits;
       }
 
+  -- The events at the moment when the read position was read.
   abbrev moment : List (Event ℕ)
   moment = closing.moment one_word is_coding Overflow capacity v words l
 
@@ -85,12 +94,14 @@ module _ (capacity : ℕ) (v : View ℕ) (words : List ℕ)
       ap (λ es. length (waiting es)) (read_here one_word Overflow capacity l.new 1 (slice_index words 1) l.taken_read) in
       omega (arith, closing.number one_word is_coding Overflow capacity v words l, first_is)
     where
+      -- A pass with the whole share made all that it has seen, so sums over both are equal.
       seen_made : IsAll v.share → (f : Event ℕ → ℕ) → sum_by f v.seen ≡ sum_by f v.made
       seen_made all f =
           let here : l.new.seen ≡ v.seen = closing.whole_seen one_word is_coding Overflow capacity v words l all in
           let share : IsAll l.new.share = subst IsAll (sym (l.reading.share ∙ l.opening.share)) all in
           ap (sum_by f) (sym here) ∙ (l.reading.all share f ∙ ap (sum_by f) (l.reading.made ∙ l.opening.made))
 
+  -- The list from the moved read position on says what a close promises of it.
   pub over_closes : Closes Index capacity v (list_in capacity later)
   over_closes = closing.closes_later one_word is_coding Overflow capacity v words l later above end from to exact
 

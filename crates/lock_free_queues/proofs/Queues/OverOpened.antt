@@ -1,4 +1,5 @@
--- How an overflowing queue's table opens at a position: one party has pushed and popped the number 0 as often, alone.
+-- The words with which an overflowing queue opens at a position are those of a machine: one party alone
+-- has pushed and popped the number 0 this often.
 use Rattle.lock_free_queues.proofs.Names.{◌≡◌, ◌≢◌, ⊎_elim, ℕ, zero, suc, ◌+◌, ◌*◌, ◌-◌, ◌%◌, ◌^◌, ◌<◌, ◌≤◌, ◌==◌}
 use Rattle.lock_free_queues.proofs.Names.{nat_lt, true, false, Option, Some, None, List, [], ◌∷◌, ◌++◌, get_or}
 use Rattle.lock_free_queues.proofs.Names.{replicate, slice_index, slice_set, sum_by, refl, sym, ap, subst, ◌∙◌}
@@ -33,44 +34,54 @@ use Rattle.lock_free_queues.proofs.Queues.Grants.{after_push, has_it, quiet_none
 use Rattle.lock_free_queues.proofs.Queues.Roles.{QuietRoles, takes_both, gives_both}
 use Rattle.lock_free_queues.proofs.Queues.Tests.{not_last, some_cells, not_full, one_apart}
 
+-- Each number of a list of zeros, and behind it, is 0.
 zero_at : (c k : ℕ) → get_or {A = ℕ} (replicate c 0) k 0 ≡ 0
 zero_at zero k = refl
 zero_at (suc c) zero = refl
 zero_at (suc c) (suc k) = zero_at c k
 
+-- A number is found equal to itself.
 same_number : (n : ℕ) → (n == n) ≡ true
 same_number n = grind (arith, nat_tests)
 
 module _ {T : Type 0} where
+  -- The item that is pushed and popped again and again: the index 0.
   abbrev it : Item T
   it = Index 0
 
+  -- The begin of a push of that item.
   abbrev push_name : Start T
   push_name = Queues (PushIndex 0)
 
+  -- The begin of a pop.
   abbrev pop_name : Start T
   pop_name = Queues Pop
 
+  -- The begin of the call under way, or that of a pop where there is none.
   abbrev name_in : Option (Start T × Flight T) → Start T
   name_in None = pop_name
   name_in (Some call) = call.0
 
+  -- The push of 0 into an overflowing queue of this capacity, at this stage, as a flight of the model.
   abbrev pushing : ℕ → PushStage → Flight T
   pushing capacity stage =
       flights.Queues
       (flying.Overflow
       (overflows.Push (record { call = at_push (first_push capacity) stage; given = 0; room = record { 0 = 0 } })))
 
+  -- The pop from an overflowing queue of this capacity, at this stage, as a flight of the model.
   abbrev popping : ℕ → PopStage → Flight T
   popping capacity stage =
       flights.Queues
       (flying.Overflow
       (overflows.Pop (record { call = at_pop (first_pop capacity) stage; given = tt; room = record { 0 = 0 } })))
 
+  -- With a capacity, a push begins at its load of the write position.
   first_pushing : (capacity : ℕ) → (capacity == 0) ≡ false
       → (pushes_over {T = T} 0).flight (first_push capacity) (record { 0 = 0 }) ≡ pushing capacity pushes.LoadsWrite
   first_pushing capacity t = rw t refl
 
+  -- With a capacity, a pop begins at its load of the read position.
   first_popping : (capacity : ℕ) → (capacity == 0) ≡ false
       → (pops_over {T = T}).flight (first_pop capacity) (record { 0 = 0 }) ≡ popping capacity pops.LoadsRead
   first_popping capacity t = rw t refl
@@ -78,77 +89,96 @@ module _ {T : Type 0} where
 -- ---- steps that test a position
 
 module _ {T : Type 0} (code : Coding T) (capacity n : ℕ) where
+  -- A push that finds a write position before the last one goes on to the load of the read position.
   push_loads_write : (n == 2 ^ 64 - 1) ≡ false
       → after_of code (pushing capacity pushes.LoadsWrite) n ≡ GoOn (pushing capacity (pushes.LoadsRead n))
   push_loads_write t = rw t refl
 
+  -- A push that finds room at its store of the write position ends and hands nothing back.
   push_ends : (distance n n == capacity) ≡ false → after_of code (pushing capacity (pushes.StoresWrite n n)) n ≡ Done answers.PoppedNone
   push_ends t = rw t refl
 
+  -- Its store of the write position publishes the item.
   push_tells : (distance n n == capacity) ≡ false → (w : World T)
       → over_effects w 0 (pushing capacity (pushes.StoresWrite n n)) n
       ≡ Published 0 it ∷ Acted 0 push_name answers.PoppedNone ∷ []
   push_tells t w = rw t refl
 
+  -- A pop that finds another write position than its read position goes on to the load of the cell.
   pop_loads_write : (found : ℕ) → (found == n) ≡ false
       → after_of code (popping capacity (pops.LoadsWrite n)) found ≡ GoOn (popping capacity (pops.LoadsCell n))
   pop_loads_write found t = rw t refl
 
+  -- That load of the write position writes no event.
   pop_quiet : (found : ℕ) → (found == n) ≡ false → (w : World T) → over_effects w 0 (popping capacity (pops.LoadsWrite n)) found ≡ []
   pop_quiet found t w = rw t refl
 
+  -- A pop whose exchange finds the read position that it had loaded ends and answers 0.
   pop_ends : (n == n) ≡ true → after_of code (popping capacity (pops.MovesRead n)) n ≡ Done (answers.PoppedIndex 0)
   pop_ends t = rw t refl
 
-  -- where nobody's push waits, and the number 0 stands there
+  -- what the last step of a pop writes, if the read position is as the pop knew it, no push of another
+  -- party waits, and the cell holds 0
   pop_tells : (n == n) ≡ true → (w : World T) → slice_index w.words (cell_word capacity n) ≡ 0
       → beside_of w.words w.kept w.latest 0 ≡ None
       → over_effects w 0 (popping capacity (pops.MovesRead n)) n
       ≡ HandedOut 0 it ∷ Acted 0 pop_name (answers.PoppedIndex 0) ∷ []
   pop_tells same_n w cell_is_zero beside_of_is = grind arith
 
+-- An exchange that finds the number it expects writes the other one.
 moved_on : (n to : ℕ) → (n == n) ≡ true → written (Exchange n to) n ≡ to
 moved_on n to t = rw t refl
 
 module _ {T : Type 0} (code : Coding T) (law : IsCoding code) (capacity : ℕ) (small : capacity < 2 ^ 32) where
+  -- How many words the machine has.
   abbrev size : ℕ
   size = 4 + (capacity + 1)
 
+  -- The machine of an overflowing queue, for one party alone.
   abbrev machine : alone.OneMachine T
   machine = record { code = code; kind = kinds.Overflow; capacity = capacity; size = size; effects = over_effects; laws = overflow_owes code capacity }
 
+  -- party 0 alone has led the machine to these words, by these turns and with these events, and has
+  -- this call under way
   abbrev Here : List ℕ → List (Turn T) → List (Event T) → Option (Start T × Flight T) → Type 0
   Here = alone.Here machine
 
+  -- The view of party 0, which made all events.
   abbrev maker : List (Turn T) → List (Event T) → View T
   maker = alone.maker machine
 
+  -- A sum over the events that were written is the sum over what party 0 made.
   sums : (words : List ℕ) (ts : List (Turn T)) (es : List (Event T)) → (h : Here words ts es None)
       → (f : Event T → ℕ) → sum_by f es ≡ sum_by (owned same_seat 0 f) h.u.events
   sums words ts es h = alone.sums machine words ts es None h
 
-  -- the positions and the roles, and cells with zeros
+  -- The words of an overflowing queue's table whose cells have zeros: both positions, the flags of both
+  -- roles, the cells, and a zero behind them.
   abbrev at : ℕ → ℕ → ℕ → ℕ → List ℕ
   at write read producer consumer = write ∷ read ∷ producer ∷ consumer ∷ (replicate (capacity + 1) 0 ++ 0 ∷ [])
 
+  -- The capacity is not refused as too great.
   most : nat_lt (2 ^ 32 - 1) capacity ≡ false
   most = grind (arith, nat_tests)
 
+  -- The capacity is not refused as too small.
   least : nat_lt capacity 0 ≡ false
   least = grind (arith, nat_tests)
 
+  -- Before any call, both positions are 0, both roles are free, and the cells are zeros.
   starts : Here (at 0 0 1 1) [] [] None
   starts =
       let many : 1 * (capacity + 1) ≡ capacity + 1 = omega arith in
       subst (λ n. Here (0 ∷ 0 ∷ 1 ∷ 1 ∷ (replicate n 0 ++ 0 ∷ [])) [] [] None) many
       (alone.opens_here machine law (rw (most, least) refl))
 
+  -- Acquires and releases of a role publish and hand out nothing.
   quiet_roles : QuietRoles {T = T} over_effects
   quiet_roles role = grind arith
 
   -- ---- a step that goes on, and tells nothing
 
-  -- a turn of the one party whose step goes on and writes no event leads from each such moment to the next
+  -- a step of party 0 that goes on and writes no event leads from one such moment to the next (`Here`)
   step : (words : List ℕ) (ts : List (Turn T)) (es : List (Event T)) (start : Start T) (flight next : Flight T) (a : Ask)
       → Here words ts es (Some (start, flight)) → a.word < size → want_of code flight ≡ wants.Ask a
       → IsFreshCall (slice_index words a.word) flight → (words' : List ℕ)
@@ -160,17 +190,21 @@ module _ {T : Type 0} (code : Coding T) (law : IsCoding code) (capacity : ℕ) (
       alone.goes_on machine words ts es start flight here
       a low asks finds words' next same comes (quiet here.u.world)
 
-  -- n is the position of the next push and pop, ts are the turns so far, es the events so far
+  -- Of one round of a push and a pop: n is the position of both, ts are the turns before it, and es the
+  -- events before it.
   module _ (room : 0 < capacity) (n : ℕ) (below_end : n < 2 ^ 64 - 1) (ts : List (Turn T)) (es : List (Event T)) where
     some : (capacity == 0) ≡ false
     some = some_cells capacity room
 
+    -- The position behind n is n + 1, as n is not the last one.
     next_is : after_position n ≡ n + 1
     next_is = omega arith
 
+    -- The word of the cell of position n.
     abbrev cell : ℕ
     cell = cell_word capacity n
 
+    -- The word of the cell is a word of the machine.
     cell_low : cell < size
     cell_low = grind arith
 
@@ -183,11 +217,13 @@ module _ {T : Type 0} (code : Coding T) (law : IsCoding code) (capacity : ℕ) (
         ∙ (get_or_append_left (replicate (capacity + 1) 0) (0 ∷ []) 0 (n % (capacity + 1)) (omega arith)
         ∙ zero_at (capacity + 1) (n % (capacity + 1)))
 
+    -- A store of 0 into the cell leaves the words as they are.
     zero_stays : (write read : ℕ) → slice_set (at write read 0 0) cell 0 ≡ at write read 0 0
     zero_stays write read = ap (slice_set (at write read 0 0) cell) (sym (zero_there write read)) ∙ set_same (at write read 0 0) cell
 
     -- ---- the push
 
+    -- The events of the push from what its last step writes on.
     abbrev events_of_push : List (Event T)
     events_of_push = Published 0 it ∷ Acted 0 push_name answers.PoppedNone ∷ Finished 0 push_name answers.PoppedNone ∷ []
 
@@ -211,6 +247,8 @@ module _ {T : Type 0} (code : Coding T) (law : IsCoding code) (capacity : ℕ) (
         here.between.run refl refl (sums (at n n 0 0) ts es here)) in
         let stands_here : Here (at n n 0 0) ts1 xs (Some (push_name, pushing capacity pushes.LoadsWrite)) =
         subst (λ f. Here (at n n 0 0) ts1 xs (Some (push_name, f))) (first_pushing capacity some) a₀ in
+        -- b, c and d: the turns that load both positions and store the number; e: the one that stores
+        -- the write position
         let b =
         step (at n n 0 0) ts1 xs push_name (pushing capacity pushes.LoadsWrite)
         (pushing capacity (pushes.LoadsRead n)) (record { word = 0; op = Load }) stands_here (omega arith) refl
@@ -233,9 +271,11 @@ module _ {T : Type 0} (code : Coding T) (law : IsCoding code) (capacity : ℕ) (
 
     -- ---- the pop of what it pushed
 
+    -- The events of the pop from what its last step writes on.
     abbrev events_of_pop : List (Event T)
     events_of_pop = HandedOut 0 it ∷ Acted 0 pop_name (answers.PoppedIndex 0) ∷ Finished 0 pop_name (answers.PoppedIndex 0) ∷ []
 
+    -- The words once the item is published.
     abbrev then : List ℕ
     then = at (n + 1) n 0 0
 
@@ -288,6 +328,8 @@ module _ {T : Type 0} (code : Coding T) (law : IsCoding code) (capacity : ℕ) (
         here.between.run refl refl (sums then ts es here)) in
         let stands_here : Here then ts1 xs (Some (pop_name, popping capacity pops.LoadsRead)) =
         subst (λ f. Here then ts1 xs (Some (pop_name, f))) (first_popping capacity some) a₀ in
+        -- b, c and d: the turns that load both positions and the number; e: the exchange that
+        -- moves the read position
         let b =
         step then ts1 xs pop_name (popping capacity pops.LoadsRead)
         (popping capacity (pops.LoadsWrite n)) (record { word = 1; op = Load }) stands_here (omega arith) refl tt
@@ -296,6 +338,7 @@ module _ {T : Type 0} (code : Coding T) (law : IsCoding code) (capacity : ℕ) (
         step then ts2 xs pop_name (popping capacity (pops.LoadsWrite n))
         (popping capacity (pops.LoadsCell n)) (record { word = 0; op = Load }) b (omega arith) refl tt
         then refl (pop_loads_write code capacity n (n + 1) apart) (pop_quiet code capacity n (n + 1) apart) in
+        -- The load of the cell finds 0, the number that was pushed.
         let d₀ =
         step then ts3 xs pop_name (popping capacity (pops.LoadsCell n))
         (flights.Queues (flying.Overflow (overflows.Pop (record {
@@ -311,6 +354,7 @@ module _ {T : Type 0} (code : Coding T) (law : IsCoding code) (capacity : ℕ) (
               (overflows.Pop
               (record { call = at_pop (first_pop capacity) (pops.MovesRead n); given = tt; room = record { 0 = u } }))),
         ))) (zero_there (n + 1) n) d₀ in
+        -- The exchange moves the read position on and ends the pop, which answers 0.
         let e =
         alone.ends machine then ts4 xs pop_name
         (popping capacity (pops.MovesRead n)) d
@@ -322,12 +366,15 @@ module _ {T : Type 0} (code : Coding T) (law : IsCoding code) (capacity : ℕ) (
 
   -- ---- all of it
 
+  -- The events of n rounds of a push and a pop.
   abbrev turns : ℕ → List (Event T)
   turns n = rounds answers.PoppedNone it n
 
+  -- Party 0, which took both roles first, has them after n rounds.
   has_role : (n : ℕ) (role : Role) → HasRole role (turns n)
   has_role n role = has_it answers.PoppedNone quiet_none it n role
 
+  -- The turns of n rounds of a push and a pop.
   abbrev took : ℕ → List (Turn T)
   took n = round_turns 1 it n
 
@@ -355,6 +402,8 @@ module _ {T : Type 0} (code : Coding T) (law : IsCoding code) (capacity : ℕ) (
       gives_both code Overflow capacity size over_effects (overflow_owes code capacity) (omega arith) quiet_roles k
       k (replicate (capacity + 1) 0 ++ 0 ∷ []) (took k) (turns k) (has_role k) (driven k room low)
 
+  -- For each position below 2^64, the queue's words at that position are those after as many rounds,
+  -- with both roles free.
   rests : (position : ℕ) → position < 2 ^ 64
       → Here (at (position_at capacity position) (position_at capacity position) 1 1)
       (opened_turns 1 it (position_at capacity position)) (opened answers.PoppedNone it (position_at capacity position)) None
@@ -372,7 +421,8 @@ module _ {T : Type 0} (code : Coding T) (law : IsCoding code) (capacity : ℕ) (
           subst (λ p. Here (at p p 1 1) (opened_turns 1 it p) (opened answers.PoppedNone it p) None) (sym start)
           (rests_at position (omega arith) low)
 
-  -- an overflowing queue opens so, at any position
+  -- A table with these words, and the view of the first pass, is the machine of an overflowing queue,
+  -- for each position below 2^64.
   pub over_opens : (position : ℕ) → position < 2 ^ 64 → (words : List ℕ)
       → words ≡ at (position_at capacity position) (position_at capacity position) 1 1
       → IsMachine code kinds.Overflow capacity (opening words [] (over_opened_view capacity position))
@@ -382,7 +432,7 @@ module _ {T : Type 0} (code : Coding T) (law : IsCoding code) (capacity : ℕ) (
       (alone.opens_so machine (at position_now position_now 1 1)
       (opened_turns 1 it position_now) (opened answers.PoppedNone it position_now) (rests position low))
 
-  -- the first pass of the queue knows the run that led there
+  -- the first pass of the queue knows the run of the pushes and pops with which the queue opens
   pub over_knows : (position : ℕ) → position < 2 ^ 64 → Knows code kinds.Overflow capacity (over_opened_view capacity position)
   over_knows position low =
       let position_now = position_at capacity position in

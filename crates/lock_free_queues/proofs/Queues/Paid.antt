@@ -1,4 +1,4 @@
--- How many operations on words the calls on a queue take.
+-- How many atomic steps the calls on a queue take, from the bounds of the model.
 use Rattle.lock_free_queues.proofs.Names.{◌≡◌, inl, inr, ℕ, ◌+◌, Bool, None, List, arith, Role, Producer, Consumer}
 use Rattle.lock_free_queues.proofs.Names.{OneWord, PushEnd, QueueKind, IndexQueue, Overflow, Queue, LengthOf}
 use Rattle.lock_free_queues.proofs.Names.{Coding, machine_kind, View, Calling, Ends, Over, takes_role, gives_role}
@@ -49,6 +49,7 @@ module _ {T : Type 0} (code : Coding T) (base w : View T) (idle : base.going ≡
   look_takes Queue Producer e m ends = takes_here code Queue base w idle (looks_role Producer) e m (omega arith) ends
   look_takes Queue Consumer e m ends = takes_here code Queue base w idle (looks_role Consumer) e m (omega arith) ends
 
+  -- the call on the length has ended in the view w with the number n
   abbrev Counts : QueueKind → LengthOf → ℕ → Unit {0} → Type 0
   Counts kd which n m = Ends code (machine_kind kd) (counts_waiting which base.capacity) base n m w
 
@@ -69,31 +70,40 @@ module _ {T : Type 0} (code : Coding T) (base w : View T) (idle : base.going ≡
 
   -- ---- pushes, pops and peeks
 
+  -- A push of an index takes four operations at most.
   pub push_takes : (v : ℕ) (e : Bool) (m : Unit {0}) → Over code kinds.IndexQueue (pushes_index v) base e m w → TakesAtMost 4 base w
   push_takes v e m (inl ends) = takes_here code IndexQueue base w idle (pushes_index v) e m (omega arith) ends
   push_takes v e m (inr left) = left_takes code kinds.IndexQueue (pushes_index v) base w e m 4 (omega arith) left
 
+  -- A pop of an index takes four operations at most.
   pub pop_takes : (e : Bool) (m : OneWord) → Ends code kinds.IndexQueue pops_index base e m w → TakesAtMost 4 base w
   pop_takes e m ends = takes_here code IndexQueue base w idle pops_index e m (omega arith) ends
 
+  -- A peek at an index takes three operations at most.
   pub peek_takes : (e : Bool) (m : OneWord) → Ends code kinds.IndexQueue peeks_index base e m w → TakesAtMost 3 base w
   peek_takes e m ends = takes_here code IndexQueue base w idle peeks_index e m (omega arith) ends
 
+  -- A push of a value takes at most three operations and one for each word of the value.
   pub value_push_takes : (x : T) (e : Bool) (m : Unit {0}) → Over code kinds.Queue (pushes_value code x) base e m w → TakesAtMost (3 + code.size) base w
   value_push_takes x e m (inl ends) = takes_here code Queue base w idle (pushes_value code x) e m (omega arith) ends
   value_push_takes x e m (inr left) = left_takes code kinds.Queue (pushes_value code x) base w e m (3 + code.size) (omega arith) left
 
+  -- A pop of a value takes at most three operations and one for each word of the value.
   pub value_pop_takes : {R : Type 0} (words_in : R → List ℕ) (e : Bool) (m : R) → Ends code kinds.Queue (pops_value code words_in) base e m w
       → TakesAtMost (3 + code.size) base w
   value_pop_takes words_in e m ends = takes_here code Queue base w idle (pops_value code words_in) e m (omega arith) ends
 
+  -- A peek at a value takes at most two operations and one for each word of the value.
   pub value_peek_takes : {R : Type 0} (words_in : R → List ℕ) (e : Bool) (m : R) → Ends code kinds.Queue (peeks_value code words_in) base e m w
       → TakesAtMost (2 + code.size) base w
   value_peek_takes words_in e m ends = takes_here code Queue base w idle (peeks_value code words_in) e m (omega arith) ends
 
+  -- A push into an overflowing queue takes six operations at most.
   pub over_push_takes : (v : ℕ) (e : PushEnd) (m : OneWord) → Over code kinds.Overflow (pushes_over v) base e m w → TakesAtMost 6 base w
   over_push_takes v e m (inl ends) = takes_here code Overflow base w idle (pushes_over v) e m (omega arith) ends
   over_push_takes v e m (inr left) = left_takes code kinds.Overflow (pushes_over v) base w e m 6 (omega arith) left
 
+  -- A pop from an overflowing queue takes four operations alone, and two more for each change
+  -- of a word by others.
   pub over_pop_takes : (e : Bool) (m : OneWord) → Ends code kinds.Overflow pops_over base e m w → TakesAlone 4 2 base w
   over_pop_takes e m ends = takes_here code Overflow base w idle pops_over e m (omega arith) ends

@@ -1,4 +1,5 @@
--- For clients: what passes come to once they are joined, and which calls have to succeed.
+-- For clients: what two passes know of all values once they are joined (`passed`), and which pushes and
+-- pops have to succeed.
 use Rattle.lock_free_queues.proofs.Names.{◌≡◌, inl, inr, ℕ, ◌+◌, ◌-◌, ◌^◌, ◌<◌, ◌≤◌, Bool, true, false, Some, None}
 use Rattle.lock_free_queues.proofs.Names.{Option, List, [], ◌∷◌, ◌++◌, length, map, take, refl, sym, ap, subst, ◌∙◌, arith}
 use Rattle.lock_free_queues.proofs.Names.{append-nil, sum_by, sum_by-append, length-drop, Role, Event, Item, Index, Value}
@@ -25,14 +26,16 @@ use Rattle.lock_free_queues.proofs.Queues.Whole.{all_taken, nothing_more}
 
 -- ---- names
 
+-- Equal index items have equal numbers.
 pub index_tells : {T : Type 0} → TellsApart {T = T} Index
 index_tells x y e = cc
 
+-- Equal value items have equal values.
 pub value_tells : {T : Type 0} → TellsApart {T = T} Value
 value_tells x y e = cc
 
 module _ {T V : Type 0} (named : V → Item T) (tells : TellsApart named) where
-  -- a list that begins so begins with these values
+  -- if the names of ys begin with those of xs, then xs are the first values of ys
   begins_with : (xs ys : List V) (zs : List (Item T)) → map named ys ≡ map named xs ++ zs → xs ≡ take (length xs) ys
   begins_with [] ys zs e = refl
   begins_with (x ∷ xs) [] zs e = absurd (cc)
@@ -59,6 +62,7 @@ pub both_passed : {T V : Type 0} (named : V → Item T) (sent received : List V)
     → ((f : Event T → ℕ) → sum_by f z.made ≡ sum_by f a.made + sum_by f b.made) → IsBeginning a.seen z.seen → IsBeginning b.seen z.seen
     → HasPassed named sent received z
 both_passed {T} named sent received left right a b z whole all mine theirs has_sent has_received both ours others =
+    -- With the whole share, as many values were published and taken out as both passes made.
     let counted = whole_counted z whole all in
     let none : (f : Event T → ℕ) → (sum_by f left.made ≡ 0) × (sum_by f right.made ≡ 0) = λ f. (ap (sum_by f) mine.1, ap (sum_by f) theirs.1) in
     let put = none puts in
@@ -68,6 +72,7 @@ both_passed {T} named sent received left right a b z whole all mine theirs has_s
     record {
       whole = whole;
       all = all;
+      -- So nobody else published, and nobody else took out.
       published_these =
           only_these publishes named sent (length sent) 0 left a z.seen (ap published mine.0) has_sent ours
           (omega (arith, counted.0, put.0, put.1, has_sent.done.puts_more, has_received.done.puts_more));
@@ -106,6 +111,7 @@ module _ {T V : Type 0} {named : V → Item T} {sent received : List V} {v : Vie
       ∙ ((listed_always code capacity v.seen kind history v.seen [] (sym (append-nil v.seen))).book
       ∙ ap (λ ys. ys ++ waiting v.seen) has_passed.taken_these)
 
+  -- What was received is a beginning of what was sent.
   pub in_order : (code : Coding T) (kind : QueueKind) (capacity : ℕ) → TellsApart named → IsHistory code (machine_kind kind) capacity v.seen
       → HasPassed named sent received v → received ≡ take (length received) sent
   in_order code kind capacity tells history has_passed = begins_with named tells received sent (waiting v.seen) (book code kind capacity history has_passed)
@@ -145,7 +151,7 @@ module _ {T V : Type 0} {named : V → Item T} {sent received : List V} {v w : V
         taken_these = nothing_more hands_out v w _ has_passed.whole has_passed.all goes acquired.called.made refl ∙ has_passed.taken_these;
       }
 
-  -- a pop takes out one more
+  -- A pop that takes out a value adds it to the end of those that were received. Those that were sent stay.
   pub one_passed : (value : V) → HasPassed named sent received v → Goes v w
       → PopDone (named value) v w → HasPassed named sent (received ++ value ∷ []) w
   one_passed value has_passed goes pop_done =

@@ -51,6 +51,7 @@ module _ {T : Type 0} where
       → Called p start answer wrote old new → List (Event T)
   before_end {p} {start} {answer} {wrote} {old} {new} c = (old.seen ++ c.others) ++ Begun p start ∷ c.during
 
+  -- What is seen behind a call ends with the end of the call.
   ends_so : (p : ℕ) (start : Start T) (answer : Answer T) (wrote : List (Event T)) (old new : View T) (c : Called p start answer wrote old new)
       → new.seen ≡ before_end c ++ Finished p start answer ∷ []
   ends_so p start answer wrote old new c =
@@ -67,6 +68,8 @@ module _ {T : Type 0} (code : Coding T) (kd : QueueKind) (base w : View T) where
       let last : Event T = Finished p (Queues Peek) (popped_item answer) in
       let events_then : List (Event T) = before_end c in
       let seen_is : w.seen ≡ events_then ++ last ∷ [] = ends_so p (Queues Peek) (popped_item answer) [] base w c in
+      -- The answer is right by the machine's last step, and the party of the peek held the
+      -- consumer's role then.
       let told : TellsLength base.capacity events_then last = tells_lengths code kd base.capacity w.seen is_seen events_then [] last seen_is in
       let holds : held Consumer events_then ≡ Some p = peeker code kd base.capacity p (popped_item answer) w.seen events_then step seen_is in
       let each = subst (Each (ByHolderOf Consumer)) seen_is (by_its_holder code base.capacity w.seen kd Consumer alone is_seen) in
@@ -77,6 +80,7 @@ module _ {T : Type 0} (code : Coding T) (kd : QueueKind) (base w : View T) where
         oldest =
             same_item answer (slice_get (waiting events_then) 0) told
             ∙ ap (λ ws. slice_get ws 0) (sym (ap waiting seen_is ∙ still_waits p (Queues Peek) (popped_item answer) events_then));
+        -- Only the holder takes out, and during a peek he takes nothing out.
         list =
             ap handed_out seen_is
             ∙ none_to_end (queue_role Consumer) (one_holder Consumer) p (Queues Peek) base.seen c.others c.during
@@ -123,6 +127,7 @@ module _ {T : Type 0} (code : Coding T) (kd : QueueKind) (base w : View T) where
               ∙ ap (λ es. not (is_none (holder_by role es))) (sym seen_is);
         }
       where
+        -- Equal answers say the same of the role.
         told : (b : Bool) → ◌≡◌ {A = Answer T} (Truth taken) (Truth b) → taken ≡ b
         told b e = cc
 
@@ -138,7 +143,7 @@ module _ {T : Type 0} (code : Coding T) (kd : QueueKind) (base w : View T) where
 
 -- ---- a pop after a peek
 
--- what a list has first behind so many stays there as the list grows
+-- the item that a list has behind its first n items stays there as the list grows
 first_stays : {A : Type 0} → (n : ℕ) (xs more : List A) (x : A) → Some x ≡ slice_get (drop n xs) 0 → slice_get (drop n (xs ++ more)) 0 ≡ Some x
 first_stays zero [] more x e = absurd (cc)
 first_stays (suc n) [] more x e = absurd (cc)
@@ -170,7 +175,7 @@ module _ {T : Type 0} where
 
 module _ {T : Type 0} (code : Coding T) (kd : QueueKind) (capacity : ℕ) (item : Item T) (old was new : View T)
     (peek : HasPeeked (Some item) old was) where
-  -- a pop that goes on from there answers it
+  -- a pop whose view goes on from that of the peek answers the item that the peek answered
   pub pop_answers_it : IsSeen code kd capacity new.seen → (answer : Option (Item T)) → IfSome answer (λ x. HasTakenOut x was new)
       → IfNone answer (WasEmpty was new) → answer ≡ Some item
   pop_answers_it is_seen None taken empty =

@@ -1,4 +1,5 @@
--- The laws of positions.
+-- The laws of positions: no position is published or taken twice, and what was published or taken at a
+-- position stays published or taken there.
 use Rattle.lock_free_queues.proofs.Names.{◌≡◌, ℕ, zero, suc, ◌+◌, ◌<◌, Some, List, [], ◌∷◌, ◌++◌, length, drop}
 use Rattle.lock_free_queues.proofs.Names.{slice_get, refl, sym, ap, ◌∙◌, append_assoc, false, arith, flat_map}
 use Rattle.lock_free_queues.proofs.Names.{length-drop, flat_map-append, Event, Truth, Published, HandedOut, Acted}
@@ -10,10 +11,12 @@ use Rattle.lock_free_queues.proofs.Queues.Facts.{answers_right, tells_lengths, g
 use Rattle.lock_free_queues.specs.Queues.Positions.{IsPublished, IsTaken, IsSound}
 use Rattle.lock_free_queues.specs.Queues.Contracts.{push_of, HasPublished, HasTakenOut, WasEmpty, FoundNone, WasFull}
 
+-- The element right behind a first list stands at the length of that list.
 get_here : {A : Type 0} (xs ys : List A) (x : A) → slice_get (xs ++ x ∷ ys) (length xs) ≡ Some x
 get_here [] ys x = refl
 get_here (z ∷ xs) ys x = get_here xs ys x
 
+-- An element of the first of two lists stands at the same place in both together.
 pub get_left : {A : Type 0} (xs ys : List A) (i : ℕ) (x : A) → slice_get xs i ≡ Some x → slice_get (xs ++ ys) i ≡ Some x
 get_left [] ys i x e = absurd (cc)
 get_left (z ∷ xs) ys zero x e = e
@@ -31,6 +34,7 @@ module _ {T : Type 0} (events : List (Event T)) (q j : ℕ) (y : Item T) where
   published_low is_published =
       omega (arith, rank_low publishes events is_published.before is_published.after (Published q y) y refl is_published.is, is_published.rank)
 
+  -- A position that was taken lies below the number of items taken out.
   pub taken_low : IsTaken q j y events → j < length (handed_out events)
   taken_low taken = omega (arith, rank_low hands_out events taken.before taken.after (HandedOut q y) y refl taken.is, taken.rank)
 
@@ -53,8 +57,8 @@ module _ {T : Type 0} (p q i : ℕ) (x y : Item T) (events : List (Event T)) whe
       (sym first_taken.is ∙ second_taken.is) (sym first_taken.rank ∙ second_taken.rank) in
       (let l : p ≡ q = cc in l, let r : x ≡ y = cc in r)
 
-  -- where what was taken out is a beginning of what was published, what was taken from a position
-  -- is what was published there
+  -- If what was taken out is a beginning of what was published, the value taken from a position is the
+  -- value published there.
   pub values_agree : published events ≡ handed_out events ++ waiting events → IsPublished p i x events → IsTaken q i y events → x ≡ y
   values_agree book is_published taken =
       let one : slice_get (published events) i ≡ Some x =
@@ -72,6 +76,7 @@ module _ {T : Type 0} (p q i : ℕ) (x y : Item T) (events : List (Event T)) whe
   pub still_published : (more : List (Event T)) → IsBeginning events more → IsPublished p i x events → IsPublished p i x more
   still_published more beginning is_published = grind (arith, append_assoc)
 
+  -- What was taken at a position stays taken there.
   pub still_taken : (more : List (Event T)) → IsBeginning events more → IsTaken p i x events → IsTaken p i x more
   still_taken more beginning taken = grind (arith, append_assoc)
 
@@ -95,6 +100,7 @@ module _ {T : Type 0} (old new : View T) where
   pub published_at : (item : Item T) → (h : HasPublished item old new) → IsPublished h.by (length (published h.before)) item new.seen
   published_at item h = record { before = h.before; after = h.after; is = h.is; rank = refl }
 
+  -- A pop that took its item out did so at the position behind all that was taken out before its act.
   pub taken_at : (item : Item T) → (h : HasTakenOut item old new) → IsTaken h.by (length (handed_out h.before)) item new.seen
   taken_at item h = record { before = h.before; after = h.after; is = h.is; rank = refl }
 
@@ -105,6 +111,8 @@ module _ {T : Type 0} (old new : View T) where
       let none : length (drop (length (handed_out h.before)) (published h.before)) ≡ 0 = ap length h.empty in
       omega (arith, hits_grow publishes old.seen h.before h.since, is_published.rank, length-drop (length (handed_out h.before)) (published h.before))
 
+  -- If a pop found nothing, each position that had been seen published lies below the
+  -- number of items taken out.
   pub none_later : (h : WasEmpty old new) (q j : ℕ) (y : Item T) → IsPublished q j y old.seen → j < length (handed_out h.before)
   none_later h q j y is_published =
       found_later (record { by = h.by; before = h.before; after = h.after; is = h.is; since = h.since; empty = h.empty }) q j y is_published

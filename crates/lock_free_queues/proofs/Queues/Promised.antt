@@ -1,4 +1,4 @@
--- The laws in the forms in which they are promised.
+-- The laws of a queue's history in the forms in which `src/laws.rt` promises them.
 use Rattle.std.proofs.Common.{arith}
 use Rattle.lock_free_queues.proofs.Names.{◌≡◌, ℕ, ◌+◌, ◌<◌, ◌≤◌, List, [], ◌∷◌, length, refl, sym, ap, subst}
 use Rattle.lock_free_queues.proofs.Names.{append-nil, PoppedNone, Event, HandedOut, Acted, Item, Queues, QueueKind}
@@ -21,6 +21,7 @@ use Rattle.lock_free_queues.proofs.Queues.Positions.{values_agree, sound_history
 use Rattle.lock_free_queues.proofs.Queues.Facts.{answers_right, tells_lengths, grants, listed_always}
 
 module _ {T : Type 0} (code : Coding T) where
+  -- these are the events of a history of a queue of this kind and capacity
   abbrev IsSeen : QueueKind → ℕ → List (Event T) → Type 0
   IsSeen kind capacity events = IsHistory code (machine_kind kind) capacity events
 
@@ -49,21 +50,25 @@ module _ {T : Type 0} (code : Coding T) where
       (subst (λ n. IsLinearizable (as_list queues.Queue n) is_seen.trace.events) is_seen.run.sized
       (linearized queues.Queue capacity v.seen is_seen))
 
+  -- In the machine of a history each call keeps to its guarantee.
   guaranteed : (kind : QueueKind) (capacity : ℕ) (v : View T) → (h : IsHistory code (machine_kind kind) capacity v.seen) → KeepsGuarantees h.trace
   guaranteed kind capacity v h =
       (let run_now = h.run in let run_here = queue_run code capacity kind h.trace run_now in keeps_guarantees h.trace
       (kept_on kind h.trace run_now.of_kind run_here.reached.coded run_here.reached.admitted run_here.fresh))
 
+  -- In the machine of what a pass has seen each call keeps to its guarantee.
   pub guarantees : (kind : QueueKind) (capacity : ℕ) (v : View T) → (h : IsSeen kind capacity v.seen) → KeepsGuarantees h.trace
   guarantees queues.IndexQueue capacity v h = guaranteed queues.IndexQueue capacity v h
   guarantees queues.Overflow capacity v h = guaranteed queues.Overflow capacity v h
   guarantees queues.Queue capacity v h = guaranteed queues.Queue capacity v h
 
+  -- What a pass has seen of a bounded queue is sound.
   pub sound : (kind : QueueKind) (capacity : ℕ) (v : View T) → IsBounded kind → IsSeen kind capacity v.seen → IsSound capacity v.seen
   sound queues.IndexQueue capacity v bounded is_seen = sound_history code of_indices capacity v.seen is_seen
   sound queues.Overflow capacity v bounded seen = absurd bounded
   sound queues.Queue capacity v bounded is_seen = sound_history code of_values capacity v.seen is_seen
 
+  -- The value that was taken out at a position is the one that was published there.
   pub agree : (kind : QueueKind) (capacity p q i : ℕ) (x y : Item T) (v : View T) → IsSeen kind capacity v.seen
       → IsPublished p i x v.seen → IsTaken q i y v.seen → x ≡ y
   agree kind capacity p q i x y v is_seen is_published taken =
@@ -86,15 +91,19 @@ module _ {T : Type 0} (code : Coding T) where
 -- ---- by what the guard had seen
 
 module _ {T : Type 0} (old new : View T) where
+  -- A push that published its item did so at the position behind all that was published before.
   pub published_next : (item : Item T) → HasPublished item old new → (p : ℕ) × IsPublished p (length (published old.seen)) item new.seen
   published_next item has_published = grind (arith, length, published_at)
 
+  -- A pop that took its item out did so at the position behind all that was taken out before.
   pub taken_next : (item : Item T) → HasTakenOut item old new → (p : ℕ) × IsTaken p (length (handed_out old.seen)) item new.seen
   taken_next item taken_out = grind (arith, length, taken_at)
 
+  -- A pop that found nothing had seen no published position that was not taken.
   pub none_later_than : WasEmpty old new → (q j : ℕ) (y : Item T) → IsPublished q j y old.seen → j < length (handed_out old.seen)
   none_later_than was_empty q j y is_published = subst (λ n. j < n) (ap length was_empty.next) (none_later old new was_empty q j y is_published)
 
+  -- A push that found a full queue had seen no taken position that left it room.
   pub full_above : (capacity : ℕ) (item : Item T) → IsSound capacity new.seen → WasFull capacity item old new
       → (q j : ℕ) (y : Item T) → IsTaken q j y old.seen → j + capacity < length (published old.seen)
   full_above capacity item all was_full q j y taken =

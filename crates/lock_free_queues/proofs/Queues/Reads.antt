@@ -20,10 +20,12 @@ use Rattle.history.proofs.Ranks.{hits_grow}
 use Rattle.lock_free_queues.proofs.Queues.Whole.{none_more}
 
 module _ {T : Type 0} where
+  -- A beginning of the empty list is empty.
   begins_nothing : (xs : List (Event T)) → IsBeginning xs [] → xs ≡ []
   begins_nothing [] beginning = refl
   begins_nothing (x ∷ xs) beginning = (let no : [] ≡ x ∷ (xs ++ beginning.rest) = beginning.is in absurd (cc))
 
+  -- Two reads, one after the other, are one from the first view to the last.
   pub then_read : (v w x : View T) → HasRead v w → HasRead w x → HasRead v x
   then_read v w x first_read second_read = grind (arith, begins_further)
 
@@ -36,15 +38,19 @@ module _ {T : Type 0} (code : Coding T) (kd : QueueKind) where
   module _ (capacity word found : ℕ) (v w : View T) (same : v.capacity ≡ capacity)
       (low : word < 4 + words_in_cells code.size kd capacity)
       (l : LooksAt code (machine_kind kd) v.capacity word v found w) where
+    -- The load was of a run of the queue's machine.
     run : IsRun code (machine_kind kd) capacity l.trace
     run = subst (λ n. IsRun code (machine_kind kd) n l.trace) same l.run
 
+    -- The load found the word of that machine.
     has_word : found ≡ slice_index l.trace.world.words word
     has_word = l.word_is (omega (arith, words_long code kd capacity l.trace run))
 
+    -- The events of that machine are a beginning of what the pass knows then.
     ends_there : IsBeginning l.trace.events w.seen
     ends_there = record { rest = []; is = l.seen ∙ sym (append-nil l.trace.events) }
 
+    -- So the word was read between what the pass knew before and after the load.
     pub was_read : WasRead code (machine_kind kd) capacity v w word found
     was_read = record { trace = l.trace; run = run; since = subst (IsBeginning v.seen) l.seen l.looks.mine; until = ends_there; found_is = has_word }
 
@@ -85,13 +91,14 @@ module _ {T : Type 0} (code : Coding T) (kd : QueueKind) where
   calm : (kind : QueueKind) (going : Option (Start T × Flight T)) → going ≡ None → (late : List (Event T)) → IsLate (machine_kind kind) going late → late ≡ []
   calm kind going going_is_none late is_late = grind arith
 
-  -- what a look owes is so where the seat has a share, and no call under way
+  -- a seat that has a share and no call under way owes for a look only what the rule grants
   pub owed : (key slots id word : ℕ) (v : View T) (me : Me (Unit {0}) (View T)) → me ≡ (v, []) → v.capacity ≡ key
       → v.going ≡ None → 0 < v.share.part → Owed key slots id word me
   owed key slots id word v me same size idle some =
       subst (Owed key slots id word) (sym same)
       (subst (λ k. Owed k slots id word (v, [])) size
       (λ s holds many at low.
+      -- The load is a look at the whole history, and what it finds is the word in the machine of that moment.
       let looked = looks_at code (machine_kind kd) v.capacity slots id word v some (calm kd v.going idle) s holds many at low in (
         looked.0,
         looked.1,
@@ -163,13 +170,15 @@ module _ {T : Type 0} (code : Coding T) (kind : Kind) where
   abbrev pub ReadTo : ℕ → View T → View T → ℕ → List ℕ → Type 0
   ReadTo capacity v w at words = (word : ℕ) → 4 ≤ word → word < at → WasRead code kind capacity v w word (slice_index words word)
 
+  -- At first no word of a cell was read.
   pub none_read : (capacity : ℕ) (v w : View T) (words : List ℕ) → ReadTo capacity v w 4 words
   none_read capacity v w words word high low = absurd (omega arith)
 
+  -- Words that were read until a view were read until each later one.
   pub read_to_until : (capacity : ℕ) (v w x : View T) (at : ℕ) (words : List ℕ) → ReadTo capacity v w at words → HasRead w x → ReadTo capacity v x at words
   read_to_until capacity v w x at words cells b word high low = read_until capacity word (slice_index words word) v w x (cells word high low) b
 
-  -- one more
+  -- A word of the cells that is read at the place `at` adds to the words that were read: those below at + 1.
   pub one_read : (capacity : ℕ) (v w x : View T) (at found : ℕ) (words : List ℕ) → at < length words → HasRead v w → HasRead w x
       → ReadTo capacity v w at words → WasRead code kind capacity w x at found → ReadTo capacity v x (at + 1) (set words at found)
   one_read capacity v w x at found words inside a b cells r word high low =
@@ -183,7 +192,8 @@ module _ {T : Type 0} (code : Coding T) (kind : Kind) where
       (subst (λ k. WasRead code kind capacity v x k found) (sym here) (read_since capacity at found v w x a r)))
       (cases_lt word at)
 
-  -- the words, with the positions of the list
+  -- The words that were read, with both positions put in, are those of the queue at the moment when the
+  -- read position was read.
   pub last_words : (capacity wide : ℕ) (v w x y : View T) (words : List ℕ) (write taken : ℕ) → capacity < 2 ^ 32 → length words ≡ 4 + wide → write < 2 ^ 64
       → HasRead v w → HasRead w x → HasRead x y → WasRead code kind capacity w w 0 write
       → CellsRead code kind capacity w x words → WasRead code kind capacity x x 1 taken → WasRead code kind capacity y y 0 write
@@ -192,6 +202,7 @@ module _ {T : Type 0} (code : Coding T) (kind : Kind) where
       let a : List ℕ = set words 0 write in
       let la = length-set words 0 write in
       let lb = length-set a 1 taken in
+      -- Putting in the read position leaves the write position, and no word of a cell is changed by either.
       let write_is : slice_index (set a 1 taken) 0 ≡ write =
       get_or-set_other a 1 0 taken 0 (λ e. absurd (omega arith)) ∙ get_or-set_same words 0 write 0 (omega arith) in
       let taken_is : slice_index (set a 1 taken) 1 ≡ taken = get_or-set_same a 1 taken 0 (omega arith) in (
@@ -234,6 +245,8 @@ module _ {T : Type 0} (code : Coding T) (kd : QueueKind) where
         r.found_is
         ∙ ((queue_goes_on code kd (first_view capacity) r.trace r.run).book.write ∙ ap (λ es. length (published es)) (read_here 0 n r))
 
+    -- The read position that is read as the pass stands now is the number of items that it
+    -- has seen taken out.
     pub taken_here : (n : ℕ) → WasRead code (machine_kind kd) capacity v v 1 n → n ≡ length (handed_out v.seen)
     taken_here n r =
         r.found_is

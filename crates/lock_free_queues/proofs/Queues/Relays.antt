@@ -37,9 +37,11 @@ module _ {T V : Type 0} (named : V → Item T) (start : List (Item T)) (values :
       ∙ (ap (λ ys. ys ++ named value ∷ []) list
       ∙ (append_assoc start (map named values) (named value ∷ []) ∙ ap (λ ys. start ++ ys) (sym (map-append named values (value ∷ [])))))
 
+  -- A list with one value more is one longer.
   one_more : length (values ++ value ∷ []) ≡ length values + 1
   one_more = length-append values (value ∷ [])
 
+-- A push that was refused leaves what was published.
 same_list : {T : Type 0} (capacity : ℕ) (item : Item T) (was now : View T) → PushRefused capacity item was now
     → published now.seen ≡ published was.seen
 same_list capacity item was now (inl h) = h.1.list
@@ -88,7 +90,8 @@ module _ {E T V : Type 0} {kind : kinds.Ghosts E} {words : Ghosts T} {named : V 
         share = same.goes.share ∙ s.share;
       }
 
-  -- the next one of a list
+  -- A push of the next value of a list makes the values that were sent one longer, still a
+  -- beginning of the list.
   pub sending_next : {first was now : Producer E T kind words} {taken : Bool} (all : List V) (n : ℕ) (default : V)
       → Sending named first (take n all) was → n < length all → SameProducer was now → taken ≡ true
       → (taken ≡ true → PushDone (named (get_or all n default)) (producer_view was) (producer_view now)) → Sending named first (take (n + 1) all) now
@@ -96,7 +99,7 @@ module _ {E T V : Type 0} {kind : kinds.Ghosts E} {words : Ghosts T} {named : V 
       subst (λ xs. Sending named first xs now) (sym (take_more all n default below))
       (sending_one {first = first} {was = was} {now = now} {taken = taken} (take n all) (get_or all n default) s same is pushed)
 
-  -- a push that was refused
+  -- A push that was refused leaves the values that were sent as they were.
   pub sending_still : {first was now : Producer E T kind words} {room : ℕ} {taken : Bool} {values : List V} {item : Item T}
       → Sending named first values was → SameProducer was now → taken ≡ false
       → (taken ≡ false → PushRefused room item (producer_view was) (producer_view now)) → Sending named first values now
@@ -120,6 +123,7 @@ module _ {E T V : Type 0} {kind : kinds.Ghosts E} {words : Ghosts T} {named : V 
       let done_here = done_released (producer_view last) (view new) role released in
       let whole : take n all ≡ all = take_all n all past in
       let size = ap length whole in
+      -- What was sent are the values from the acquire on, and the release adds none.
       record {
         queue = from.queue ∙ (s.queue ∙ to.queue);
         sent =
@@ -159,7 +163,7 @@ module _ {E T V : Type 0} {kind : kinds.Ghosts E} {words : Ghosts T} {named : V 
         share = same.goes.share ∙ s.share;
       })
 
-  -- a pop that found none
+  -- A pop that found the queue empty leaves the values that were received as they were.
   pub receiving_still : {first was now : Consumer E T kind words} {answer : Option V} {values : List V}
       → Receiving named first values was → SameConsumer was now → IfNone answer (PopEmpty (consumer_view was) (consumer_view now))
       → answer ≡ None → Receiving named first values now
@@ -175,12 +179,14 @@ module _ {E T V : Type 0} {kind : kinds.Ghosts E} {words : Ghosts T} {named : V 
         share = same.goes.share ∙ s.share;
       }
 
-  -- the role is given back
+  -- Once the consumer's role is given back, its pass has received these values from the acquire to the
+  -- release of the role.
   pub received_all : {pass new : Pass E T kind words} {first last : Consumer E T kind words} {role : Role} {values : List V}
       → ToConsumer pass first → HasAcquired role true (view pass) (consumer_view first)
       → Receiving named first values last → FromConsumer last new
       → HasReleased role (consumer_view last) (view new) → handed_out (view new).seen ≡ handed_out (consumer_view last).seen → Received named pass values new
   received_all {pass} {new} {first} {last} {role} {values} to acquired s from released is =
+      -- What was received are the values from the acquire on, and the release adds none.
       let start : HasReceived named [] (view pass) (consumer_view first) =
       received_none {old = view pass} {new = consumer_view first} refl to.goes acquired in
       let done_here = done_released (consumer_view last) (view new) role released in
@@ -226,7 +232,8 @@ views_relayed named code queue n most role first left right mine theirs joined t
     }
 
 module _ {E T V : Type 0} {kind : kinds.Ghosts E} {words : Ghosts T} {named : V → Item T} where
-  -- the same of passes and a consumer
+  -- what two threads relay, of passes and a consumer: one half sent, the other received, and one
+  -- further pop was made after they were joined
   pub relayed : (first left right mine theirs joined : Pass E T kind words) (taking last : Consumer E T kind words) {capacity : ℕ}
       {sent received : List V} (answer : Option V) {emptied : Bool} {role : Role} (n : ℕ) → TellsApart named → IsBounded kind.KIND
       → view first ≡ first_view n → HasSplit (view first) (view left) (view right) → Sent named left sent mine → Received named right received theirs

@@ -26,20 +26,26 @@ module _ {T : Type 0} (code : Coding T) (kd : QueueKind) (capacity size : ℕ)
     (effects : World T → ℕ → Flight T → ℕ → List (Event T))
     (laws : MachineLaws code (machine_kind kd) capacity size effects) (wide : 4 ≤ size)
     (quiet : QuietRoles effects) where
+  -- The machine of the queue, for one party alone.
   abbrev machine : OneMachine T
   machine = record { code = code; kind = machine_kind kd; capacity = capacity; size = size; effects = effects; laws = laws }
 
+  -- party 0 alone has led the machine to these words, by these turns and with these events, and has no
+  -- call under way
   abbrev Now : List ℕ → List (Turn T) → List (Event T) → Type 0
   Now words ts es = Here machine words ts es None
 
+  -- The word of a role is a word of the table.
   role_low : (role : Role) → role_word role < size
   role_low Producer = omega arith
   role_low Consumer = omega arith
 
   module _ (role : Role) (words words' : List ℕ) (ts : List (Turn T)) (es : List (Event T)) (h : Now words ts es) where
+    -- The events of an acquire of the role.
     abbrev acquired : List (Event T)
     acquired = Begun 0 (Queues (acquire_start role)) ∷ Finished 0 (Queues (acquire_start role)) (Truth true) ∷ []
 
+    -- The events of a release of the role.
     abbrev released : List (Event T)
     released = Begun 0 (Queues (release_start role)) ∷ Finished 0 (Queues (release_start role)) answers.Done ∷ []
 
@@ -83,9 +89,11 @@ module _ {T : Type 0} (code : Coding T) (kd : QueueKind) (capacity size : ℕ)
 
   -- two positions, and what stands in the cells
   module _ (write read : ℕ) (cells : List ℕ) where
+    -- The words with these flags of both roles.
     abbrev now : ℕ → ℕ → List ℕ
     now producer consumer = write ∷ read ∷ producer ∷ consumer ∷ cells
 
+    -- Party 0 takes both roles, one after the other.
     pub takes_both : Now (now 1 1) [] [] → Now (now 0 0) (call_turns (call_turns [] (Queues AcquireProducer) 1) (Queues AcquireConsumer) 1) taken_roles
     takes_both h =
         role_taken Consumer (now 0 1) (now 0 0) (call_turns [] (Queues AcquireProducer) 1) (acquired Producer (now 1 1) (now 0 1) [] [] h)

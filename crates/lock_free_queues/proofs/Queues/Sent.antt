@@ -14,10 +14,12 @@ use Rattle.lock_free_queues.proofs.Queues.Sums.{done_pushed, done_refused, done_
 
 -- ---- a list that grows
 
+-- A list of length 0 is empty.
 none_there : {A : Type 0} (xs : List A) → length xs ≡ 0 → xs ≡ []
 none_there [] length_is_zero = refl
 none_there (x ∷ xs) length_is_zero = absurd (omega arith)
 
+-- As many items as values: the names of a list are as many as the list.
 pub length_named : {A B : Type 0} (named : A → B) (xs : List A) → length (map named xs) ≡ length xs
 length_named named [] = refl
 length_named named (x ∷ xs) = omega (arith, length_named named xs)
@@ -87,12 +89,14 @@ module _ {T V : Type 0} (tells : Event T → List (Item T)) (named : V → Item 
 
 -- ---- who pushes
 
+-- A push that was refused published nothing.
 none_published : {T : Type 0} (capacity : ℕ) (item : Item T) (was new : View T) → PushRefused capacity item was new
     → published new.seen ≡ published was.seen
 none_published capacity item was new (inl h) = h.1.list
 none_published capacity item was new (inr h) = h.list
 
 module _ {T V : Type 0} {named : V → Item T} where
+  -- An acquire of the role sends no value.
   pub sent_none : {role : Role} {old new : View T} → Goes old new → HasAcquired role true old new → HasSent named [] old new
   sent_none {role} {old} {new} goes acquired = appended_none publishes named old new goes.since goes.share (done_acquired old new role true acquired)
 
@@ -104,7 +108,8 @@ module _ {T V : Type 0} {named : V → Item T} where
       (appended_more publishes named values (length values) 0 old was new sent goes.share value 1 0
       (done_pushed was new (named value) push_done.0) push_done.1.list)
 
-  -- the next one of a list
+  -- A push of the next value of a list makes the values that were sent one longer, still a
+  -- beginning of the list.
   pub sent_next : {old was new : View T} (all : List V) (n : ℕ) (default : V) → HasSent named (take n all) old was
       → n < length all → Goes was new → PushDone (named (get_or all n default)) was new
       → HasSent named (take (n + 1) all) old new
@@ -112,19 +117,20 @@ module _ {T V : Type 0} {named : V → Item T} where
       subst (λ xs. HasSent named xs old new) (sym (take_more all n default below))
       (sent_one {old = old} {was = was} {new = new} (take n all) (get_or all n default) sent goes push_done)
 
-  -- a push that was refused
+  -- A push that was refused leaves the values that were sent as they were.
   pub sent_refused : {old was new : View T} {values : List V} {room : ℕ} {item : Item T} → HasSent named values old was
       → Goes was new → PushRefused room item was new → HasSent named values old new
   sent_refused {old} {was} {new} {values} {room} {item} sent goes push_refused =
       appended_same publishes named values (length values) 0 old was new sent goes.share (done_refused was new item room push_refused)
       (none_published room item was new push_refused)
 
-  -- the role is given back
+  -- The release of the role leaves the values that were sent as they were.
   pub sent_done : {role : Role} {old was new : View T} {values : List V} → HasSent named values old was → Goes was new
       → HasReleased role was new → published new.seen ≡ published was.seen → HasSent named values old new
   sent_done {role} {old} {was} {new} {values} sent goes released is =
       appended_same publishes named values (length values) 0 old was new sent goes.share (done_released was new role released) is
 
+  -- Once the role is given back behind the last value of a list, the pass has sent the whole list.
   pub sent_all : {role : Role} {old was new : View T} (all : List V) (n : ℕ) → HasSent named (take n all) old was → length all ≤ n
       → Goes was new → HasReleased role was new → published new.seen ≡ published was.seen → HasSent named all old new
   sent_all {role} {old} {was} {new} all n sent past goes released is =
@@ -133,13 +139,14 @@ module _ {T V : Type 0} {named : V → Item T} where
 
   -- ---- who pops
 
+  -- An acquire of the role receives no value.
   pub received_none : {role : Role} {old new : View T} {values : List V} → values ≡ [] → Goes old new
       → HasAcquired role true old new → HasReceived named values old new
   received_none {role} {old} {new} is goes acquired =
       subst (λ xs. HasReceived named xs old new) (sym is)
       (appended_none hands_out named old new goes.since goes.share (done_acquired old new role true acquired))
 
-  -- who has received these values and pops one more has received that one behind them
+  -- after a pop of one more value, the received values are the old ones with this one behind them
   pub received_one : {old was new : View T} (values : List V) (value : V) → HasReceived named values old was → Goes was new
       → PopDone (named value) was new → HasReceived named (values ++ value ∷ []) old new
   received_one {old} {was} {new} values value received goes pop_done =
@@ -155,17 +162,19 @@ module _ {T V : Type 0} {named : V → Item T} where
       subst (λ xs. HasReceived named xs old new) (sym is)
       (received_one {old = old} {was = was} {new = new} values value received goes pop_done)
 
-  -- a pop that found none
+  -- A pop that found the queue empty leaves the values that were received as they were.
   pub received_still : {old was new : View T} {values : List V} → HasReceived named values old was → Goes was new
       → PopEmpty was new → HasReceived named values old new
   received_still {old} {was} {new} {values} received goes pop_empty =
       appended_same hands_out named values 0 (length values) old was new received goes.share (done_none was new pop_empty.0) pop_empty.1.list
 
+  -- A peek leaves the values that were received as they were.
   pub received_peeked : {old was new : View T} {values : List V} (answer : Option (Item T)) → HasReceived named values old was → Goes was new
       → HasPeeked answer was new → HasReceived named values old new
   received_peeked {old} {was} {new} {values} answer received goes peeked =
       appended_same hands_out named values 0 (length values) old was new received goes.share (done_peeked was new answer peeked) peeked.list
 
+  -- The release of the role leaves the values that were received as they were.
   pub received_done : {role : Role} {old was new : View T} {values : List V} → HasReceived named values old was → Goes was new
       → HasReleased role was new → handed_out new.seen ≡ handed_out was.seen → HasReceived named values old new
   received_done {role} {old} {was} {new} {values} received goes released is =

@@ -17,13 +17,16 @@ module _ {T : Type 0} where
 
   module _ (p : ℕ) (start : Start T) (answer : Answer T) (wrote : List (Event T)) (old new : View T) (c : Called p start answer wrote old new) where
     module _ (f : Event T → ℕ) (none : f (Begun p start) ≡ 0) where
+      -- A sum over what the pass made grows by what the call wrote, and by its end.
       made_more : (last : ℕ) → f (Finished p start answer) ≡ last → sum_by f new.made ≡ sum_by f old.made + (sum_by f wrote + last)
       made_more last f_is = grind (arith, sum_by-append, sum_first)
 
+    -- A call has done as many puts and gets as it wrote.
     pub done : HasDone (sum_by puts wrote + 0) (sum_by gets wrote + 0) old new
     done = record { puts_more = made_more puts refl 0 refl; gets_more = made_more gets refl 0 refl }
 
   module _ (old new : View T) where
+    -- A push that answers true has published one item and taken out none.
     pub done_pushed : (item : Item T) → HasPushed item true old new → HasDone 1 0 old new
     done_pushed item pushed =
         (let done_here = done pushed.by _ _ _ old new pushed.called in
@@ -35,48 +38,59 @@ module _ {T : Type 0} where
         (let done_here = done h.0.by _ _ _ old new h.0.called in record { puts_more = done_here.puts_more; gets_more = done_here.gets_more })
     done_refused item capacity (inr h) = same_made h.made
       where
+        -- A pass that made nothing more has done nothing.
         same_made : new.made ≡ old.made → HasDone 0 0 old new
         same_made e = record { puts_more = omega (arith, ap (sum_by puts) e); gets_more = omega (arith, ap (sum_by gets) e) }
 
+    -- A push into an overflowing queue that handed nothing back has published one item and taken out none.
     pub done_added : (value : ℕ) → HasOverflowed value None old new → HasDone 1 0 old new
     done_added value overflowed =
         (let done_here = done overflowed.by _ _ _ old new overflowed.called in
         record { puts_more = done_here.puts_more; gets_more = done_here.gets_more })
 
+    -- A push into an overflowing queue that handed the oldest number back has published one item and
+    -- taken out one.
     pub done_replaced : (value oldest : ℕ) → HasOverflowed value (Some oldest) old new → HasDone 1 1 old new
     done_replaced value oldest overflowed =
         (let done_here = done overflowed.by _ _ _ old new overflowed.called in record { puts_more = done_here.puts_more; gets_more = done_here.gets_more })
 
+    -- A pop that answers an item has taken out one.
     pub done_popped : (item : Item T) → HasPopped (Some item) old new → HasDone 0 1 old new
     done_popped item popped =
         (let done_here = done popped.by _ _ _ old new popped.called in
         record { puts_more = done_here.puts_more; gets_more = done_here.gets_more })
 
+    -- A pop that found the queue empty has taken out none.
     pub done_none : HasPopped None old new → HasDone 0 0 old new
     done_none popped =
         (let done_here = done popped.by _ _ _ old new popped.called in
         record { puts_more = done_here.puts_more; gets_more = done_here.gets_more })
 
+    -- A peek publishes and takes out nothing.
     pub done_peeked : (answer : Option (Item T)) → HasPeeked answer old new → HasDone 0 0 old new
     done_peeked answer peeked =
         (let done_here = done peeked.by _ _ _ old new peeked.called in
         record { puts_more = done_here.puts_more; gets_more = done_here.gets_more })
 
+    -- An acquire of a role publishes and takes out nothing.
     pub done_acquired : (role : Role) (taken : Bool) → HasAcquired role taken old new → HasDone 0 0 old new
     done_acquired role taken acquired =
         (let done_here = done acquired.by _ _ _ old new acquired.called in
         record { puts_more = done_here.puts_more; gets_more = done_here.gets_more })
 
+    -- A release of a role publishes and takes out nothing.
     pub done_released : (role : Role) → HasReleased role old new → HasDone 0 0 old new
     done_released role released =
         (let done_here = done released.by _ _ _ old new released.called in
         record { puts_more = done_here.puts_more; gets_more = done_here.gets_more })
 
+    -- A look at a role publishes and takes out nothing.
     pub done_seen : (role : Role) (taken : Bool) → HasSeenRole role taken old new → HasDone 0 0 old new
     done_seen role taken seen_role =
         (let done_here = done seen_role.by _ _ _ old new seen_role.called in
         record { puts_more = done_here.puts_more; gets_more = done_here.gets_more })
 
+    -- A call on the length publishes and takes out nothing.
     pub done_measured : (which : LengthOf) (capacity : ℕ) (answer : Answer T) → HasMeasured which capacity answer old new → HasDone 0 0 old new
     done_measured which capacity answer measured =
         (let done_here = done measured.by _ _ _ old new measured.called in record { puts_more = done_here.puts_more; gets_more = done_here.gets_more })
@@ -128,10 +142,12 @@ module _ {T : Type 0} where
       moves released.by _ _ released.called Producer 0 0 refl refl refl refl,
     )
 
+    -- A peek takes and gives no role.
     pub peeked_moves : (answer : Option (Item T)) → HasPeeked answer old new → (q : Role) → Moved q 0 0 old.made new.made
     peeked_moves answer peeked Producer = moves peeked.by _ _ peeked.called Producer 0 0 refl refl refl refl
     peeked_moves answer peeked Consumer = moves peeked.by _ _ peeked.called Consumer 0 0 refl refl refl refl
 
+    -- A look at a role moves no role: neither takes nor gives of the pass change.
     pub seen_moves : (role : Role) (taken : Bool) → HasSeenRole role taken old new → (q : Role) → Moved q 0 0 old.made new.made
     seen_moves Producer taken seen_role Producer = moves seen_role.by _ _ seen_role.called Producer 0 0 refl refl refl refl
     seen_moves Producer taken seen_role Consumer = moves seen_role.by _ _ seen_role.called Consumer 0 0 refl refl refl refl
@@ -148,6 +164,7 @@ module _ {T : Type 0} where
         let g = made_more p start answer wrote old new call (gives q) begin_gives_none 0 end_gives_none in
         record { takes = omega arith; gives = omega arith }
 
+    -- A push into an overflowing queue that is a call of the history takes and gives no role.
     overflowed_moves : (value : ℕ) (back : Option ℕ) → HasOverflowed value back old new → (q : Role) → Moved q 0 0 old.made new.made
     overflowed_moves value None overflowed Producer = none_moved overflowed.by _ _ _ overflowed.called Producer refl refl refl refl refl refl
     overflowed_moves value None overflowed Consumer = none_moved overflowed.by _ _ _ overflowed.called Consumer refl refl refl refl refl refl
@@ -164,7 +181,7 @@ module _ {T : Type 0} where
         let b = ap (sum_by (gives q)) e in
         record { takes = omega arith; gives = omega arith })
 
-  -- one call after another
+  -- A call that did a and b, and then one that did c and d, have together done a + c and b + d.
   pub done_then : (a b c d : ℕ) (u v w : View T) → HasDone a b u v → HasDone c d v w → HasDone (a + c) (b + d) u w
   done_then a b c d u v w first_done second_done = grind arith
 
@@ -176,6 +193,7 @@ module _ {T : Type 0} where
   all_puts (e ∷ es) =
       (omega (arith, sum_first puts e es, all_puts es, length-append (publishes e) (published es), put_once e))
     where
+      -- An event counts as many puts as items that it publishes.
       put_once : (x : Event T) → puts x ≡ length (publishes x)
       put_once (Published p item) = refl
       put_once x = refl
@@ -186,6 +204,7 @@ module _ {T : Type 0} where
   all_gets (e ∷ es) =
       (omega (arith, sum_first gets e es, all_gets es, length-append (hands_out e) (handed_out es), got_once e))
     where
+      -- An event counts as many gets as items that it hands out.
       got_once : (x : Event T) → gets x ≡ length (hands_out x)
       got_once (HandedOut p item) = refl
       got_once x = refl

@@ -1,4 +1,5 @@
--- For clients of the overflowing queue: what the calls of a pass took out, as the history grows, by pops and by pushes.
+-- For clients of the overflowing queue: what the pops and the pushes of a pass took out,
+-- as the history grows.
 use Rattle.std.proofs.Common.{◌≡◌, inl, inr, ℕ, ◌+◌, ◌-◌, ◌^◌, ◌<◌, ◌≤◌, Bool, true, false, true≢false}
 use Rattle.std.proofs.Common.{if◌then◌else◌, List, [], ◌∷◌, ◌++◌, length, map, get_or, take, sym, refl, ap, subst, ◌∙◌}
 use Rattle.std.proofs.Common.{arith, append-nil, append_assoc, length-append, sum_by}
@@ -29,14 +30,17 @@ item x = Index x
 -- ---- lists that stand in others
 
 module _ {A : Type 0} where
+  -- What stands in the empty list stands in each list.
   in_nothing : (zs ys : List A) → StandIn zs [] → StandIn zs ys
   in_nothing [] ys h = tt
   in_nothing (z ∷ zs) ys h = absurd h
 
+  -- What stands in a list stands in it with one more element in front.
   in_longer : (zs : List A) (y : A) (ys : List A) → StandIn zs ys → StandIn zs (y ∷ ys)
   in_longer [] y ys h = tt
   in_longer (z ∷ zs) y ys h = inr h
 
+  -- A list that stands in another, in order, is no longer than the other.
   pub no_longer : (zs ys : List A) → StandIn zs ys → length zs ≤ length ys
   no_longer [] ys h = omega arith
   no_longer (z ∷ zs) [] h = absurd h
@@ -53,20 +57,25 @@ module _ {A : Type 0} where
 
 -- ---- what was taken out, as the history grows
 
--- `by` tells of what a party did next whether it was to act as such a call; by `lasts`, a yes stays as more events follow
+-- `by` reads from a party's next events of which sort the call is that has handed an item out (a pop or
+-- a push). By `lasts`, a yes stays as more events follow.
 module _ (by : List (Event ℕ) → Bool) (lasts : (xs ys : List (Event ℕ)) → by xs ≡ true → by (xs ++ ys) ≡ true) where
+  -- What one party's events are, they are with more events behind them.
   next_lasts : (p : ℕ) (es ys : List (Event ℕ)) → by (events_by p es) ≡ true → by (events_by p (es ++ ys)) ≡ true
   next_lasts p es ys t = ap by (by_more p es ys) ∙ lasts (events_by p es) (events_by p ys) t
 
+  -- What stands in a list stands in it with one more element in front, or without.
   either : (b : Bool) (zs : List (Item ℕ)) (x : Item ℕ) (xs : List (Item ℕ)) → StandIn zs xs → StandIn zs (if b then x ∷ xs else xs)
   either true zs x xs h = in_longer zs x xs h
   either false zs x xs h = h
 
+  -- a list that stands in what calls of this sort took out still stands in it as more events follow
   pub grows : (zs : List (Item ℕ)) (xs ys : List (Event ℕ)) → StandIn zs (taken by xs) → StandIn zs (taken by (xs ++ ys))
   grows zs [] ys h = in_nothing zs (taken by ys) h
   grows zs (HandedOut p x ∷ es) ys h = go (by (events_by p es)) refl (λ vs. grows vs es ys) h
     where
-      -- with an item first that was taken out by such a call, a list that stands in it stands in the longer one too
+      -- the first item was taken out by a call of this sort: a list that stands in it and the rest
+      -- still stands as events follow
       here : (us : List (Item ℕ))
           → ((vs : List (Item ℕ)) → StandIn vs (taken by es) → StandIn vs (taken by (es ++ ys)))
           → StandIn us (x ∷ taken by es) → StandIn us (x ∷ taken by (es ++ ys))
@@ -74,8 +83,7 @@ module _ (by : List (Event ℕ) → Bool) (lasts : (xs ys : List (Event ℕ)) �
       here (u ∷ us) later (inl k) = inl (k.0, later us k.1)
       here (u ∷ us) later (inr k) = inr (later (u ∷ us) k)
 
-      -- an item that is taken out first, by such a call or not, leaves a list standing in what was
-      -- taken out as events follow
+      -- the cases are whether the first item was taken out by a call of this sort
       go : (b : Bool) → by (events_by p es) ≡ b
           → ((vs : List (Item ℕ)) → StandIn vs (taken by es) → StandIn vs (taken by (es ++ ys)))
           → StandIn zs (if b then x ∷ taken by es else taken by es) → StandIn zs (taken by (HandedOut p x ∷ (es ++ ys)))
@@ -83,7 +91,8 @@ module _ (by : List (Event ℕ) → Bool) (lasts : (xs ys : List (Event ℕ)) �
       go false t later k = either (by (events_by p (es ++ ys))) zs x (taken by (es ++ ys)) (later zs k)
   grows zs (e ∷ es) ys h = grows zs es ys h
 
-  -- one more that was taken out so stands behind them
+  -- an item that was then taken out by a call of this sort stands behind a list that stood
+  -- in what was taken out
   one_more : (zs : List (Item ℕ)) (p : ℕ) (x : Item ℕ) (xs ys : List (Event ℕ)) → by (events_by p ys) ≡ true
       → StandIn zs (taken by xs) → StandIn (zs ++ x ∷ []) (taken by (xs ++ HandedOut p x ∷ ys))
   one_more [] p x [] ys t h = rw t (inl (refl, tt))
@@ -93,7 +102,8 @@ module _ (by : List (Event ℕ) → Bool) (lasts : (xs ys : List (Event ℕ)) �
       rest : List (Event ℕ)
       rest = es ++ HandedOut p x ∷ ys
 
-      -- with an item first that was taken out by such a call, a list and x stand in the longer one too
+      -- the first item was taken out by a call of this sort: the list with x behind it still stands in
+      -- the longer list
       here : (us : List (Item ℕ))
           → ((vs : List (Item ℕ)) → StandIn vs (taken by es) → StandIn (vs ++ x ∷ []) (taken by rest))
           → StandIn us (y ∷ taken by es) → StandIn (us ++ x ∷ []) (y ∷ taken by rest)
@@ -101,7 +111,7 @@ module _ (by : List (Event ℕ) → Bool) (lasts : (xs ys : List (Event ℕ)) �
       here (u ∷ us) later (inl k) = inl (k.0, later us k.1)
       here (u ∷ us) later (inr k) = inr (later (u ∷ us) k)
 
-      -- an item that is taken out first, by such a call or not, leaves a list and x standing in what was taken out
+      -- the cases are whether the first item was taken out by a call of this sort
       go : (b : Bool) → by (events_by q es) ≡ b
           → ((vs : List (Item ℕ)) → StandIn vs (taken by es) → StandIn (vs ++ x ∷ []) (taken by rest))
           → StandIn zs (if b then y ∷ taken by es else taken by es)
@@ -110,17 +120,19 @@ module _ (by : List (Event ℕ) → Bool) (lasts : (xs ys : List (Event ℕ)) �
       go false s later k = either (by (events_by q rest)) (zs ++ x ∷ []) y (taken by rest) (later zs k)
   one_more zs p x (e ∷ es) ys t h = one_more zs p x es ys t h
 
+  -- `TookOut` holds of no numbers from a view to each later one.
   took_none : (v w : View ℕ) → IsBeginning v.seen w.seen → TookOut by [] v w
   took_none v w begins earlier h =
       subst (λ es. StandIn (earlier ++ []) (taken by es)) (sym begins.is)
       (subst (λ zs. StandIn zs (taken by (v.seen ++ begins.rest))) (sym (append-nil earlier)) (grows earlier v.seen begins.rest h))
 
+  -- What was taken out up to a view was taken out up to each later one.
   took_same : (xs : List ℕ) (v w u : View ℕ) → TookOut by xs v w → IsBeginning w.seen u.seen → TookOut by xs v u
   took_same xs v w u k begins earlier h =
       subst (λ es. StandIn (earlier ++ map Index xs) (taken by es)) (sym begins.is)
       (grows (earlier ++ map Index xs) w.seen begins.rest (k earlier h))
 
-  -- after numbers that were taken out, one more that is taken out by such a call stands behind them
+  -- one further number that is taken out by a call of this sort stands behind the numbers that were taken out
   took_more : (xs : List ℕ) (x p : ℕ) (v w u : View ℕ) (before after : List (Event ℕ)) → TookOut by xs v w
       → IsBeginning w.seen before → u.seen ≡ before ++ HandedOut p (Index x) ∷ after → by (events_by p after) ≡ true
       → TookOut by (xs ++ x ∷ []) v u
@@ -135,11 +147,13 @@ module _ (by : List (Event ℕ) → Bool) (lasts : (xs ys : List (Event ℕ)) �
       subst (λ es. StandIn (earlier ++ map Index (xs ++ x ∷ [])) (taken by es)) (sym is)
       (subst (λ zs. StandIn zs (taken by (before ++ HandedOut p (Index x) ∷ after))) list more)
 
+-- Events that were those of a pop are so with more events behind them.
 pub pop_lasts : (xs ys : List (Event ℕ)) → by_pop xs ≡ true → by_pop (xs ++ ys) ≡ true
 pop_lasts [] ys pops = absurd (true≢false (sym pops))
 pop_lasts (Acted p (Queues Pop) answer ∷ es) ys pops = refl
 pop_lasts (e ∷ es) ys pops = absurd (true≢false (sym pops))
 
+-- Events that were those of a push are so with more events behind them.
 pub push_lasts : (xs ys : List (Event ℕ)) → by_push xs ≡ true → by_push (xs ++ ys) ≡ true
 push_lasts [] ys pushes = absurd (true≢false (sym pushes))
 push_lasts (Acted p (Queues (PushIndex value)) answer ∷ es) ys pushes = refl
@@ -200,9 +214,11 @@ takes_same xs v w u has_taken goes done =
       all = λ none. goes.all;
     }
 
+-- A pop that found none leaves the numbers that were taken as they were.
 pub takes_nothing : (xs : List ℕ) (v w u : View ℕ) → HasTaken xs v w → Goes w u → HasPopped None w u → HasTaken xs v u
 takes_nothing xs v w u has_taken goes popped = takes_same xs v w u has_taken goes (done_none w u popped)
 
+-- The release of the role leaves the numbers that were taken as they were.
 pub takes_all : (xs : List ℕ) (role : Role) (v w u : View ℕ) → HasTaken xs v w → Goes w u → HasReleased role w u → HasTaken xs v u
 takes_all xs role v w u has_taken goes released = takes_same xs v w u has_taken goes (done_released w u role released)
 
@@ -241,6 +257,7 @@ push_wrote back value oldest v w u took_out overflowed =
     let party_there = overflowed.by in
     let act : Event ℕ = Acted party_there (Queues (PushIndex value)) (PoppedIndex oldest) in
     let last : Event ℕ = Finished party_there (Queues (PushIndex value)) (PoppedIndex oldest) in
+    -- The push published its number, and then the oldest one was handed out by its own party.
     let wrote_first =
     first_wrote party_there (Queues (PushIndex value)) (PoppedIndex oldest) (Published party_there (Index value))
     (HandedOut party_there (Index oldest) ∷ act ∷ []) w u overflowed.called in
@@ -249,6 +266,7 @@ push_wrote back value oldest v w u took_out overflowed =
     let is : u.seen ≡ before ++ HandedOut party_there (Index oldest) ∷ part.1 =
     wrote_first.is ∙ (ap (λ es. wrote_first.before ++ Published party_there (Index value) ∷ es) part.2
     ∙ sym (append_assoc wrote_first.before (Published party_there (Index value) ∷ part.0) (HandedOut party_there (Index oldest) ∷ part.1))) in
+    -- That hand-out lies behind all that had been seen, in events of a push.
     let since : IsBeginning w.seen before =
     record {
       rest = wrote_first.since.rest ++ Published party_there (Index value) ∷ part.0;
@@ -264,6 +282,7 @@ seen_later v w begins =
     let all : sum_by puts w.seen ≡ sum_by puts (v.seen ++ begins.rest) = ap (sum_by puts) begins.is in
     omega (arith, all_puts v.seen, all_puts w.seen, sum_by-append puts v.seen begins.rest)
 
+-- `HasAppended` holds of equal counts too.
 counted_as : (xs : List ℕ) (put got put' got' : ℕ) (v w : View ℕ) → put ≡ put' → got ≡ got'
     → HasAppended publishes Index xs put got v w → HasAppended publishes Index xs put' got' v w
 counted_as xs put got put' got' v w p q appended = subst (λ (t : ℕ × ℕ). HasAppended publishes Index xs t.0 t.1 v w) (λ i. (p i, q i)) appended
@@ -280,9 +299,11 @@ pushed_none all role v w goes acquired =
 
 -- the pass has pushed xs, and got back, since it knew v; it goes on from w to u with a push of x
 module _ (c : ℕ) (some : 0 < c) (xs back : List ℕ) (x : ℕ) (v w u : View ℕ) (k : HasPushedUpTo xs back v w) (goes : Goes w u) where
+  -- The pushed numbers with one more are one longer.
   long : length (xs ++ x ∷ []) ≡ length xs + 1
   long = length-append xs (x ∷ [])
 
+  -- If the last position is not reached now, it was not reached before the push.
   earlier : length (published u.seen) < 2 ^ 64 - 1 → HasPushedAll xs back v w
   earlier under = k.all (omega (arith, seen_later w u goes.since))
 
@@ -303,7 +324,8 @@ module _ (c : ℕ) (some : 0 < c) (xs back : List ℕ) (x : ℕ) (v w u : View �
             });
       }
 
-  -- a push that handed a number back adds its own to those that were pushed, and this one to those that came back
+  -- a push that handed a number back adds its own number to those that were pushed, and the handed one
+  -- to those that came back
   replaces_one : (oldest : ℕ) → HasOverflowed x (Some oldest) w u → HasPublished (Index x) w u → HasPushedUpTo (xs ++ x ∷ []) (back ++ oldest ∷ []) v u
   replaces_one oldest overflowed has_published =
       let done = done_replaced w u x oldest overflowed in
@@ -320,7 +342,8 @@ module _ (c : ℕ) (some : 0 < c) (xs back : List ℕ) (x : ℕ) (v w u : View �
             });
       }
 
-  -- at the last position nothing is said of the order
+  -- A push that took none out adds its number to those that were pushed. If the last position was
+  -- reached, nothing has to be shown, as `HasPushedUpTo` speaks of earlier positions only.
   took_none_there : (back' : List ℕ) → TookNone c w u → HasPushedUpTo (xs ++ x ∷ []) back' v u
   took_none_there back' (inl h) = (absurd (omega (arith, h.0)))
   took_none_there back' (inr h) =
@@ -330,9 +353,11 @@ module _ (c : ℕ) (some : 0 < c) (xs back : List ℕ) (x : ℕ) (v w u : View �
         all = λ under. (absurd (omega (arith, h.end)));
       }
 
+  -- A push that handed nothing back adds its number to those that were pushed.
   pub adds : PushAdded x w u → HasPushedUpTo (xs ++ x ∷ []) back v u
   adds push_added = pushes_one push_added.0 push_added.1
 
+  -- A push that handed y back adds its number to those that were pushed, and y to those that came back.
   pub returns_one : (y : ℕ) → PushHandedBack c x y w u → HasPushedUpTo (xs ++ x ∷ []) (back ++ y ∷ []) v u
   returns_one y (inl h) = replaces_one y h.0 h.1
   returns_one y (inr h) = took_none_there (back ++ y ∷ []) h.1
@@ -341,12 +366,15 @@ module _ (c : ℕ) (some : 0 < c) (xs back : List ℕ) (x : ℕ) (v w u : View �
 -- with a push of the next, x
 module _ (c : ℕ) (some : 0 < c) (all : List ℕ) (n x : ℕ) (back : List ℕ) (v w u : View ℕ) (lt : n < length all)
     (is : x ≡ get_or all n 0) (k : HasPushedUpTo (take n all) back v w) (goes : Goes w u) where
+  -- The first n numbers of a list and the next one are its first n + 1.
   longer : take n all ++ x ∷ [] ≡ take (n + 1) all
   longer = ap (λ z. take n all ++ z ∷ []) is ∙ sym (take_more all n 0 lt)
 
+  -- A push of the next number of a list that handed nothing back makes the pushed numbers one longer.
   pub pushes_next : PushAdded x w u → HasPushedUpTo (take (n + 1) all) back v u
   pushes_next push_added = subst (λ xs. HasPushedUpTo xs back v u) longer (adds c some (take n all) back x v w u k goes push_added)
 
+  -- A push of the next number of a list that handed y back makes both lists one longer.
   pub returns_next : (y : ℕ) → PushHandedBack c x y w u → HasPushedUpTo (take (n + 1) all) (back ++ y ∷ []) v u
   returns_next y push_handed_back =
       subst (λ xs. HasPushedUpTo xs (back ++ y ∷ []) v u) longer

@@ -9,6 +9,7 @@ use Rattle.lock_free_queues.proofs.Queues.Indices.{ends_at}
 use Rattle.lock_free_queues.proofs.Queues.Peeks.{IsPeek}
 
 module _ {T : Type 0} (code : Coding T) where
+  -- A value as an item.
   abbrev pub value_of : T → Item T
   value_of v = Value v
 
@@ -23,10 +24,12 @@ module _ {T : Type 0} (code : Coding T) where
         at_end = λ c m n a skip asks. ends_at code.words_of v n a c.stage skip asks;
       }
     where
+      -- What a push of a value writes is what a push of the item writes.
       told : (p : ℕ) (taken : Bool) → value_push_wrote {T = T} p v taken ≡ push_events p (Value v) taken
       told p true = refl
       told p false = refl
 
+  -- The answer of a pop of a value is that of a pop of the item.
   pops_so : (o : Option T) → popped_value o ≡ popped_item (option_map value_of o)
   pops_so None = refl
   pops_so (Some x) = refl
@@ -44,6 +47,7 @@ module _ {T : Type 0} (code : Coding T) where
       told p x true = refl
       told p x false = refl
 
+  -- The call of `steps` that peeks at a value is a peek, by way of a room that has the value's words.
   pub value_peek : {R : Type 0} (words_in : R → List ℕ) → IsPeek value_of (value_there code words_in) (peeks_value code words_in)
   value_peek words_in =
       record { start = refl; answer = λ e m. pops_so (pop_answer (value_there code words_in m) e); tells = λ n p from e m es h. h }

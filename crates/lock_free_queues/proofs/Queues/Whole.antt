@@ -1,4 +1,4 @@
--- What the history says to who has the whole share: nobody else published or took out anything.
+-- What a pass with the whole share knows of a queue's history: nobody else published or took out anything.
 use Rattle.lock_free_queues.proofs.Names.{◌≡◌, ℕ, ◌+◌, List, [], ◌∷◌, ◌++◌, length, None, refl, sym, ap, subst, ◌∙◌}
 use Rattle.lock_free_queues.proofs.Names.{append-nil, sum_by, arith, flat_map-append, sum_by-append, flat_map}
 use Rattle.lock_free_queues.proofs.Names.{PoppedNone, Event, Begun, Acted, Finished, Item, Queues, QueueKind, Pop}
@@ -8,14 +8,17 @@ use Rattle.std.proofs.Common.{length-append}
 use Rattle.lock_free_queues.specs.Queues.Contracts.{HasPopped, FoundNone}
 use Rattle.lock_free_queues.proofs.Queues.Facts.{found_none, listed_always}
 
+-- A list that begins with another and is as long is that other.
 pub none_more : {A : Type 0} (xs ys zs : List A) → zs ≡ xs ++ ys → length zs ≡ length xs → zs ≡ xs
 none_more xs [] zs is long = is ∙ append-nil xs
 none_more xs (y ∷ ys) zs is long = (absurd (omega (arith, ap length is, length-append xs (y ∷ ys))))
 
 module _ {T : Type 0} (m : Event T → List (Item T)) where
+  -- How many items an event tells of.
   abbrev counts : Event T → ℕ
   counts e = length (m e)
 
+  -- The events count as many as they tell of.
   counted : (es : List (Event T)) → sum_by counts es ≡ length (flat_map m es)
   counted [] = refl
   counted (e ∷ es) = omega (arith, sum_first counts e es, counted es, length-append (m e) (flat_map m es))
@@ -33,6 +36,7 @@ module _ {T : Type 0} (m : Event T → List (Item T)) where
         let both = sum_by-append counts old.made es in
         omega (arith, counted old.seen, counted new.seen, counted es)
 
+    -- A call that tells of nothing leaves the list as it was, as nobody else did anything.
     pub nothing_more : flat_map m es ≡ [] → flat_map m new.seen ≡ flat_map m old.seen
     nothing_more writes_none = grind (arith, length, as_many, none_more, flat_map-append)
 
@@ -44,6 +48,7 @@ all_taken {T} code kd capacity old new all before goes history popping =
     let party_there = popping.by in
     let events_then : List (Event T) =
     Begun party_there (Queues Pop) ∷ Acted party_there (Queues Pop) PoppedNone ∷ Finished party_there (Queues Pop) PoppedNone ∷ [] in
+    -- the pop published nothing, and took nothing out; at a moment of it nothing waited
     let out : published new.seen ≡ published old.seen =
     nothing_more publishes old new events_then all before goes popping.called.made refl in
     let took : handed_out new.seen ≡ handed_out old.seen =

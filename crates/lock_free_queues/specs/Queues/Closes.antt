@@ -12,8 +12,9 @@ use Rattle.lock_free_queues.specs.declared.spsc.ring.rule.Kind as kinds
 use Rattle.lock_free_queues.specs.declared.spsc.ring.Pass.{Pass}
 use Rattle.lock_free_queues.specs.Queues.Rings.{queue_of, view}
 
--- The list is what waited as the pass stood so, at one moment of the call. Before it lies what was taken out until
--- then. What each pass has seen is a history, as `history` of a pass says.
+-- The list that a `close` returns is what waited at one moment of the call, when the pass had seen what
+-- `at` has seen. What was taken out until then lies before the list. What `at` has seen is a history,
+-- by `history` of a pass.
 pub record IsWhatWaits {E T V : Type 0} {kind : kinds.Ghosts E} {words : Ghosts T} (named : V → Item T)
     (pass : Pass E T kind words) (q : Bounded V) : Type 0 where
   -- the pass at that moment
@@ -24,8 +25,9 @@ pub record IsWhatWaits {E T V : Type 0} {kind : kinds.Ghosts E} {words : Ghosts 
   pub taken : q.first ≡ length (handed_out (view at).seen)
   pub waits : waiting (view at).seen ≡ map named q.values
 
--- The list is the newest of what waited at one moment of the call in an overflowing queue, at most the capacity. One
--- more waits while a push is under way, which then takes the oldest out.
+-- The list that a `close` of an overflowing queue returns is the newest of what waited at one
+-- moment of the call, at most the capacity. One number more waits while a push is under way, which
+-- then takes the oldest out.
 pub record IsNewestThatWaits {E : Type 0} {kind : kinds.Ghosts E} {words : Ghosts ℕ} (capacity : ℕ)
     (pass : Pass E ℕ kind words) (q : Bounded ℕ) : Type 0 where
   -- the pass at that moment
@@ -38,8 +40,8 @@ pub record IsNewestThatWaits {E : Type 0} {kind : kinds.Ghosts E} {words : Ghost
   pub waits : waiting (view at).seen ≡ older ++ map Index q.values
   pub few : length older ≡ length (waiting (view at).seen) - capacity
 
--- Each value that was seen to be published lies before the list, or waits at its place, and those that were seen to be
--- taken out lie before it. Who has the whole share knows that just what was published and not taken out waits.
+-- What a pass that had seen `v` knows of the list that its queue is in the end: where each value that
+-- it had seen published is, and with the whole share that just these values wait.
 pub record Closes {T V : Type 0} (named : V → Item T) (capacity : ℕ) (v : View T) (q : Bounded V) : Type 0 where
   pub same : q.capacity ≡ capacity
   -- a published value lies before the list, or waits at its place

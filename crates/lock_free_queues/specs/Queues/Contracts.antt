@@ -50,8 +50,8 @@ module _ {T : Type 0} where
     -- nothing was published since
     pub list : published new.seen ≡ published old.seen
 
-  -- The item was published after all that was seen. Its position is the number of those that were published before it,
-  -- and these are all known: right after the last one that was seen.
+  -- The item was published after all that the pass had seen, at the position right after the last one
+  -- that it had seen published.
   pub record HasPublished (item : Item T) (old new : View T) : Type 0 where
     -- the party that pushed it
     pub by : ℕ
@@ -107,7 +107,8 @@ module _ {T : Type 0} where
     pub mine : new.party ≡ Some by
     pub called : Called by (Queues Pop) (popped_item answer) (pop_events by answer) old new
 
-  -- the item was taken out after all that was seen, at the position right after the last one that was seen to be taken
+  -- The item was taken out after all that the pass had seen, at the position right after the last one
+  -- that it had seen taken.
   pub record HasTakenOut (item : Item T) (old new : View T) : Type 0 where
     -- the party that popped it
     pub by : ℕ
@@ -144,7 +145,7 @@ module _ {T : Type 0} where
   abbrev pub PopEmpty : (old new : View T) → Type 0
   PopEmpty old new = HasPopped None old new × WasEmpty old new
 
-  -- the item was taken out after all that was seen, as the oldest that waited
+  -- the item was taken out after all that the pass had seen, and it was the oldest that waited
   pub record HasTakenFirst (item : Item T) (old new : View T) : Type 0 where
     -- the party that popped it
     pub by : ℕ
@@ -157,7 +158,7 @@ module _ {T : Type 0} where
     pub rest : List (Item T)
     pub oldest : waiting before ≡ item ∷ rest
 
-  -- the queue was empty as the pop acted
+  -- the queue was empty as the pop acted, which is all that a pop of an overflowing queue tells
   pub record FoundNone (old new : View T) : Type 0 where
     -- the party of the pop
     pub by : ℕ
@@ -172,21 +173,21 @@ module _ {T : Type 0} where
   abbrev pub PopOldest : Item T → (old new : View T) → Type 0
   PopOldest item old new = HasPopped (Some item) old new × HasTakenFirst item old new
 
-  -- a pop that found nothing
+  -- a pop of an overflowing queue that found nothing
   abbrev pub PopFoundNone : (old new : View T) → Type 0
   PopFoundNone old new = HasPopped None old new × FoundNone old new
 
   -- ---- peeks
 
-  -- The peek is a call of the history that writes nothing. It answers the oldest value that waits as it ends, if one
-  -- does, and since all that was seen no value was taken out.
+  -- The peek is a call of the history that writes nothing. It answers the oldest value that waits as it
+  -- ends, if one waits, and from `old` to its end no value was taken out.
   pub record HasPeeked (answer : Option (Item T)) (old new : View T) : Type 0 where
     pub by : ℕ
     pub mine : new.party ≡ Some by
     pub called : Called by (Queues Peek) (popped_item answer) [] old new
     -- the oldest that waits as it ends
     pub oldest : answer ≡ slice_get (waiting new.seen) 0
-    -- nothing was taken out since
+    -- from `old` on nothing was taken out
     pub list : handed_out new.seen ≡ handed_out old.seen
 
   -- ---- lengths
@@ -226,7 +227,8 @@ module _ {T : Type 0} where
 
   -- ---- passes
 
-  -- the pass has made nothing, and with the whole share there was nothing more to see
+  -- What a `look` of a pass tells: the pass has made nothing, and with the whole share there was
+  -- nothing more to see.
   pub record HasLooked (old new : View T) : Type 0 where
     pub made : new.made ≡ old.made
     pub whole : IsAll old.share → new.seen ≡ old.seen

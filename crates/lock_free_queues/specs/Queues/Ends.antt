@@ -1,4 +1,5 @@
--- Both ends of a queue, of one pass.
+-- What `ends` of a queue returns: the producer and the consumer that one pass, which is
+-- split for them, becomes.
 use Rattle.std.specs.Prelude.{◌≡◌, true}
 use Rattle.steps.specs.declared.queues.roles.Role.TheVariants as roles
 use Rattle.steps.specs.declared.words.Words.{Ghosts}
@@ -11,9 +12,11 @@ use Rattle.lock_free_queues.specs.declared.spsc.ring.Consumer.{Consumer}
 use Rattle.lock_free_queues.specs.Queues.Rings.{queue_of, view, producer_view, consumer_view, ToProducer, ToConsumer}
 use Rattle.lock_free_queues.specs.Queues.Contracts.{HasAcquired}
 
--- both ends of a queue, of one pass: it was split, and with each part a role was taken
+-- These are the producer and the consumer that `ends` makes of the pass: it was split, and with each
+-- part a role was taken.
 pub record AreEnds {E T : Type 0} {kind : kinds.Ghosts E} {words : Ghosts T} (pass : Pass E T kind words)
     (producer : Producer E T kind words) (consumer : Consumer E T kind words) : Type 0 where
+  -- the two parts of the pass, which are of its queue
   pub left : Pass E T kind words
   pub right : Pass E T kind words
   pub queue : queue_of left ≡ queue_of pass

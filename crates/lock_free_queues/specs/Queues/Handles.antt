@@ -21,7 +21,7 @@ module _ {E T : Type 0} {kind : kinds.Ghosts E} {words : Ghosts T} where
   abbrev pub knows : Handle E T kind words → View T
   knows h = view h.pass
 
-  -- what each call leaves: it is of the same queue, and so is its pass, whose view goes on
+  -- what each call by a handle leaves of it: the same queue, and a pass of this queue whose view goes on
   pub record SameHandle (old new : Handle E T kind words) : Type 0 where
     pub queue : ring_in new ≡ ring_in old
     pub pass : SamePass (pass_in old) (pass_in new)

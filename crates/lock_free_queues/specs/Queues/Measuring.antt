@@ -15,7 +15,7 @@ use Rattle.lock_free_queues.specs.declared.spsc.ring.rule.Origin.{Origin}
 use Rattle.lock_free_queues.specs.Queues.Bounded.{machine_kind}
 use Rattle.lock_free_queues.specs.Queues.Kinds.{words_in_cells}
 
--- the seat is at the table of a queue whose values have so many words
+-- the seat is at the table of a queue of this kind, whose values have `words` words
 abbrev pub IsBoard : {T Q : Type 0} → ℕ → QueueKind → Seated (View T) Origin Q → Type 0
 IsBoard {T} words kind s =
     IsAt (λ (key : Origin). 4 + words_in_cells words kind key.capacity + 1) (λ (key : Origin). key.capacity)

@@ -41,7 +41,7 @@ module _ {T : Type 0} where
       Begun 0 (Queues ReleaseProducer) ∷ Finished 0 (Queues ReleaseProducer) Done
       ∷ Begun 0 (Queues ReleaseConsumer) ∷ Finished 0 (Queues ReleaseConsumer) Done ∷ []
 
-  -- both roles are taken, and then so many times the item is pushed and popped
+  -- party 0 takes both roles, and then pushes and pops the item as many times as the number says
   abbrev pub rounds : Answer T → Item T → ℕ → List (Event T)
   rounds answer item zero = taken_roles
   rounds answer item (suc n) =
@@ -53,26 +53,26 @@ module _ {T : Type 0} where
   opened answer item (suc n) = rounds answer item (suc n) ++ given_roles
 
 module _ {T : Type 0} where
-  -- these turns, and then so many steps more of party 0
+  -- the given turns, and behind them this number of steps of party 0
   abbrev pub then_next : List (Turn T) → ℕ → List (Turn T)
   then_next ts zero = ts
   then_next ts (suc k) = then_next (ts ++ Next 0 ∷ []) k
 
-  -- these turns, and then those of a call of party 0 of so many steps
+  -- the given turns, and behind them those of a call of party 0 that takes this number of steps
   abbrev pub call_turns : List (Turn T) → Start T → ℕ → List (Turn T)
   call_turns ts start steps = then_next (ts ++ Begin 0 start ∷ []) steps
 
-  -- These turns, and then those of a push or a pop:
-  -- it loads two positions, goes through the words of a cell, and stores a position.
+  -- The given turns, and behind them those of a push or a pop by party 0: it loads two positions, goes
+  -- through the words of a cell, and stores a position.
   abbrev pub moved_turns : ℕ → Start T → List (Turn T) → List (Turn T)
   moved_turns size start ts = then_next (then_next (call_turns ts start 2) (suc (size - 1))) 1
 
-  -- the turns of so many rounds of a push and a pop, where a cell has so many words
+  -- the turns of this number of rounds of a push and a pop, where a cell has `size` words
   abbrev pub round_turns : ℕ → Item T → ℕ → List (Turn T)
   round_turns size item zero = call_turns (call_turns [] (Queues AcquireProducer) 1) (Queues AcquireConsumer) 1
   round_turns size item (suc n) = moved_turns size (Queues Pop) (moved_turns size (Queues (push_of item)) (round_turns size item n))
 
-  -- the turns in which both roles are given back
+  -- the given turns, and behind them those in which party 0 gives both roles back
   abbrev pub given_turns : List (Turn T) → List (Turn T)
   given_turns ts = call_turns (call_turns ts (Queues ReleaseProducer) 1) (Queues ReleaseConsumer) 1
 
@@ -87,7 +87,8 @@ position_at zero position = 0
 position_at (suc less) position = position
 
 module _ {T : Type 0} where
-  -- what the first pass knows, where a cell has so many words and each push answered so: it is the party, and has the whole share
+  -- What the first pass knows, where a cell has `size` words and each push was answered by `answer`: it
+  -- is party 0, which made all that has happened, and it has the whole share.
   abbrev pub opened_with : ℕ → Answer T → Item T → (capacity position : ℕ) → View T
   opened_with size answer item capacity position =
       record {

@@ -23,7 +23,8 @@ abbrev pub HasHistory : ℕ → View ℕ → Type 0
 HasHistory capacity v = IsHistory one_word kinds.Overflow capacity v.seen
 
 module _ {T : Type 0} where
-  -- what a push writes: it publishes its number, and where there was no room it takes out the oldest
+  -- what a push of an overflowing queue writes: it publishes its number, and if the queue is full it
+  -- takes the oldest out
   abbrev pub over_push_events : (p value : ℕ) → Option ℕ → List (Event T)
   over_push_events p value None =
       Published p (Index value) ∷ Acted p (Queues (PushIndex value)) PoppedNone ∷ []
@@ -31,14 +32,14 @@ module _ {T : Type 0} where
       Published p (Index value) ∷ HandedOut p (Index oldest)
       ∷ Acted p (Queues (PushIndex value)) (PoppedIndex oldest) ∷ []
 
-  -- the push is a call of the history, which handed this back
+  -- the push is a call of the history, which handed `back` back
   pub record HasOverflowed (value : ℕ) (back : Option ℕ) (old new : View T) : Type 0 where
     pub by : ℕ
     pub mine : new.party ≡ Some by
     pub called : Called by (Queues (PushIndex value)) (popped back) (over_push_events by value back) old new
 
--- The push is no call of the history: without capacity nothing changes, not even what was seen, and where the last
--- position is reached it is a look.
+-- The push is no call of the history, and the queue took nothing. Without capacity the view stays;
+-- where the last position is reached the push was a look.
 abbrev pub TookNone : {T : Type 0} → ℕ → View T → View T → Type 0
 TookNone capacity old new = (capacity ≡ 0) × (new ≡ old) ⊎ WasAtEnd old new
 
@@ -54,6 +55,6 @@ module _ {T : Type 0} where
       × HasPublished (Index value) old new
       × HasTakenFirst (Index oldest) old new
 
-  -- a push that handed a number back: the oldest, or its own, where the queue takes none
+  -- a push that handed a number back: the oldest one, or its own where the queue takes none
   abbrev pub PushHandedBack : (capacity value back : ℕ) → (old new : View T) → Type 0
   PushHandedBack capacity value back old new = PushReplaced value back old new ⊎ (back ≡ value) × TookNone capacity old new

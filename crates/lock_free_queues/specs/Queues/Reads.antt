@@ -1,4 +1,4 @@
--- What the words say that are read while a queue is closed.
+-- What is known of the words that a `close` reads while other threads may still step.
 use Rattle.std.specs.Prelude.{◌≡◌, ℕ, ◌+◌, ◌^◌, ◌<◌, ◌≤◌, List, length, slice_index}
 use Rattle.model.specs.declared.turn.Kind.{Kind}
 use Rattle.model.specs.Coding.{Coding}
@@ -16,7 +16,7 @@ use Rattle.lock_free_queues.specs.Queues.Kinds.{words_in_cells}
 use Rattle.lock_free_queues.specs.Queues.Rings.{code_of, token_queue, token_view}
 
 module _ {T : Type 0} (code : Coding T) (kind : Kind) where
-  -- the word was read of a machine whose history lies between the two
+  -- The word was read of a machine whose history lies between what the pass had seen in `old` and in `new`.
   pub record WasRead (capacity : ℕ) (old new : View T) (word found : ℕ) : Type 0 where
     -- the machine that the word was read of
     pub trace : Trace T
@@ -32,7 +32,8 @@ module _ {T : Type 0} (code : Coding T) (kind : Kind) where
       (word : ℕ) → 4 ≤ word → word < length words
       → WasRead capacity old new word (slice_index words word)
 
--- what a pass knows once it has read
+-- what a pass knows once it has read some words: it keeps its share, has made nothing, and has seen
+-- more of the history
 pub record HasRead {T : Type 0} (old new : View T) : Type 0 where
   pub share : new.share ≡ old.share
   pub since : IsBeginning old.seen new.seen
@@ -43,8 +44,8 @@ pub record HasRead {T : Type 0} (old new : View T) : Type 0 where
   -- with the whole share it misses nothing
   pub all : MissesNothing new
 
--- The words, so many of them of cells, with both positions as they stood as the read position was read: nothing was
--- published from the first load of the write position to the last.
+-- The words of a queue, `wide` of them of cells, as they stood at the moment when the read position was
+-- read (`new`): from the first load of the write position to the last nothing was published.
 pub record LastWords {T : Type 0} (code : Coding T) (kind : Kind) (wide capacity : ℕ) (old : View T)
     (words : List ℕ) : Type 0 where
   -- what was known as the write position was first read
@@ -56,6 +57,7 @@ pub record LastWords {T : Type 0} (code : Coding T) (kind : Kind) (wide capacity
   pub opening : HasRead old begun
   pub reading : HasRead begun new
   pub ending : HasRead new ended
+  -- the capacity, the number of words and the write position are in range
   pub small : capacity < 2 ^ 32
   pub long : length words ≡ 4 + wide
   pub fits : slice_index words 0 < 2 ^ 64
@@ -65,10 +67,11 @@ pub record LastWords {T : Type 0} (code : Coding T) (kind : Kind) (wide capacity
   pub cells : CellsRead code kind capacity begun new words
   -- the read position
   pub taken_read : WasRead code kind capacity new new 1 (slice_index words 1)
-  -- the write position is the same as it was last read
+  -- the write position had the same value as it was last read
   pub last_read : WasRead code kind capacity ended ended 0 (slice_index words 0)
 
--- The words were read by a seat, which had seen just what it had read up to the read position.
+-- A seat has read these words. Some seat of the queue (`then`) knows just what this one knew as it read
+-- the read position.
 pub record LastSeen {E T : Type 0} {kind : kinds.Ghosts E} {words : Ghosts T} (capacity : ℕ)
     (old : Held E T (RingRule E T) kind words) (read : List ℕ) : Type 0 where
   pub last : LastWords (code_of old) (machine_kind kind.KIND) (words_in_cells words.WORDS kind.KIND capacity) capacity

@@ -13,26 +13,26 @@ use Rattle.lock_free_queues.specs.Queues.Sent.{HasSent, HasReceived}
 use Rattle.lock_free_queues.specs.Queues.Sums.{puts, gets}
 
 module _ {E T V : Type 0} {kind : kinds.Ghosts E} {words : Ghosts T} (named : V → Item T) where
-  -- The producer has pushed these values, and popped none, since it was the first one.
-  -- Nobody else pushes meanwhile, so nothing stands between.
+  -- Since it was `first`, the producer has pushed these values, and popped none. Nobody else pushed
+  -- meanwhile, so in what was published nothing stands between them.
   pub record Sending (first : Producer E T kind words) (values : List V) (now : Producer E T kind words) : Type 0 where
     pub queue : producer_queue now ≡ producer_queue first
     -- the published values end with these
     pub list : published (producer_view now).seen ≡ published (producer_view first).seen ++ map named values
-    -- it has published so many itself
+    -- it has published as many values itself
     pub puts_more : sum_by puts (producer_view now).made ≡ sum_by puts (producer_view first).made + length values
     -- it has taken out none itself
     pub gets_more : sum_by gets (producer_view now).made ≡ sum_by gets (producer_view first).made
     pub share : (producer_view now).share ≡ (producer_view first).share
 
-  -- the consumer has popped these values, and pushed none, since it was the first one
+  -- since it was `first`, the consumer has popped these values, and pushed none
   pub record Receiving (first : Consumer E T kind words) (values : List V) (now : Consumer E T kind words) : Type 0 where
     pub queue : consumer_queue now ≡ consumer_queue first
     -- what was taken out ends with these values
     pub list : handed_out (consumer_view now).seen ≡ handed_out (consumer_view first).seen ++ map named values
     -- it has published none itself
     pub puts_more : sum_by puts (consumer_view now).made ≡ sum_by puts (consumer_view first).made
-    -- it has taken out so many itself
+    -- it has taken out as many values itself
     pub gets_more : sum_by gets (consumer_view now).made ≡ sum_by gets (consumer_view first).made + length values
     pub share : (consumer_view now).share ≡ (consumer_view first).share
 
@@ -46,8 +46,8 @@ module _ {E T V : Type 0} {kind : kinds.Ghosts E} {words : Ghosts T} (named : V 
     pub queue : queue_of now ≡ queue_of first
     pub received : HasReceived named values (view first) (view now)
 
--- What came is a beginning of what was sent, in order, and all of it just where nothing waits in the end; no more is
--- left than the queue has room for.
+-- What came is a beginning of what was sent, in order. All of it came just where the last pop found
+-- nothing, and at most `room`, the capacity of the queue, is left.
 pub record IsRelayed {V : Type 0} (room : ℕ) (sent received : List V) (emptied : Bool) : Type 0 where
   pub beginning : received ≡ take (length received) sent
   pub all : (emptied ≡ true) ↔ (received ≡ sent)

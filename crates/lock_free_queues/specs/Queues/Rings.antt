@@ -45,11 +45,11 @@ module _ {E T : Type 0} where
     inner q = q.ring
 
 module _ {E T : Type 0} {kind : kinds.Ghosts E} {words : Ghosts T} where
-  -- the queue of a pass or a role
+  -- which queue a seat is for
   abbrev pub token_queue : Held E T (RingRule E T) kind words → QueueId
   token_queue t = record { table = t.seated.seat.table_id; capacity = t.capacity }
 
-  -- what a pass or a role's holder knows
+  -- what a seat knows of the queue
   abbrev pub token_view : Held E T (RingRule E T) kind words → View T
   token_view t = t.seated.seat.me.0
 
@@ -104,8 +104,8 @@ module _ {E T : Type 0} {kind : kinds.Ghosts E} {words : Ghosts T} where
   abbrev pub SameConsumer : Consumer E T kind words → Consumer E T kind words → Type 0
   SameConsumer old new = IsSameQueue old.token new.token
 
-  -- What a call leaves of a seat that takes no step where its queue has no capacity: it is of the same queue, and its
-  -- view goes on, or stays as it was where there is no capacity.
+  -- What a push or a pop of an overflowing queue leaves of a seat: the same queue, and a view that goes
+  -- on; where the queue has no capacity the view stays, since the call takes no step.
   pub record IsSameByCapacity (old new : Held E T (RingRule E T) kind words) : Type 0 where
     pub queue : token_queue new ≡ token_queue old
     pub goes : 0 < (token_queue old).capacity → Goes (token_view old) (token_view new)
@@ -140,7 +140,7 @@ module _ {E T : Type 0} {kind : kinds.Ghosts E} {words : Ghosts T} where
   EachKnows pass =
       (p : Pass E T kind words) → Knows (code_of p.token) (machine_kind kind.KIND) (queue_of p).capacity (view p)
 
-  -- what a join leaves of a seat: it is of the same queue, and has what both had
+  -- what a join leaves of a seat: the same queue, and a view that has what both views had
   pub record Joins (old other new : Held E T (RingRule E T) kind words) : Type 0 where
     pub queue : token_queue new ≡ token_queue old
     pub joined : HasJoined (token_view old) (token_view other) (token_view new)

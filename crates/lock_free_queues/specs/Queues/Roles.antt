@@ -15,7 +15,7 @@ module _ {T : Type 0} where
   abbrev pub LacksRole : Role → List (Event T) → Type 0
   LacksRole role made = sum_by (takes role) made ≡ sum_by (gives role) made
 
-  -- what was made since added so many acquires of the role, and so many releases
+  -- from `old` to `new` the role was acquired `taken` times more, and given back `given` times more
   pub record Moved (role : Role) (taken given : ℕ) (old new : List (Event T)) : Type 0 where
     pub takes : sum_by (takes role) new ≡ sum_by (takes role) old + taken
     pub gives : sum_by (gives role) new ≡ sum_by (gives role) old + given

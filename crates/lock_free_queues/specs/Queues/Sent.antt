@@ -11,14 +11,15 @@ use Rattle.history.specs.Passes.{MissesNothing}
 use Rattle.lock_free_queues.specs.Queues.Sums.{HasDone}
 
 module _ {T V : Type 0} where
-  -- The list that the events tell ends with these values, behind what had been seen and what others added since. The
-  -- pass has published and taken out so many itself, and has the share that it had.
+  -- The list that the events tell of, by `tells`, ends with these values, behind what it was in `old`
+  -- and what others added since. The pass has published `put` items and taken out `got` itself, and
+  -- keeps its share.
   pub record HasAppended (tells : Event T → List (Item T)) (named : V → Item T) (values : List V) (put got : ℕ)
       (old new : View T) : Type 0 where
     -- what others added
     pub others : List (Item T)
     pub list : flat_map tells new.seen ≡ (flat_map tells old.seen ++ others) ++ map named values
-    -- the pass has published and taken out so many itself
+    -- the pass itself has published `put` items and taken out `got`
     pub done : HasDone put got old new
     pub share : new.share ≡ old.share
 
@@ -34,7 +35,8 @@ module _ {T V : Type 0} where
   abbrev pub TellsApart : (V → Item T) → Type 0
   TellsApart named = (x y : V) → named x ≡ named y → x ≡ y
 
-  -- who has the whole share knows that just these values were published, and just those taken out, each in this order
+  -- a pass with the whole share knows that just the values `sent` were published, and just `received`
+  -- taken out, each in this order
   pub record HasPassed (named : V → Item T) (sent received : List V) (v : View T) : Type 0 where
     pub whole : IsAll v.share
     -- the pass misses nothing

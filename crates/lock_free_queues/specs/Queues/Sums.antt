@@ -15,7 +15,7 @@ module _ {T : Type 0} where
   gets (HandedOut p item) = 1
   gets e = 0
 
-  -- the pass has published and taken out so many more itself
+  -- from `old` to `new` the pass itself has published `put` items more, and taken out `got` more
   pub record HasDone (put got : ℕ) (old new : View T) : Type 0 where
     pub puts_more : sum_by puts new.made ≡ sum_by puts old.made + put
     pub gets_more : sum_by gets new.made ≡ sum_by gets old.made + got

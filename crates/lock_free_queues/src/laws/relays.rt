@@ -1,6 +1,6 @@
-//! What comes through where one thread sends and another receives. For the loops of clients, `proofs/Queues/Relays.antt` has
-//! each law of `pushes_are_sent` and `pops_are_received` in the shape of the contracts of the guards' calls, so that a
-//! search in a client's proof finds what it needs.
+//! The law of a queue over which one thread sends and another one receives. For the loops of clients,
+//! `proofs/Queues/Relays.antt` has each law of `pushes_are_sent` and `pops_are_received` in the shape of the
+//! contracts of the guards' calls, so that a search in a client's proof finds what it needs.
 ghost use Rattle.std.specs.Prelude.{◌≡◌, ℕ, Bool, true, Option, IfSome, IfNone, List, is_some, not};
 ghost use Rattle.steps.specs.declared.queues.roles.Role.{Role};
 ghost use Rattle.model.specs.declared.event.Item.{Item};
@@ -15,9 +15,9 @@ ghost use Rattle.lock_free_queues.specs.Queues.Relays.{IsRelayed};
 ghost use Rattle.lock_free_queues.specs.Queues.Sent.{HasSent, HasReceived, TellsApart};
 ghost use Rattle.lock_free_queues.specs.Queues.Contracts.{HasAcquired, HasSplit, HasJoined, PopDone, PopEmpty};
 
-/// What one half of a first pass received is a beginning of what the other half sent. It holds once both are joined and
-/// one pop more was made. All of it came just where that pop found nothing, and no more is left than the queue has room
-/// for. The lemma is `views_relayed` of `proofs/Queues/Relays.antt`.
+/// What one half of a first pass received is a beginning of what the other half sent. It holds once both are
+/// joined and one further pop was made. All of it was received just where that pop found nothing, and at most
+/// the capacity is left. The lemma is `views_relayed` of `proofs/Queues/Relays.antt`.
 pub fn halves_relay<T, V>()
     ensures { (named : V → Item T) (code : Coding T) (queue : QueueKind) (n most : ℕ) (role : Role)
         (first left right mine theirs joined taking last : View T) (sent received : List V) (answer : Option V) (emptied : Bool)

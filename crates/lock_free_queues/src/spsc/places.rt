@@ -1,4 +1,4 @@
-//! Where a queue stands that opens after so many pushes and pops.
+//! The positions and the words of a queue that opens after a number of pushes and pops.
 ghost use Rattle.std.specs.Prelude.{◌≡◌, ◌<◌, ◌^◌, ◌∷◌, ◌++◌, [], min, replicate, IfOk};
 ghost use Rattle.lock_free_queues.specs.Queues.Opened.{position_at};
 
@@ -24,8 +24,8 @@ pub fn cells_used(capacity: u32, position: u64) -> u64
     }
 }
 
-/// Returns the words of a queue that opens with both positions at `start`. Both roles are free, and the cells, so many
-/// words, are zeros, with one word more.
+/// Returns the words of a queue that opens with both positions at `start`. Both roles are free. Behind them
+/// stand `cells` zeros for the cells, and one zero more.
 pub fn empty_words(alloc: Global, cells: usize, start: u64) -> Result<Vec<u64>, AllocError>
     requires { cells < 2 ^ 63 }
     ensures { IfOk result (λ words. words.items ≡ start ∷ start ∷ 1 ∷ 1 ∷ (replicate cells 0 ++ 0 ∷ [])) }

@@ -1,8 +1,8 @@
 //! A bounded queue of values with words, which one producer and one consumer share between threads.
 //!
-//! How many atomic steps a call takes is what its clause `steps` says: the operations on words that its pass has
-//! counted. Each that it performs is counted, by the driver. A `close` has no such clause, since no pass is left. What
-//! is proved of threads is what the contracts say.
+//! The clause `steps` of a call says how many atomic steps it takes: these are the operations on words that
+//! its pass counts, and the driver counts each one that it performs. A `close` has no such clause, since no
+//! pass is left. What is proved of threads is what the contracts say.
 use super::ring;
 use super::ring::rule::Values;
 

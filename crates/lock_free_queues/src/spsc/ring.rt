@@ -1,9 +1,8 @@
-//! What all queues share: their types, and the calls but pushes and pops. Each module of `spsc` has its own names for
-//! them, with a kind E and values T.
+//! What all queues share: their types, and all calls but pushes, pops and peeks. The types have a kind E and
+//! values T; each module of `spsc` has names for those of its queue.
 //!
-//! How many atomic steps a call takes is what its clause `steps` says: the operations on words that its pass has
-//! counted, each by the driver. A `close` has no such clause, since no pass is left. What is proved of threads is what
-//! the contracts say.
+//! The clause `steps` of a call says how many atomic steps it takes, as the driver counts them. A `close` has
+//! no such clause, since no pass is left. What is proved of threads is what the contracts say.
 ghost use Rattle.std.specs.Prelude.{◌≡◌, ◌<◌, ◌+◌, ◌^◌, [], None};
 ghost use Rattle.steps.specs.declared.queues.roles.Role.TheVariants as roles;
 ghost use Rattle.std.specs.Coded.{Coded-set};
@@ -52,8 +51,9 @@ pub struct FixedSize<E: Kind, T: Words, const CAPACITY: usize> {
     ghost sized: { ring.capacity ≡ CAPACITY },
 }
 
-/// A seat at a queue's table, with no call under way. Its rule is a parameter: only so can its size be told by
-/// `T::WORDS`.
+/// A seat at a queue's table, with no call under way. Its facts say how many words the table has, that the
+/// seat has a share, and that what it knows is a run of the machine. The rule Q is a parameter, since else
+/// `sized` could not name `T::WORDS`.
 pub struct Held<E: Kind, T: Words, Q: TableRule<(), View<T>, Origin>> {
     pub of: PhantomData<E>,
     pub seated: Seated<View<T>, Origin, Q>,
@@ -97,8 +97,8 @@ pub struct Consumer<'a, E: Kind, T: Words> {
         × LacksRole roles.Producer token.seated.seat.me.0.made },
 }
 
-// A drop by hand is one call in a caller's proof, on each way out. One that is derived is as many as it has fields
-// below.
+// In the proof of a caller a drop written by hand is one call on each way out. A derived drop is
+// one call for each field.
 impl<E: Kind, T: Words> Drop for Ring<E, T> {
     fn drop(self) {
         let Self {
@@ -110,7 +110,7 @@ impl<E: Kind, T: Words> Drop for Ring<E, T> {
 }
 
 impl<E: Kind, T: Words, const CAPACITY: usize> FixedSize<E, T, CAPACITY> {
-    /// The queue of any capacity that this one is made of.
+    /// Returns the queue that this one has, whose capacity is no part of its type.
     pub(crate) fn into_ring(self) -> Ring<E, T>
         ensures { result ≡ self.ring }
     {
@@ -136,7 +136,7 @@ impl<E: Kind, T: Words, Q: TableRule<(), View<T>, Origin>> Drop for Held<E, T, Q
 }
 
 impl<E: Kind, T: Words> Pass<E, T> {
-    /// The seat of the pass, which has no role.
+    /// Returns the seat of the pass, which has no role.
     pub(crate) fn into_token(self) -> Token<E, T>
         ensures token { result ≡ self.token }
         ensures none { LacksRole roles.Producer result.seated.seat.me.0.made

@@ -42,21 +42,25 @@ range_more a (suc n) =
     let same : (a + 1) + n ≡ a + suc n = omega arith in
     ap (range_with_len a) up ∙ ap (λ zs. a ∷ zs) (range_more (a + 1) n ∙ ap (λ z. range_with_len (a + 1) n ++ z ∷ []) same)
 
+-- Numbers that rise from above `first` rise with `first` in front too.
 rise_cons : (low first : ℕ) (rest : List ℕ) (t : Bool) → low ≤ first → Rise (first + 1) rest → Rise low rest → Rise low (cond t (first ∷ rest) rest)
 rise_cons low first rest true le up all = (le, up)
 rise_cons low first rest false le up all = all
 
+-- The numbers of a range from `first` on that pass the test ascend, from any number on that
+-- is not above `first`.
 rise_some : (test : ℕ → Bool) (low first n : ℕ) → low ≤ first → Rise low (filter test (range_with_len first n))
 rise_some test low first zero le = tt
 rise_some test low first (suc n) le =
     rise_cons low first (filter test (range_with_len (first + 1) n)) (test first) le
     (rise_some test (first + 1) (first + 1) n (omega arith)) (rise_some test low (first + 1) n (omega arith))
 
+-- A property that all kept numbers have holds with one more in front, if that one is kept and has it.
 kept_cons : (Q : ℕ → Type 0) (first : ℕ) (rest : List ℕ) (t : Bool) → (t ≡ true → Q first) → All Q rest → All Q (cond t (first ∷ rest) rest)
 kept_cons Q first rest true h all = All-cons Q first rest (h refl) all
 kept_cons Q first rest false h all = all
 
--- what is so of each number of a range that passes the test is so of all that the test keeps
+-- a property of each number of a range that passes the test holds of all numbers that the test keeps
 kept_all : (Q : ℕ → Type 0) (test : ℕ → Bool) (first n : ℕ)
     → ((p : ℕ) → first ≤ p → p < first + n → test p ≡ true → Q p) → All Q (filter test (range_with_len first n))
 kept_all Q test first zero h = All-nil Q
@@ -65,7 +69,7 @@ kept_all Q test first (suc n) h =
     (h first (omega arith) (omega arith))
     (kept_all Q test (first + 1) n (λ p low high t. h p (omega arith) (omega arith) t))
 
--- places that rise from here are handed on after those that came before
+-- ascending places below `low`, and behind them ascending places from `low` on, ascend together
 ascends_more : (cap low : ℕ) (xs ys : List ℕ) → Ascends cap xs → All (λ x. x < low) xs → Rise low ys → All (λ y. y < cap) ys → Ascends cap (xs ++ ys)
 ascends_more cap low xs [] up below rise within = subst (Ascends cap) (sym (append-nil xs)) up
 ascends_more cap low xs (y ∷ ys) up below rise within =
@@ -78,11 +82,13 @@ ascends_more cap low xs (y ∷ ys) up below rise within =
     (All-push (λ x. x < y + 1) xs y (All-weaker (λ x. x < y) (λ x. x < y + 1) (λ x l. omega arith) xs under) (omega arith))
     rise.1 (All-tail (λ z. z < cap) y ys within))
 
+-- A closure called with one list and then with another was called with both together.
 folds_more : {F : Type 0} (R : F → ℕ → F → Type 0) (xs ys : List ℕ) (v p q : F) → FoldsTo R v xs p → FoldsTo R p ys q → FoldsTo R v (xs ++ ys) q
 folds_more R [] ys v p q a b = subst (λ z. FoldsTo R z ys q) (sym a) b
 folds_more R (x ∷ xs) ys v p q a b = (a.0, a.1, folds_more R xs ys a.0 p q a.2 b)
 
--- after a place more, the closure is as it was, or called with this place where its flag was found
+-- After one further place the closure was called with that place if its flag is set, and not called if
+-- it is clear.
 pub visited_more : {F : Type 0} (R : F → ℕ → F → Type 0) (found first n : ℕ) (v p q : F) (t : Bool)
     → has_flag found (first + n) ≡ t → (t ≡ true → R p (first + n) q) → (t ≡ false → q ≡ p)
     → Visited R found first v n p → Visited R found first v (n + 1) q
@@ -95,8 +101,7 @@ visited_more {F} R found first n v p q t is hit miss h =
     whole : filter has (range_with_len first (n + 1)) ≡ filter has (range_with_len first n) ++ cond (has (first + n)) ((first + n) ∷ []) []
     whole = ap (filter has) (range_more first n) ∙ filter-append has (range_with_len first n) ((first + n) ∷ [])
 
-    -- of the list that is kept: after a place more, the closure is as it was, or called with this
-    -- place where its flag was found
+    -- The cases are whether the flag of the further place is set: then the closure was called with it.
     go : (u : Bool) → has (first + n) ≡ u → (u ≡ true → R p (first + n) q) → (u ≡ false → q ≡ p)
         → FoldsTo R v (filter has (range_with_len first n) ++ cond (has (first + n)) ((first + n) ∷ []) []) q
     go true e hits misses = rw e (FoldsTo-push R v (filter has (range_with_len first n)) p (first + n) q h (hits refl))
@@ -104,7 +109,8 @@ visited_more {F} R found first n v p q t is hit miss h =
         rw e (subst (λ xs. FoldsTo R v xs q) (sym (append-nil (filter has (range_with_len first n))))
         (subst (λ z. FoldsTo R v (filter has (range_with_len first n)) z) (sym (misses refl)) h))
 
--- no flag stands from here on
+-- if no flag is set from a place on, the closure that was called up to this place was called up to each
+-- later place too
 pub visited_rest : {F : Type 0} (R : F → ℕ → F → Type 0) (found first n m : ℕ) (v p : F)
     → ((i : ℕ) → n ≤ i → i < n + m → has_flag found (first + i) ≡ false) → Visited R found first v n p
     → Visited R found first v (n + m) p
@@ -131,10 +137,12 @@ clears_cons b e own all false less =
     let whole = sum_by-cons (λ x. cond (is_clear_of b x) 1 0) e all in
     omega arith
 
+-- One party's clears of a place are at most all clears of it.
 clears_of_party : (b p : ℕ) (es : List (Event ℕ)) → clears b (events_by p es) ≤ clears b es
 clears_of_party b p [] = omega arith
 clears_of_party b p (e ∷ es) = clears_cons b e (events_by p es) es (is_party p (whose e)) (clears_of_party b p es)
 
+-- the word that a step cleared had no flag of a place past the capacity
 pub found_clear : (cap word : ℕ) (v w : View ℕ) (room : OneWord) → 1 ≤ word
     → (s : Stepped Flags v w word room) → v.capacity ≡ cap → (place : ℕ) → element_of place ≡ word
     → cap ≤ place → has_flag room.0 place ≡ false
@@ -151,6 +159,7 @@ found_clear cap word v w room low s size place here past = go (has_flag room.0 p
         let zero : clears place s.history.trace.events ≡ 0 = omega arith in
         ap (clears place) s.history.is ∙ zero
 
+    -- The step's events clear a place as often as it is among the places whose flags the step found set.
     named : clears place (clear_events {T = ℕ} s.party word room.0) ≡ count_by (λ q. q == place) (places_in word room.0)
     named = clears_named ℕ s.party place (places_in word room.0)
 
@@ -181,7 +190,8 @@ found_clear cap word v w room low s size place here past = go (has_flag room.0 p
 -- ---- the call and its closure
 
 module _ {F : Type 0} (R : F → ℕ → F → Type 0) (cap : ℕ) (visit : F) where
-  -- the call stands here, and the closure was called with what it has cleared
+  -- The call that clears all flags stands at c in the view v, and the closure was called with just the
+  -- places that the call has cleared so far, all below its present word.
   pub record SoFar (base v : View ℕ) (c : Emptying) (m : OneWord) (f : F) : Type 0 where
     pub places : List ℕ
     pub call : WroteSoFar Flags cap (λ p. map (cleared_by p) places) base v c m
@@ -206,9 +216,11 @@ module _ {F : Type 0} (R : F → ℕ → F → Type 0) (cap : ℕ) (visit : F) w
       (h : SoFar base v c m f) (kept : room ≡ reset_all_kept m n) (a : After Emptying (Unit {0}))
       (goes_so : reset_all_after c n ≡ a)
       (told : (b : View ℕ) → At one_word kinds.Bits (empties Flags) b v c m → Goes Flags b a room w) where
+    -- The step emptied its word, in a machine of a bit set.
     its_step : Stepped Flags v w c.word room
     its_step = stepped Flags base v w c m room n h.call.at a goes_so told
 
+    -- The first word has no flags, so the step was at a later one.
     low : 1 ≤ c.word
     low = (words_left Flags cap (λ p. map (cleared_by p) h.places) base v c m h.call).1
 
@@ -221,7 +233,7 @@ module _ {F : Type 0} (R : F → ℕ → F → Type 0) (cap : ℕ) (visit : F) w
         (let above = low in let is : element_of place ≡ c.word = omega arith in is) past)))
         (cases_lt place cap)
 
-    -- the closure may be called there
+    -- the closure may be called with each place of the word that was just cleared
     pub may_visit : {pre : F → ℕ → Type 0} → TakesPlaces pre R cap visit → (k : ℕ) (now : F) → k < 64
         → has_flag room.0 (first_place c.word + k) ≡ true → Visited R room.0 (first_place c.word) f k now
         → pre now (first_place c.word + k)
@@ -235,7 +247,7 @@ module _ {F : Type 0} (R : F → ℕ → F → Type 0) (cap : ℕ) (visit : F) w
         (kept_all (λ y. y < first + k) (λ place. has_flag room.0 place) first k (λ p from to t. to)))
         (place_within (first + k) (omega arith) (omega arith) stood)
 
-    -- it has taken one step for each word
+    -- A reset that has ended took at most one step for each word of the set.
     pub cleared_steps : a ≡ Done tt → TakesAtMost (elements cap) base w
     cleared_steps is =
         let wrote : ℕ → List (Event ℕ) = λ p. map (cleared_by p) h.places in
@@ -249,21 +261,25 @@ module _ {F : Type 0} (R : F → ℕ → F → Type 0) (cap : ℕ) (visit : F) w
         bits_take (empties Flags) base w tt room h.call.idle cap h.call.size (omega arith) all.0
 
     module _ (g : F) (visited : Visited R room.0 (first_place c.word) f 64 g) where
+      -- The places that were cleared, with those of this word.
       abbrev all_places : List ℕ
       all_places = h.places ++ places_in c.word room.0
 
+      -- These places ascend below the capacity.
       up : Ascends cap all_places
       up =
           ascends_more cap (first_place c.word) h.places (places_in c.word room.0) h.ascend h.below (places_rise c.word room.0)
           (kept_all (λ y. y < cap) (λ place. has_flag room.0 place) (first_place c.word) 64 (λ p from to t. place_within p from to t))
 
+      -- The closure was called with all of them, and became g.
       all_folds : FoldsTo R visit all_places g
       all_folds = folds_more R h.places (places_in c.word room.0) visit f g h.folds visited
 
+      -- The events that clear the places of this word come behind those of the places before.
       same_events : (p : ℕ) → map (cleared_by p) h.places ++ clear_events p c.word room.0 ≡ map (cleared_by p) all_places
       same_events p = sym (map-append (cleared_by p) h.places (places_in c.word room.0))
 
-      -- where the call goes on, the closure was called with what it has cleared so far
+      -- where the call goes on to its next word, `SoFar` holds with the places that it has just cleared
       pub so_far_on : (next : Emptying) → a ≡ GoOn next → SoFar base w next room g
       so_far_on next is =
           let word : next.word ≡ c.word + 1 = ap (λ (z : Emptying). z.word) (goes_next c n next (goes_so ∙ is)).0 in
@@ -321,10 +337,12 @@ cleared_none R visit base w made =
 
 module _ {F : Type 0} {R : F → ℕ → F → Type 0} {visit : F} {base w : View ℕ} {capacity : ℕ} (size : base.capacity ≡ capacity)
     (done : HasDone kinds.Bits base w) where
+  -- A reset that has cleaned out the set has done what `ResetAllDone` says.
   pub reset_all : {cap : ℕ} {visited : F} → cap ≡ capacity → HasCleanedOut R cap visit visited base w → ResetAllDone R capacity visit visited base w
   reset_all {visited = visited} same made =
       let all = subst (λ n. HasCleanedOut R n visit visited base w) same made in
       record { cleared = all; stood = missed_none capacity base w _ size done all.made }
 
+  -- A reset of a set without places has done what `ResetAllDone` says, with no place.
   pub reset_none : 0 ≡ capacity → HasMade emptying answers.Done (λ by. []) base w → ResetAllDone R capacity visit visit base w
   reset_none none made = reset_all none (cleared_none R visit base w made)

@@ -31,9 +31,11 @@ module _ (place : ℕ) where
         tells_all = λ capacity p from c e m n es stands skip wrote is still. ap (λ (zs : List (Event ℕ)). zs ++ []) wrote;
       }
     where
+      -- The word of a place below the capacity is a word of the set.
       near : (capacity : ℕ) → place < capacity → element_of place < 1 + elements capacity
       near capacity below = omega arith
 
+      -- The call goes on after what the driver hands back of its load as after the number that the word had.
       hears : (c : Looking) (a : Ask) (n : ℕ) → is_set_want c place ≡ wants.Ask a → is_set_after c place (answered a.op n) ≡ is_set_after c place n
       hears c a n e =
           let same : record { word = element_of place; op = Load } ≡ a = cc in
@@ -47,12 +49,14 @@ module _ (place : ℕ) where
       keeps_all one_word kinds.Bits set_effects (λ capacity. 1 + elements capacity) (bits_owe one_word) (λ c. is_set_want c place)
       (λ c n. is_set_after c place n) (λ c m n. m) (looks_at place) is_call (λ c n. refl)
 
+  -- A look at a place below the capacity is about to begin.
   pub look_first : (v : View ℕ) (c : Looking) (m : Unit {0}) → IsIdle v.capacity v → place < v.capacity
       → At one_word kinds.Bits (looks_at place) v v c m
   look_first v c m idle place_below_capacity = grind (arith, nat_le, nat_tests, bits_starts, one_word, looks_at)
 
   module _ (base w : View ℕ) (answer : Bool) (m : Unit {0}) (idle : base.going ≡ None)
       (ends : Ends one_word kinds.Bits (looks_at place) base answer m w) where
+    -- The look is a call of the history that wrote nothing.
     made : HasMade (Bits (IsSet place)) (Truth answer) (λ by. []) base w
     made = grind (arith, has_made, looks_at)
 

@@ -24,12 +24,15 @@ use Rattle.lock_free_sets.specs.Bits.Stages.{ResetStands, reset_so_far, reset_wr
 use Rattle.lock_free_sets.specs.Bits.Contracts.{HasReset, AllClearOnce, CameFromPosition, ResetDone, ResetNothing}
 use Rattle.lock_free_sets.proofs.Ends.{has_made, before_end, to_end}
 
+-- A place that the scan comes to is below the capacity.
 place_below : (cap start passed : ℕ) → start ≤ cap → passed < cap → place_after cap start passed < cap
 place_below cap start passed start_up_to_cap passed_below_cap = grind (arith, by_test, nat_lt, nat_tests)
 
+-- The position where the scan begins is at most the capacity.
 at_most_below : (cap position : ℕ) → at_most cap position ≤ cap
 at_most_below cap position = grind (arith, by_test, nat_lt, nat_tests)
 
+-- The reset in a set of this capacity, at this stage.
 abbrev at_stage : ℕ → ResetNextStage → Resetting
 at_stage cap stage = record { capacity = cap; stage = stage }
 
@@ -40,9 +43,11 @@ abbrev Stands : ℕ → ℕ → After Resetting (Option ℕ) → List (Event ℕ
 Stands cap p (GoOn d) es = (d.capacity ≡ cap) × ResetStands cap d.stage × (es ≡ reset_so_far p d.stage)
 Stands cap p (Done o) es = IsPlace cap o × (es ≡ reset_wrote p o)
 
+-- A reset that comes to a next place stands at a stage that there is, and has written nothing.
 comes_to : (cap p start passed : ℕ) (from : ResetNextStage) → start ≤ cap → Stands cap p (reset_comes_to (at_stage cap from) start passed) []
 comes_to cap p start passed from start_up_to_cap = grind (arith, by_test, nat_lt, nat_tests)
 
+-- A test of the flag leaves the reset at a stage that there is, and writes nothing.
 tests : (cap p start passed k : ℕ) (from : ResetNextStage) → start ≤ cap → passed < cap → Stands cap p (reset_tests (at_stage cap from) start passed k) []
 tests cap p start passed k from start_up_to_cap passed_below_cap = grind (arith, by_test, has_flag, place_after, reset_comes_to, comes_to)
 
@@ -63,22 +68,27 @@ takes cap p n m (resets.ExchangesElement start passed found) reset_stands = go (
     go false t = rw t (tests cap p start passed n (resets.ExchangesElement start passed found) reset_stands.0 reset_stands.1)
 takes cap p n m (resets.StoresPosition place) reset_stands = (reset_stands, refl)
 
+-- Where a reset goes on it stands at a stage that there is, and what it wrote so far fits that stage.
 stands_on : (cap p n : ℕ) (m : Unit {0}) (c : Resetting) → (c.capacity ≡ cap) × ResetStands cap c.stage
     → Stands cap p (reset_after c n) (reset_so_far p c.stage ++ set_effects p (resets_next.flight c m) n)
 stands_on cap p n m c both = grind (arith, reset_after, reset_so_far, set_effects, resets_next, takes)
 
 -- ---- it is a call of the model
 
+-- the model's call goes on, or ends, as this call does after the answer n
 abbrev Goes : Resetting → Unit {0} → ℕ → After Resetting (Option ℕ) → Type 0
 Goes c m n a = after_of one_word ((resets_next {T = ℕ}).flight c m) n ≡ goes resets_next a m
 
+-- The model's call goes on after each number that a step finds just as that of `steps`.
 same_after : (c : Resetting) (m : Unit {0}) (n : ℕ) → Goes c m n (reset_after c n)
 same_after c m n = go (reset_after c n) refl
   where
+    -- the cases are whether the reset goes on or has ended
     go : (a : After Resetting (Option ℕ)) → reset_after c n ≡ a → Goes c m n a
     go (GoOn d) e = rw e refl
     go (Done o) e = rw e refl
 
+-- The call asks for a word of the set at each of its stages.
 asks : (cap : ℕ) (c : Resetting) → (c.capacity ≡ cap) × ResetStands cap c.stage → (a : Ask) × (a.word < 1 + elements cap) × (reset_want c ≡ wants.Ask a)
 asks cap c h = subst (λ k. (a : Ask) × (a.word < 1 + elements cap) × (reset_asks k c.stage ≡ wants.Ask a)) (sym h.0) (at c.stage h.1)
   where
@@ -121,6 +131,7 @@ hears c a n e = at c.stage e
         ap (λ (z : Ask). reset_takes c (resets.ExchangesElement start passed found) (answered z.op n)) (sym same)
     at (resets.StoresPosition place) w = refl
 
+-- A `reset_next` is a call of the model.
 is_call : IsCallOf one_word set_effects (λ capacity. 1 + elements capacity) reset_want reset_after (λ c m n. m) (resets_next {T = ℕ})
 is_call = grind (arith, same_after, hears, reset_so_far, set_effects, resets_next, stands_on, asks)
 
@@ -132,18 +143,22 @@ next_keeps =
     keeps_all one_word kinds.Bits set_effects (λ capacity. 1 + elements capacity) (bits_owe one_word) reset_want
     reset_after (λ c m n. m) resets_next is_call (λ c n. refl)
 
+-- A `reset_next` is about to begin.
 pub next_first : (v : View ℕ) (m : Unit {0}) → IsIdle v.capacity v → At one_word kinds.Bits resets_next v v (first_reset v.capacity) m
 next_first v m idle = grind (arith, bits_starts, one_word, resets_next, first_reset)
 
 -- base and w are what the pass knew before the call and after it, o is the place that it answers
 module _ (base w : View ℕ) (o : Option ℕ) (m : Unit {0}) (idle : base.going ≡ None) (ends : Ends one_word kinds.Bits resets_next base o m w) where
+  -- The reset is a call of the history, which cleared the place that it answers.
   cleared : HasReset o base w
   cleared =
       has_made kinds.Bits resets_next base w o m ends idle (λ by. reset_wrote by o) (ends.tells.1 idle)
 
+  -- A place that `reset_next` answers is below the capacity.
   place_in : IfSome o (λ place. place < base.capacity)
   place_in = go o ends.tells.0
     where
+      -- the cases are whether the reset found a place
       go : (x : Option ℕ) → IsPlace base.capacity x → IfSome x (λ place. place < base.capacity)
       go None place = tt
       go (Some place) is_place = is_place
@@ -187,6 +202,7 @@ module _ (base w : View ℕ) (o : Option ℕ) (m : Unit {0}) (idle : base.going 
           came = came_from place some;
         })
 
+    -- A reset that found nothing has met each place clear at some moment.
     pub found_nothing : o ≡ None → ResetNothing capacity base w
     found_nothing none =
         subst (λ n. ResetNothing n base w) size (record { cleared = subst (λ z. HasReset z base w) none cleared; clear = all_clear none })

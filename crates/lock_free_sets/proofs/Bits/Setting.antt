@@ -19,10 +19,12 @@ use Rattle.lock_free_sets.specs.Bits.Contracts.{HasSet, StoodOnce, SetDone}
 use Rattle.lock_free_sets.proofs.Ends.{has_made, before_end, to_end}
 
 module _ (place : ℕ) where
+  -- The model's call goes on after each number that a step finds just as that of `steps`.
   same_after : (c : Setting) (m : Unit {0}) (n : ℕ)
       → after_of one_word ((sets_place {T = ℕ} place).flight c m) n ≡ goes (sets_place place) (set_after c place n) m
   same_after c m n = at c.stage
     where
+      -- After the load, the cases are whether the flag of the place was set.
       tests : (b : Bool) → has_flag n place ≡ b → (k : SetStage)
           → after_of one_word ((sets_place {T = ℕ} place).flight (record { stage = sets.LoadsElement }) m) n
           ≡ goes (sets_place place) (set_tests place n) m
@@ -42,15 +44,19 @@ module _ (place : ℕ) where
           go true t = rw t refl
           go false t = test (has_flag n place) refl
             where
+              -- After an exchange that found another number, the cases are whether the flag of the
+              -- place is set in it.
               test : (b : Bool) → has_flag n place ≡ b
                   → after_of one_word ((sets_place {T = ℕ} place).flight (record { stage = sets.ExchangesElement found }) m) n
                   ≡ goes (sets_place place) (set_after (record { stage = sets.ExchangesElement found }) place n) m
               test true u = rw (t, u) refl
               test false u = rw (t, u) refl
 
+  -- The call asks for the word of its place at each of its stages.
   asks : (capacity : ℕ) (c : Setting) → place < capacity → (a : Ask) × (a.word < 1 + elements capacity) × (set_want c place ≡ wants.Ask a)
   asks capacity c below = at c.stage
     where
+      -- The word of a place below the capacity is a word of the set.
       near : element_of place < 1 + elements capacity
       near = omega arith
 
@@ -58,10 +64,13 @@ module _ (place : ℕ) where
       at sets.LoadsElement = (record { word = element_of place; op = Load }, near, refl)
       at (sets.ExchangesElement found) = (record { word = element_of place; op = Exchange found (with_flag found place) }, near, refl)
 
+  -- The call goes on after what the driver hands back of an operation just as after the
+  -- number that the word had.
   hears : (c : Setting) (a : Ask) (n : ℕ) → set_want c place ≡ wants.Ask a → set_after c place (answered a.op n) ≡ set_after c place n
   hears c a n e = at c.stage e
     where
-      -- at each of its stages the call goes on after what it is handed as after what its word had
+      -- At each stage of a set, what the driver hands back of its operation leads on as the number that
+      -- the word had.
       at : (stage : SetStage) → set_want (record { stage = stage }) place ≡ wants.Ask a
           → set_after (record { stage = stage }) place (answered a.op n) ≡ set_after (record { stage = stage }) place n
       at sets.LoadsElement w =
@@ -76,13 +85,16 @@ module _ (place : ℕ) where
   Wrote p (GoOn d) es = es ≡ []
   Wrote p (Done b) es = es ≡ set_wrote p place b
 
+  -- A test of the flag writes no event: it ends the call with false, or goes on to the exchange.
   tested : (p n : ℕ) → Wrote p (set_tests place n) []
   tested p n = go (has_flag n place) refl
     where
+      -- the cases are whether the flag of the place was set already
       go : (b : Bool) → has_flag n place ≡ b → Wrote p (set_tests place n) []
       go true t = rw t refl
       go false t = rw t refl
 
+  -- A step that ends the call writes the event of its answer, and any other step writes none.
   writes : (p : ℕ) (c : Setting) (m : Unit {0}) (n : ℕ) → Wrote p (set_after c place n) (set_effects p ((sets_place place).flight c m) n)
   writes p c m n = at c.stage
     where
@@ -91,12 +103,14 @@ module _ (place : ℕ) where
       at sets.LoadsElement = tested p n
       at (sets.ExchangesElement found) = go (n == found) refl
         where
+          -- the cases are whether the word was as the call had found it
           go : (b : Bool) → (n == found) ≡ b
               → Wrote p (set_after (record { stage = sets.ExchangesElement found }) place n)
               (set_effects p ((sets_place place).flight (record { stage = sets.ExchangesElement found }) m) n)
           go true t = rw t refl
           go false t = rw t (tested p n)
 
+  -- A set is a call of the model.
   is_call : IsCallOf one_word set_effects (λ capacity. 1 + elements capacity) (λ c. set_want c place)
       (λ c n. set_after c place n) (λ c m n. m) (sets_place {T = ℕ} place)
   is_call = grind (arith, same_after, hears, asks, set_effects, sets_place, writes)
@@ -109,11 +123,13 @@ module _ (place : ℕ) where
       keeps_all one_word kinds.Bits set_effects (λ capacity. 1 + elements capacity) (bits_owe one_word)
       (λ c. set_want c place) (λ c n. set_after c place n) (λ c m n. m) (sets_place place) is_call (λ c n. refl)
 
+  -- A set at a place below the capacity is about to begin.
   pub set_first : (v : View ℕ) (m : Unit {0}) → IsIdle v.capacity v → place < v.capacity → At one_word kinds.Bits (sets_place place) v v first_set m
   set_first v m idle place_below_capacity = grind (arith, nat_le, nat_tests, bits_starts, one_word, sets_place, first_set)
 
   -- base and w are what the pass knew before the call and after it, b is its answer
   module _ (base w : View ℕ) (b : Bool) (m : Unit {0}) (idle : base.going ≡ None) (ends : Ends one_word kinds.Bits (sets_place place) base b m w) where
+    -- The set is a call of the history with its answer.
     added : HasSet place b base w
     added =
         has_made kinds.Bits (sets_place place) base w b m ends idle (λ by. set_wrote by place b) ends.tells
@@ -129,5 +145,6 @@ module _ (place : ℕ) where
         let right = set.answers before [] (Finished made.by (Bits (Set place)) (Truth false)) (sym h.is ∙ is) in
         record { by = made.by; before = before; is = is; stood = right }
 
+    -- A set that has ended has done what `SetDone` says.
     pub set_done : SetDone place b base w
     set_done = record { added = added; stood = stood }

@@ -41,6 +41,7 @@ module _ (old new : View ℕ) where
       let c = sum_made (λ e. cond (is_clear_of b e) 1 0) set.by (Bits (Set place)) (Truth true) wrote old new set.called in
       (omega arith, omega arith)
 
+  -- A set that answers false adds no set and no clear to what its pass made.
   pub set_adds_none : (place : ℕ) → HasSet place false old new → (b : ℕ) → (sets b new.made ≡ sets b old.made) × (clears b new.made ≡ clears b old.made)
   set_adds_none place set b =
       let s = sum_made (λ e. cond (is_set_of b e) 1 0) set.by (Bits (Set place)) (Truth false) [] old new set.called in
@@ -77,6 +78,7 @@ module _ (old new : View ℕ) where
       let c = sum_made (λ e. cond (is_clear_of b e) 1 0) reset.by (Bits ResetNext) (reset_answer (Some place)) wrote old new reset.called in
       (omega arith, omega arith)
 
+  -- A `reset_next` that finds nothing adds no set and no clear to what its pass made.
   pub reset_adds_none : HasReset None old new → (b : ℕ) → (sets b new.made ≡ sets b old.made) × (clears b new.made ≡ clears b old.made)
   reset_adds_none reset b =
       let s = sum_made (λ e. cond (is_set_of b e) 1 0) reset.by (Bits ResetNext) ResetNone [] old new reset.called in
@@ -90,12 +92,15 @@ module _ (old new : View ℕ) where
       → HasReset None old new → AllClearOnce capacity new → (b : ℕ) → sets b new.made ≡ clears b new.made
   none_left capacity history before after reset clear b = ⊎_elim below past (cases_lt b capacity)
     where
+      -- All sets of the place that were seen are the pass's own.
       sets_seen : sets b new.seen ≡ sets b new.made
       sets_seen = after (λ e. cond (is_set_of b e) 1 0)
 
+      -- All clears of the place that were seen are the pass's own.
       clears_seen : clears b new.seen ≡ clears b new.made
       clears_seen = after (λ e. cond (is_clear_of b e) 1 0)
 
+      -- The reset added no set, so all sets had been seen before it.
       sets_before : sets b old.seen ≡ sets b new.made
       sets_before = before (λ e. cond (is_set_of b e) 1 0) ∙ sym (reset_adds_none reset b).0
 
@@ -116,6 +121,7 @@ module _ (old new : View ℕ) where
           let end : List (Event ℕ) = Finished p (Bits ResetNext) ResetNone ∷ [] in
           let end_there : List (Event ℕ) = Finished q (Bits ResetNext) ResetNone ∷ [] in
           let front = old.seen ++ reset.called.others in
+          -- At some moment of the call the place was clear.
           let once = clear.clear b near in
           let whole : front ++ Begun p (Bits ResetNext) ∷ (reset.called.during ++ end) ≡ once.part ++ (once.rest ++ end_there) =
           sym reset.called.is ∙ (clear.is ∙ (ap (λ es. es ++ end_there) once.is ∙ append_assoc once.part once.rest end_there)) in
@@ -127,6 +133,7 @@ module _ (old new : View ℕ) where
           let party : q ≡ p = cc in
           let none : BeginsNone p (once.rest ++ end_there) =
           begins_none_more p once.rest end_there (subst (λ z. BeginsNone z once.rest) party once.within) tt in
+          -- All that was seen before the begin lies before that moment, so all sets of the place do.
           let reached =
           reaches (λ e. cond (is_set_of b e) 1 0) p (Bits ResetNext) front (reset.called.during ++ end) once.part
           (once.rest ++ end_there) whole none in

@@ -8,25 +8,31 @@ use Rattle.threaded.specs.Driver.{Next}
 use Rattle.lock_free_sets.specs.Bits.Resetting.{ResetAt, ResetEnds, ResetMay, ResetGoes}
 
 module _ (v w : View ℕ) (call : ResetNext) (a : After ResetNext (Option ℕ)) (goes : ResetGoes v call a w) where
+  -- Where a step has led to a next stage, the reset is under way at that stage.
   pub gone_on : (base : View ℕ) (next : ResetNext) → a ≡ GoOn next → ResetAt base v call tt → ResetAt base w next tt
   gone_on base next is at =
       subst (λ z. Next (λ (x : View ℕ). x.capacity) ResetAt ResetEnds base z tt w) is (goes base at)
 
+  -- Where a step has ended the reset, it has ended with that answer.
   pub has_ended : (base : View ℕ) (end : Option ℕ) → a ≡ Done end → ResetAt base v call tt → ResetEnds base end tt w
   has_ended base end is at =
       subst (λ z. Next (λ (x : View ℕ). x.capacity) ResetAt ResetEnds base z tt w) is (goes base at)
 
+  -- Where a step has led to a next stage, the reset may take a further step.
   pub may_go_on : (next : ResetNext) → a ≡ GoOn next → ResetMay v call → ResetMay w next
   may_go_on next is may = (may.0, gone_on may.0 next is may.1)
 
 -- ---- a load of an element that is clear leads to the next place, or to no place
 
 module _ (capacity start so_many : ℕ) where
+  -- The reset at its load of the next word, with this many places passed.
   abbrev pub loads : ℕ → ResetNext
   loads passed = record { capacity = capacity; stage = stages.LoadsElement start passed }
 
+  -- a reset that goes on to another flag has passed more places there, fewer than the capacity
   abbrev LoadsNext : ℕ → ℕ → ResetNext → Type 0
   LoadsNext other passed d = d.stage ≡ stages.LoadsElement other passed → (d ≡ loads passed) × (so_many < passed) × (passed < capacity)
 
+  -- A reset that loads a clear flag goes on with more places passed.
   pub loads_next : (k other passed : ℕ) (d : ResetNext) → reset_after (loads so_many) k ≡ GoOn d → LoadsNext other passed d
   loads_next k other passed d = grind (arith, by_test, at_reset, reset_tests, reset_comes_to, nat_lt, nat_tests)

@@ -32,6 +32,8 @@ module _ (place : ℕ) where
         tells_all = λ capacity p from c e m n es stands skip wrote is still. ap (λ zs. zs ++ Counted p place ∷ []) wrote;
       }
     where
+      -- The call goes on after what the driver hands back of its operation as after the
+      -- number that the word had.
       hears : (c : counting.Set) (a : Ask) (n : ℕ) → set_want c place ≡ wants.Ask a → set_after c (answered a.op n) ≡ set_after c n
       hears c a n e =
           let same : record { word = place; op = Add 1 } ≡ a = cc in
@@ -45,12 +47,14 @@ module _ (place : ℕ) where
       keeps_all one_word kinds.Counts set_effects (λ capacity. capacity) (counts_owe one_word) (λ c. set_want c place)
       (λ c n. set_after c n) (λ c m n. m) (counts_place place) is_call (λ c n. refl)
 
+  -- A count at a place below the capacity is about to begin.
   pub count_first : (v : View ℕ) (c : counting.Set) (m : Unit {0}) → IsIdle v.capacity v → place < v.capacity
       → At one_word kinds.Counts (counts_place place) v v c m
   count_first v c m idle place_below_capacity = grind (arith, nat_le, nat_tests, counts_starts, one_word, counts_place)
 
   module _ (base w : View ℕ) (number : ℕ) (m : Unit {0}) (idle : base.going ≡ None)
       (ends : Ends one_word kinds.Counts (counts_place place) base number m w) where
+    -- The count is a call of the history with its answer.
     counted : HasCounted place number base w
     counted = grind (arith, has_made, counts_place)
 
@@ -66,5 +70,6 @@ module _ (place : ℕ) where
         let right : AnswersCountOn p place number before = set.answers before [] last (sym h.is ∙ whole) in
         record { by = p; before = right.before; is = whole ∙ ap (λ es. es ++ last ∷ []) right.is; count = right.count }
 
+    -- A set that has ended has done what `SetDone` says.
     pub set_done : SetDone place number base w
     set_done = record { counted = counted; answers = answers }

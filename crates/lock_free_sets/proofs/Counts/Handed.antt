@@ -1,4 +1,5 @@
--- What a closure was called with so far, while a set is emptied, and that it is what the call wrote.
+-- What the closure of `reset_all` of a counting bit set was called with so far, and that it
+-- is what the call wrote.
 use Rattle.lock_free_sets.proofs.Names.{◌≡◌, ℕ, zero, suc, ◌+◌, ◌<◌, ◌^◌, List, [], ◌∷◌, ◌++◌, sym, refl, subst}
 use Rattle.lock_free_sets.proofs.Names.{arith, map, append-nil, All, FoldsTo, nat_tests, FoldsTo-push, All-push}
 use Rattle.lock_free_sets.proofs.Names.{All-weaker, all_pairs_push, BitState}
@@ -16,13 +17,16 @@ pub record Counted {F : Type 0} (R : F → BitState → F → Type 0) (cap low :
   pub folds : FoldsTo R v states p
 
 module _ {F : Type 0} (R : F → BitState → F → Type 0) (cap : ℕ) (v : F) where
+  -- At first no count was handed out.
   pub none_counted : (low : ℕ) → Counted R cap low v v
   none_counted low = grind arith
 
+  -- The list of the counts is empty then.
   pub none_states : (low : ℕ) → (none_counted low).states ≡ []
   unfolding none_counted
   none_states low = refl
 
+  -- A place without a count leaves the counts that were handed out.
   pub counted_on : (low : ℕ) (p q : F) → q ≡ p → Counted R cap low v p → Counted R cap (low + 1) v q
   counted_on low p q q_is_p counted = grind arith
 
@@ -53,6 +57,7 @@ module _ {F : Type 0} (R : F → BitState → F → Type 0) (cap : ℕ) (v : F) 
   found place zero = []
   found place (suc n) = record { bit = place; count = suc n } ∷ []
 
+  -- The event for a count that was found is that of taking it out.
   pub found_events : (p place n : ℕ) → map (taken_by p) (found place n) ≡ take_events p place n
   found_events p place n = grind (arith, suc, nat_tests)
 
@@ -69,6 +74,7 @@ module _ {F : Type 0} (R : F → BitState → F → Type 0) (cap : ℕ) (v : F) 
 
 -- ---- the closure at an equal capacity
 
+-- A closure that may be called with counts below a number may be so below an equal number.
 pub takes_counts_at : {F : Type 0} {pre : F → BitState → Type 0} {step : F → BitState → F → Type 0} {a b : ℕ} {f : F}
     → a ≡ b → TakesCounts pre step a f → TakesCounts pre step b f
 takes_counts_at {F} {pre} {step} {a} {b} {f} e takes_counts = subst (λ z. TakesCounts pre step z f) e takes_counts

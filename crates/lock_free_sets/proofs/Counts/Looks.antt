@@ -30,6 +30,7 @@ module _ (place : ℕ) where
         tells_all = λ capacity p from c e m n es stands skip wrote is still. ap (λ (zs : List (Event ℕ)). zs ++ []) wrote;
       }
     where
+      -- The call goes on after what the driver hands back of its load as after the number that the word had.
       hears : (c : Looking) (a : Ask) (n : ℕ) → count_want c place ≡ wants.Ask a → count_after c (answered a.op n) ≡ count_after c n
       hears c a n e =
           let same : record { word = place; op = Load } ≡ a = cc in
@@ -43,12 +44,14 @@ module _ (place : ℕ) where
       keeps_all one_word kinds.Counts set_effects (λ capacity. capacity) (counts_owe one_word) (λ c. count_want c place)
       (λ c n. count_after c n) (λ c m n. m) (looks_at place) is_call (λ c n. refl)
 
+  -- A look at a count below the capacity is about to begin.
   pub look_first : (v : View ℕ) (c : Looking) (m : Unit {0}) → IsIdle v.capacity v → place < v.capacity
       → At one_word kinds.Counts (looks_at place) v v c m
   look_first v c m idle place_below_capacity = grind (arith, nat_le, nat_tests, counts_starts, one_word, looks_at)
 
   module _ (base w : View ℕ) (number : ℕ) (m : Unit {0}) (idle : base.going ≡ None)
       (ends : Ends one_word kinds.Counts (looks_at place) base number m w) where
+    -- The look is a call of the history that wrote nothing.
     made : HasMade (Bits (Count place)) (Number number) (λ by. []) base w
     made = grind (arith, has_made, looks_at)
 

@@ -23,6 +23,8 @@ takes_within capacity events history b =
     let t = ap (takes b) history.is in
     omega arith
 
+-- The counts that were taken out at a place, in the events of a list of counts, sum up to what this
+-- list has at the place.
 takes_of : (p b : ℕ) (states : List BitState) → takes b (map (taken_by p) states) ≡ taken_at b states
 takes_of p b [] = refl
 takes_of p b (s ∷ states) =
@@ -61,7 +63,8 @@ module _ (old new : View ℕ) where
       let some = takes_of p b h.states in
       (omega arith, omega arith)
 
-  -- the count that the set answers is what was counted there and not taken out
+  -- with the whole share a `set` answers the counts of the place that its pass made, less what it took
+  -- out, modulo 2^64
   pub answers_count : (place number : ℕ) → ((f : Event ℕ → ℕ) → sum_by f new.seen ≡ sum_by f new.made)
       → HasCounted place number old new → AnswersCount place number new
       → number ≡ (counts place old.made - takes place old.made) % 2 ^ 64
@@ -72,12 +75,14 @@ module _ (old new : View ℕ) where
       let counted : List (Event ℕ) = Counted a.by place ∷ [] in
       let end : Event ℕ = Finished a.by (Bits (Set place)) (Number number) in
       let is_count : Event ℕ → ℕ = λ e. cond (is_count_of place e) 1 0 in
+      -- From the count's own act on, its end adds nothing, so the sums at the act are those in what was seen.
       let c : counts place new.seen ≡ counts place a.before + cond (place == place) 1 0 + 0 =
       ap (counts place) a.is
       ∙ (sum_by_push is_count (a.before ++ counted) end ∙ ap (λ n. n + 0) (sum_by_push is_count a.before (Counted a.by place))) in
       let t : takes place new.seen ≡ takes place a.before + 0 + 0 =
       ap (takes place) a.is ∙ (sum_by_push (take_of place) (a.before ++ counted) end
       ∙ ap (λ n. n + 0) (sum_by_push (take_of place) a.before (Counted a.by place))) in
+      -- All that was seen is what the pass made, by the whole share.
       let seen_c : counts place new.seen ≡ counts place new.made = all is_count in
       let seen_t : takes place new.seen ≡ takes place new.made = all (take_of place) in
       let m = made.0 in

@@ -20,7 +20,8 @@ use Rattle.lock_free_sets.proofs.Sets.Emptied.{emptying, Goes, WroteSoFar, first
 use Rattle.lock_free_sets.proofs.Counts.Handed.{Counted, none_counted, none_states, counted_found, found, found_events}
 
 module _ {F : Type 0} (R : F → BitState → F → Type 0) (cap : ℕ) (visit : F) where
-  -- the call stands here, and the closure was called with what it has taken
+  -- The call that takes all counts out stands at c in the view v, and the closure was called with just
+  -- the counts that the call has taken out so far.
   pub record SoFar (base v : View ℕ) (c : Emptying) (m : OneWord) (f : F) : Type 0 where
     pub handed : Counted R cap c.word visit f
     pub call : WroteSoFar Counts cap (λ p. map (taken_by p) handed.states) base v c m
@@ -41,10 +42,11 @@ module _ {F : Type 0} (R : F → BitState → F → Type 0) (cap : ℕ) (visit :
       (h : SoFar base v c m f) (kept : room ≡ reset_all_kept m n) (a : After Emptying (Unit {0}))
       (goes_so : reset_all_after c n ≡ a)
       (told : (b : View ℕ) → At one_word kinds.Counts (empties Counts) b v c m → Goes Counts b a room w) where
+    -- The word of the step is one of a place.
     pub within : c.word < cap
     within = grind (arith, words_left, map, taken_by)
 
-    -- it has taken one step for each place
+    -- A call that has emptied the set took at most one step for each place.
     pub taken_steps : a ≡ Done tt → TakesAtMost cap base w
     taken_steps is =
         let wrote : ℕ → List (Event ℕ) = λ p. map (taken_by p) h.handed.states in
@@ -57,13 +59,16 @@ module _ {F : Type 0} (R : F → BitState → F → Type 0) (cap : ℕ) (visit :
         counts_take (empties Counts) base w tt room h.call.idle cap h.call.size (omega arith) all.0
 
     module _ (small : room.0 < 2 ^ 64) (g : F) (hit : 0 < room.0 → R f (record { bit = c.word; count = room.0 }) g) (miss : room.0 ≡ 0 → g ≡ f) where
+      -- With the count of this word, if there is one, the closure was called with all counts
+      -- below the next word.
       next_handed : (x : Counted R cap (c.word + 1) visit g) × (x.states ≡ h.handed.states ++ found R cap visit c.word room.0)
       next_handed = counted_found R cap visit c.word room.0 f g within small hit miss h.handed
 
+      -- The event that takes this count out comes behind those of the counts before.
       same_events : (p : ℕ) → map (taken_by p) h.handed.states ++ take_events p c.word room.0 ≡ map (taken_by p) next_handed.0.states
       same_events p = grind (arith, map, taken_by, found_events, map-append, found, next_handed)
 
-      -- where the call goes on, the closure was called with what it has taken out so far
+      -- where the call goes on to its next word, `SoFar` holds with the count that it has just taken out
       pub so_far_on : (next : Emptying) → a ≡ GoOn next → SoFar base w next room g
       so_far_on next is =
           record {
@@ -73,6 +78,7 @@ module _ {F : Type 0} (R : F → BitState → F → Type 0) (cap : ℕ) (visit :
                 (wrote_on Counts cap (λ p. map (taken_by p) h.handed.states) base v c m h.call w room n kept a goes_so told next is);
           }
         where
+          -- The counts that were handed out, read as those below the next word.
           moved : (x : Counted R cap next.word visit g) × (x.states ≡ next_handed.0.states)
           moved =
               subst (λ k. (x : Counted R cap k visit g) × (x.states ≡ next_handed.0.states))
@@ -117,10 +123,12 @@ taken_none R visit base w made =
 
 module _ {F : Type 0} {R : F → BitState → F → Type 0} {visit : F} {base w : View ℕ} {capacity : ℕ} (size : base.capacity ≡ capacity)
     (done : HasDone kinds.Counts base w) where
+  -- A call that has taken all counts out has done what `ResetAllDone` says.
   pub reset_all : {cap : ℕ} {visited : F} → cap ≡ capacity → HasTakenOut R cap visit visited base w → ResetAllDone R capacity visit visited base w
   reset_all {visited = visited} same made =
       let all = subst (λ n. HasTakenOut R n visit visited base w) same made in
       record { taken = all; stood = missed_none capacity base w _ size done all.made }
 
+  -- Of a set without places, `ResetAllDone` holds with no count.
   pub reset_none : 0 ≡ capacity → HasMade emptying answers.Done (λ by. []) base w → ResetAllDone R capacity visit visit base w
   reset_none none made = reset_all none (taken_none R visit base w made)

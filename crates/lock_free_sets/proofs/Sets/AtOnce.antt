@@ -36,6 +36,7 @@ module _ {T C M E : Type 0} (machines : LoneMachines T) (call : Calling T C M E)
   owes_once v c m m' end first asks_none never ends_so tells none words slots id word below = (
     below,
     λ s r long at small. (
+        -- the machine of the table, on which the party of this seat may begin the call
         let finds = never c m 0 in
         let there = lone_machines machines in
         let y = ready there call s v v.capacity id c m r at refl v (inl first) in
@@ -47,6 +48,7 @@ module _ {T C M E : Type 0} (machines : LoneMachines T) (call : Calling T C M E)
           asks_it = asks_none;
           finds = finds;
         } in
+        -- after the step: the table's words stay, and the rule holds of the new view
         let u = after_turn y.u (Next y.p) in
         let own : AreOf y.p (effects y.p (call.flight c m) 0) =
         ((laws v.capacity).goes_on y.u y.between.run y.p call.start (call.flight c m) y.there).own 0 in (
@@ -63,6 +65,7 @@ module _ {T C M E : Type 0} (machines : LoneMachines T) (call : Calling T C M E)
               (settle code kind v.capacity id y.p y.owner (v.asked + 1) (v.aside + 1) s.words s v
               (then_gained there call step) u at first.some
               (next_between there call step) (gains_then there call step)),
+          -- the call has ended, with what it wrote
           (
             ends_then there call step v (inl first) end m'
                 (goes_on_alike code kind v.capacity (size_of v.capacity) (λ w. effects)

@@ -16,13 +16,16 @@ use Rattle.lock_free_sets.specs.Sets.Stages.{all_words, flight_word, word_of, fl
 use Rattle.lock_free_sets.proofs.Ends.{done, has_made}
 use Rattle.lock_free_sets.proofs.Sets.Emptying.{goes_next, ends_last, begins, first_at}
 
+-- The begin of a call that empties a set.
 abbrev pub emptying : Start ℕ
 emptying = Bits ResetAll
 
+-- The flight stands at the word of the call.
 has_word : (kind : SetKind) (c : Emptying) (m : OneWord) → flight_word (flight_at {T = ℕ} kind c m) ≡ c.word
 has_word Flags c m = refl
 has_word Counts c m = refl
 
+-- The call begins at the first word that has places.
 word_at_first : (kind : SetKind) (n : ℕ) → (all_words kind n).word ≡ first_word kind
 word_at_first Flags n = refl
 word_at_first Counts n = refl
@@ -32,7 +35,8 @@ begins_at : (kind : SetKind) (n : ℕ) (c : Emptying) (m : OneWord)
     → first_of (machine_kind kind) n emptying ((opening_of (machine_kind kind)).kept n) ≡ Some (flight_at kind c m) → c.word ≡ first_word kind
 begins_at kind n c m first_of_is = grind (arith, flight_at, all_words, fresh, begins, has_word, flight_word, word_at_first)
 
--- the call stands here, and has written this
+-- the call that empties a set of this capacity stands at c in the view v, and has written just `wrote`
+-- since it began at `base`
 pub record WroteSoFar (kind : SetKind) (cap : ℕ) (wrote : ℕ → List (Event ℕ)) (base v : View ℕ) (c : Emptying) (m : OneWord) : Type 0 where
   pub at : At one_word (machine_kind kind) (empties kind) base v c m
   pub size : base.capacity ≡ cap
@@ -49,6 +53,8 @@ pub record Stepped (kind : SetKind) (v w : View ℕ) (word : ℕ) (room : OneWor
   pub history : IsHistory one_word (machine_kind kind) v.capacity w.seen
 
 module _ (kind : SetKind) where
+  -- the call that empties a set stands at a word; `EndsAll` that it has ended, and `Goes` that it has
+  -- gone on or ended
   abbrev pub AtWord : View ℕ → View ℕ → Emptying → OneWord → Type 0
   AtWord = At one_word (machine_kind kind) (empties kind)
 
@@ -58,7 +64,7 @@ module _ (kind : SetKind) where
   abbrev pub Goes : View ℕ → After Emptying (Unit {0}) → OneWord → View ℕ → Type 0
   Goes base a m w = Next (λ (z : View ℕ). z.capacity) AtWord EndsAll base a m w
 
-  -- it stands so as of its own view too
+  -- A call that stands at a word in the view v, as of a base, stands so as of v itself.
   pub itself : (base v : View ℕ) (c : Emptying) (m : OneWord) → AtWord base v c m → AtWord v v c m
   itself base v c m at_word = grind (arith, at_itself, one_word, machine_kind, empties, has_word)
 
@@ -66,31 +72,37 @@ module _ (kind : SetKind) where
   pub word_now : (base v : View ℕ) (c : Emptying) (m : OneWord) → base.going ≡ v.going → AtWord base v c m → word_of (first_word kind) v.going ≡ c.word
   word_now base v c m same_going at_word = grind (arith, word_of, first_word, begins_at, has_word)
 
+  -- The call ends behind the last word and stands at a word that has places.
   pub stands : (base v : View ℕ) (c : Emptying) (m : OneWord) → AtWord base v c m
       → (c.end ≡ words_of kind base.capacity) × (first_word kind ≤ c.word) × (c.word < c.end)
   stands base v c m (inl now) = now.standing
   stands base v c m (inr under) = under.standing
 
+  -- The call keeps the capacity that the pass knows.
   pub same_capacity : (base v : View ℕ) (c : Emptying) (m : OneWord) → AtWord base v c m → v.capacity ≡ base.capacity
   same_capacity base v c m at_word = grind arith
 
-  -- the call began at base and stands at c at v with room m; n is the word that its step found, w
-  -- what the pass knows then, f what was made so far
+  -- Of one step of the call: it began in the view base and stands at c in v with room m; n is the word
+  -- that the step found, w what the pass knows after it, and f what was written before.
   module _ (base v w : View ℕ) (c : Emptying) (m room : OneWord) (n : ℕ) (f : ℕ → List (Event ℕ))
       (idle : base.going ≡ None) (so_far : MadeSoFar emptying base v f) (at : AtWord base v c m)
       (kept : room ≡ reset_all_kept m n) where
+    -- What emptying this word writes.
     abbrev more : ℕ → List (Event ℕ)
     more p = emptied kind p c.word room.0
 
+    -- The flight in the view stands at the word of the call.
     from : word_of (first_word kind) v.going ≡ c.word
     from = word_now v v c m refl (itself base v c m at)
 
-    -- it has come to the next word
+    -- A step that leads to the next word has made what was made before it, and what the
+    -- emptying of its word wrote.
     pub goes_on : (next : Emptying) → reset_all_after c n ≡ GoOn next
         → ((b : View ℕ) → AtWord b v c m → AtWord b w next room)
         → MadeSoFar emptying base w (λ p. f p ++ emptied kind p c.word room.0) × AtWord base w next room
     goes_on next e told = (go (told v (itself base v c m at)), told base at)
       where
+        -- The next word is one further.
         word : next.word ≡ c.word + 1
         word = ap (λ (z : Emptying). z.word) (goes_next c n next e).0
 
@@ -105,7 +117,8 @@ module _ (kind : SetKind) where
             let is : under.wrote ≡ more under.party = under.tells.2 (word ∙ ap (λ z. z + 1) (sym from)) ∙ ap (λ z. emptied kind under.party z room.0) from in
             made_more emptying base v w f more under.wrote under.party (flight_at kind next room) idle so_far under.same under.mine under.going under.since is
 
-    -- it has emptied the last
+    -- The step at the last word ends the call, which wrote what was written before, and what the
+    -- emptying of that word wrote.
     pub ends_all : reset_all_after c n ≡ Done tt → ((b : View ℕ) → AtWord b v c m → EndsAll b tt room w)
         → (ends : EndsAll base tt room w) × (ends.wrote ≡ f ends.party ++ emptied kind ends.party c.word room.0)
     ends_all e told =
@@ -113,9 +126,11 @@ module _ (kind : SetKind) where
         let all = told base at in
         let far = ends_last c n tt e in
         let mine = stands v v c m (itself base v c m at) in
+        -- The call stands at the last word, so its step writes what emptying this word writes.
         let last : word_of (first_word kind) v.going + 1 ≡ words_of kind v.capacity = (let w = from in let i = mine.2 in let e = mine.0 in omega arith) in
         let is : here.wrote ≡ more here.party = here.tells last ∙ ap (λ z. emptied kind here.party z room.0) from in
         let same : here.party ≡ all.party = (let both : Some here.party ≡ Some all.party = sym here.mine ∙ all.mine in cc) in
+        -- What the pass made is its begin, what was written before, what this step wrote, and its end.
         let one : w.made ≡ base.made ++ Begun here.party emptying ∷ ((f here.party ++ more here.party) ++ Finished here.party emptying answers.Done ∷ []) =
         made_with emptying base v w f more (Finished here.party emptying answers.Done ∷ []) here.wrote here.party idle so_far here.same here.since is
         in
@@ -128,6 +143,8 @@ module _ (kind : SetKind) where
               (Finished all.party emptying answers.Done) (sym mine_all.made ∙ two),
         )
 
+  -- a step of the call on a word has written what emptying this word writes, and the pass knows the
+  -- history up to it
   pub stepped : (base v w : View ℕ) (c : Emptying) (m room : OneWord) (n : ℕ)
       → AtWord base v c m → (a : After Emptying (Unit {0})) → reset_all_after c n ≡ a
       → ((b : View ℕ) → AtWord b v c m → Goes b a room w) → Stepped kind v w c.word room
@@ -158,6 +175,7 @@ module _ (kind : SetKind) where
             is = under.tells.2 (word ∙ ap (λ z. z + 1) (sym from)) ∙ ap (λ z. emptied kind under.party z room.0) from;
             history = under.history;
           }
+  -- the case that the step was the last one: the call has ended, too
   stepped base v w c m room n at (Done end) e told =
       let mine = itself base v c m at in
       let here = told v mine in
@@ -174,11 +192,13 @@ module _ (kind : SetKind) where
         history = here.history;
       }
 
+  -- A call that is about to begin has written nothing so far.
   pub first_wrote : (cap : ℕ) (v : View ℕ) → IsIdle cap v → 0 < cap → WroteSoFar kind cap (λ p. []) v v (all_words kind cap) fresh
   first_wrote cap v is_idle cap_positive = grind (arith, all_words, fresh, first_at)
 
   -- the call began at base and stands at c at v with room m
   module _ (cap : ℕ) (wrote : ℕ → List (Event ℕ)) (base v : View ℕ) (c : Emptying) (m : OneWord) (h : WroteSoFar kind cap wrote base v c m) where
+    -- The call stands at a word that has places, and ends behind the last word.
     pub words_left : (c.end ≡ words_of kind cap) × (first_word kind ≤ c.word) × (c.word < c.end)
     words_left = grind (arith, words_of, first_word, stands)
 

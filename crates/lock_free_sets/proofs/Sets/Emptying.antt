@@ -27,15 +27,20 @@ use Rattle.lock_free_sets.proofs.Sets.AtOnce.{owes_once}
 -- ---- how it goes on
 
 module _ (c : Emptying) (n : ℕ) where
+  -- A step that goes on leads to the next word, which lies before the end.
   pub goes_next : (d : Emptying) → reset_all_after c n ≡ GoOn d → (d ≡ record { word = c.word + 1; end = c.end }) × (d.word < d.end)
   goes_next d = grind (arith, by_test, nat_lt, nat_tests)
 
+  -- A step that ends the call was at the last word.
   pub ends_last : (end : Unit {0}) → reset_all_after c n ≡ Done end → c.end ≤ c.word + 1
   ends_last end = grind (arith, by_test, nat_lt, nat_tests)
 
+-- At a word before the end the call asks for a swap of this word with 0.
 wants_word : (c : Emptying) → c.word < c.end → reset_all_want c ≡ wants.Ask (record { word = c.word; op = Swap 0 })
 wants_word c less = let t : nat_lt c.word c.end ≡ true = grind (arith, nat_tests) in rw t refl
 
+-- The call goes on, and fills its room, after what the driver hands back just as after the number that
+-- the word had.
 hears_word : (c : Emptying) (m : OneWord) (a : Ask) (n : ℕ) → reset_all_want c ≡ wants.Ask a
     → (reset_all_after c (answered a.op n) ≡ reset_all_after c n) × (reset_all_kept m (answered a.op n) ≡ reset_all_kept m n)
 hears_word c m a n e = go (nat_lt c.word c.end) refl
@@ -56,14 +61,18 @@ hears_word c m a n e = go (nat_lt c.word c.end) refl
 
 -- ---- it is a call of the model, of either kind
 
+-- The machine of a set of either kind keeps the laws of its kind.
 owes : (kind : SetKind) (capacity : ℕ) → KindLaws one_word (machine_kind kind) capacity (words_of kind capacity) set_effects
 owes Flags = bits_owe one_word
 owes Counts = counts_owe one_word
 
+-- The model's call asks for what that of `steps` asks for.
 same_want : (kind : SetKind) (c : Emptying) (m : OneWord) → want_of one_word (flight_at {T = ℕ} kind c m) ≡ reset_all_want c
 same_want Flags c m = refl
 same_want Counts c m = refl
 
+-- The model's call goes on after each number that a step finds just as that of `steps`,
+-- for both kinds of sets.
 same_after : (kind : SetKind) (c : Emptying) (m : OneWord) (n : ℕ)
     → after_of one_word (flight_at {T = ℕ} kind c m) n ≡ goes (empties kind) (reset_all_after c n) (reset_all_kept m n)
 same_after kind c m n = go kind (nat_lt (c.word + 1) c.end) refl
@@ -76,10 +85,12 @@ same_after kind c m n = go kind (nat_lt (c.word + 1) c.end) refl
     go Counts true t = rw t refl
     go Counts false t = rw t refl
 
+-- What a step of the model's call writes is what emptying its word writes.
 same_effects : (kind : SetKind) (p : ℕ) (c : Emptying) (m : OneWord) (n : ℕ) → set_effects {T = ℕ} p (flight_at kind c m) n ≡ emptied kind p c.word n
 same_effects Flags p c m n = refl
 same_effects Counts p c m n = refl
 
+-- The call pushes nothing into a queue.
 never : (kind : SetKind) → NeverPushes (flight_at {T = ℕ} kind)
 never Flags c m n = tt
 never Counts c m n = tt
@@ -92,6 +103,7 @@ module _ (kind : SetKind) where
         same_want = same_want kind;
         same_after = λ capacity c m n h. same_after kind c m n;
         hears = hears_word;
+        -- A step that goes on leads to the next word of the set.
         stays = λ capacity c d n stands e. (
             let next = goes_next c n d e in
             let word : d.word ≡ c.word + 1 = ap (λ (z : Emptying). z.word) next.0 in
@@ -102,6 +114,7 @@ module _ (kind : SetKind) where
         past = λ capacity c d n k h e. refl;
         finds = λ c m n small t. never kind c m n;
         leaves = λ c a n t e. absurd (cc);
+        -- What was written is told of one step: the one at the word at which the pass saw the call last.
         tells = λ capacity p from c d m n es stands wrote e. (
             let next = goes_next c n d e in
             let word : d.word ≡ c.word + 1 = ap (λ (z : Emptying). z.word) next.0 in
@@ -120,6 +133,8 @@ module _ (kind : SetKind) where
             all_of p c m n (word_of (first_word kind) from) here es (wrote.1 here));
       }
     where
+      -- what the step on the word at which the call stood wrote, behind nothing, is what
+      -- emptying this word writes
       all_of : (p : ℕ) (c : Emptying) (m : OneWord) (n from : ℕ) → c.word ≡ from → (es : List (Event ℕ)) → es ≡ []
           → es ++ set_effects p (flight_at kind c m) n ≡ emptied kind p from n
       all_of p c m n from here es none =
@@ -136,25 +151,28 @@ module _ (kind : SetKind) where
 
 -- ---- its begin
 
--- the model begins it so
+-- The machine begins the call at its first word, as the driver does.
 pub begins : (kind : SetKind) (n : ℕ)
     → first_of (machine_kind kind) n (Bits ResetAll) ((opening_of (machine_kind kind)).kept n) ≡ Some (flight_at {T = ℕ} kind (all_words kind n) fresh)
 begins Flags n = refl
 begins Counts n = refl
 
+-- The call is never refused.
 may : (kind : SetKind) (n p : ℕ)
     → first_row (begin_rows {T = ℕ} (machine_kind kind) n ((opening_of (machine_kind kind)).kept n) p (Bits ResetAll)) ≡ None
 may Flags n p = refl
 may Counts n p = refl
 
+-- At its begin, in a set with places, the call stands at a word that has places.
 stands_first : (kind : SetKind) (n : ℕ) → 0 < n
     → ((all_words kind n).end ≡ words_of kind n) × (first_word kind ≤ (all_words kind n).word) × ((all_words kind n).word < (all_words kind n).end)
 stands_first kind n n_positive = grind (arith, elements)
 
+-- Before its first step the call has written nothing.
 wrote_first : (kind : SetKind) (n p : ℕ) → (empties {T = ℕ} kind).wrote n p None (all_words kind n) fresh []
 wrote_first kind n p = grind arith
 
--- it may begin at any time, as the party that the pass was last
+-- The call may begin at any time, by the party that the pass was last.
 starts : (kind : SetKind) (call : Calling ℕ Emptying OneWord (Unit {0})) (v : View ℕ) (c : Emptying) (m : OneWord)
     → ((o : Option ℕ) (p : ℕ) → IfSome o (λ q. q ≡ p) → call.by o p)
     → first_of (machine_kind kind) v.capacity call.start ((opening_of (machine_kind kind)).kept v.capacity) ≡ Some (call.flight c m)
@@ -167,14 +185,17 @@ starts Flags = bits_starts one_word
 starts Counts = counts_starts one_word
 
 module _ (kind : SetKind) (v : View ℕ) (idle : IsIdle v.capacity v) where
+  -- The machine of a set of this kind, for the seats of a table.
   abbrev machines : LoneMachines ℕ
   machines = record { code = one_word; kind = machine_kind kind; effects = set_effects; size_of = words_of kind; laws = owes kind }
 
+  -- In a set with places the call is about to begin at its first word.
   pub first_at : 0 < v.capacity → At one_word (machine_kind kind) (empties kind) v v (all_words kind v.capacity) fresh
   first_at capacity_positive = grind (arith, stands_first, begins, starts, empties, all_words, fresh, may, wrote_first)
 
   -- ---- a set of no place
 
+  -- In a set without places the call is about to begin and has no word.
   none_first : IsFirst one_word (machine_kind kind) (empties_none kind) v v (all_words kind v.capacity) fresh
   none_first = grind (arith, begins, starts, empties_none, all_words, fresh, may)
 
@@ -203,6 +224,7 @@ module _ (kind : SetKind) (v : View ℕ) (idle : IsIdle v.capacity v) where
           rw t refl
       ends_so Counts = let t : nat_lt 1 v.capacity ≡ false = grind (arith, nat_tests) in rw t refl
 
+      -- In a set without places the call writes nothing.
       writes_none : (k : SetKind) (p : ℕ) → [] ++ set_effects {T = ℕ} p (flight_at k (all_words k v.capacity) fresh) 0 ≡ []
       writes_none Flags p = ap (map (λ b. Cleared p b)) (no_places 1)
       writes_none Counts p = refl

@@ -1,4 +1,4 @@
--- What is known of whole calls on a set.
+-- What contracts say of whole calls on a unique index set, from what their driver knows once they have ended.
 use Rattle.lock_free_sets.proofs.Names.{◌≡◌, ⊎_elim, ℕ, ◌+◌, ◌<◌, ◌≤◌, ◌==◌, Bool, true, false, Some, None, Ok}
 use Rattle.lock_free_sets.proofs.Names.{List, [], ◌∷◌, ◌++◌, refl, sym, ap, subst, ◌∙◌, append_assoc, arith, cases_lt}
 use Rattle.lock_free_sets.proofs.Names.{nat_tests, sum_by-append, Acquired, ReleaseState, Locked, Unlocked}
@@ -45,22 +45,28 @@ sound capacity v same history parties =
       lock = λ shut i. nothing i (once i) (none_held capacity v.seen history shut i);
     }
   where
+    -- An index that the pass holds has a party of the pass as its holder.
     by : (i : ℕ) → Holds i v.made → (p : ℕ) × (parties.owner p ≡ parties.seat) × (holder_of i v.seen ≡ Some p)
     by i holds = held_by parties.owner parties.seat history.trace.world.capacity i v.seen v.made (holds_right capacity v.seen history) parties.sums holds
 
+    -- An index that the pass holds is below the capacity.
     within : (i : ℕ) → Holds i v.made → i < v.capacity
     within i holds = subst (λ n. i < n) (sym same) (held_within capacity v.seen history i (by i holds).0 (by i holds).2)
 
+    -- An index that has no holder in what the pass has seen is freed as often as claimed in
+    -- what the pass made.
     nothing : (i : ℕ) → (sum_by (frees i) v.made ≤ sum_by (claims i) v.made) × (sum_by (claims i) v.made ≤ sum_by (frees i) v.made + 1)
         → holder_of i v.seen ≡ None → 0 + sum_by (frees i) v.made ≡ sum_by (claims i) v.made
     nothing i both none = ⊎_elim holds_it (λ less. (let low = both.0 in omega arith)) (cases_lt (sum_by (frees i) v.made) (sum_by (claims i) v.made))
       where
+        -- An index that the pass claimed more often than it freed has a holder, which was ruled out.
         holds_it : sum_by (frees i) v.made < sum_by (claims i) v.made → 0 + sum_by (frees i) v.made ≡ sum_by (claims i) v.made
         holds_it more =
             let high = both.1 in
             let is = (by i (omega arith)).2 in
             absurd (cc)
 
+-- A call that has ended leaves its pass sound.
 pub sound_after : {C M E : Type 0} {call : Calling ℕ C M E} {base w : View ℕ} {e : E} {m : M} → Ends one_word kinds.Indices call base e m w → IsSound w
 sound_after {base = base} {w = w} ends = sound base.capacity w ends.capacity ends.history ends.parties
 
@@ -79,15 +85,19 @@ sound_same v w size seen made is_sound =
 -- the last answer, and what stood before it
 module _ (base w : View ℕ) (same : w.capacity ≡ base.capacity) (h : IsHistory one_word kinds.Indices base.capacity w.seen) where
   module _ (p : ℕ) (start : IndexStart) (answer : Answer ℕ) (wrote : List (Event ℕ)) (c : Called p (Indices start) answer wrote base w) where
+    -- What was seen before the end of the call.
     abbrev before : List (Event ℕ)
     before = (base.seen ++ c.others) ++ Begun p (Indices start) ∷ c.during
 
+    -- The end of the call.
     abbrev last : Event ℕ
     last = Finished p (Indices start) answer
 
+    -- The end of the call was seen last.
     is_last : w.seen ≡ before ++ last ∷ []
     is_last = grind (arith, append_assoc)
 
+    -- The machine's events end with it.
     at_end : h.trace.events ≡ before ++ last ∷ []
     at_end = sym h.is ∙ is_last
 
@@ -104,12 +114,13 @@ module _ (base w : View ℕ) (same : w.capacity ≡ base.capacity) (h : IsHistor
               ((is_index_set h.trace h.run.of_kind h.run.reached).answers before [] last at_end);
         }
 
-    -- its answer is one of that call
+    -- the answer is one that this call can give
     pub fits_call : (done : SetActs) × (done_by start answer ≡ Some done)
     fits_call =
         let kept = subst (λ P. IsKeptBy P h.trace) (ap (promise_of {T = ℕ}) h.run.of_kind) (kept_on h.trace h.run.of_kind h.run.reached) in
         go (span_of p before) (kept.spans before [] last at_end)
       where
+        -- the cases are the spans that the party can have in the history
         go : (span : Span ℕ) → Stands promise h.trace.world.capacity last span → (done : SetActs) × (done_by start answer ≡ Some done)
         go Never stands = absurd stands
         go (Open call es) stands = (set_acts es, stands.1)
@@ -136,11 +147,13 @@ module _ (base w : View ℕ) (same : w.capacity ≡ base.capacity) (h : IsHistor
         is = append_assoc base.seen c.others (Begun p (Indices Acquire) ∷ c.during);
       }) few.1
 
+-- A release in the mode that does not lock answers Unlocked.
 never_locks : (index : ℕ) (state : ReleaseState) (done : SetActs) → done_by {T = ℕ} (Release index modes.Default) (State state) ≡ Some done → state ≡ Unlocked
 never_locks index Unlocked done e = refl
 never_locks index Locked done e = absurd (cc)
 
 module _ (base w : View ℕ) (m : Unit {0}) (idle : base.going ≡ None) where
+  -- An acquire that has ended is a call of the history with its answer.
   pub taken : (answer : Acquired) → Ends one_word kinds.Indices takes_index base answer m w → HasTaken answer base w
   taken answer ends =
       has_made kinds.Indices takes_index base w answer m ends idle (λ by. claimed_by by answer) ends.tells
@@ -166,11 +179,12 @@ module _ (base w : View ℕ) (m : Unit {0}) (idle : base.going ≡ None) where
           unlocked = right.2;
         }
 
-    -- the pass holds it then
+    -- Behind an acquire of an index the pass holds this index.
     pub holds : IsSound base → Holds i w.made
     holds was =
         let p = (taken (Ok i) ends).by in
         let c : Called p (Indices Acquire) (Index i) (Claimed p i ∷ []) base w = (taken (Ok i) ends).called in
+        -- The call adds one claim of the index to what the pass made, and no free.
         let more : List (Event ℕ) = Begun p (Indices Acquire) ∷ (Claimed p i ∷ Finished p (Indices Acquire) (Index i) ∷ []) in
         let it : (i == i) ≡ true = grind (arith, nat_tests) in
         let one : sum_by (claims i) more ≡ 1 = rw it refl in
@@ -183,25 +197,31 @@ module _ (base w : View ℕ) (m : Unit {0}) (idle : base.going ≡ None) where
         let after = (sound base.capacity w ends.capacity ends.history ends.parties).once i in
         omega arith
 
+  -- An acquire answers right by what came before its end.
   pub taken_answered : (answer : Acquired) → Ends one_word kinds.Indices takes_index base answer m w → Answered Acquire (acquire_answer answer) base w
   taken_answered answer ends = let t = taken answer ends in
       answered_by base w ends.capacity ends.history t.by Acquire (acquire_answer answer) (claimed_by t.by answer) t.called
 
+  -- A release that has ended is a call of the history, which frees its index.
   pub given : (index : ℕ) (state : ReleaseState) → Ends one_word kinds.Indices (gives_index index) base state m w → HasGiven index state base w
   given index state ends = grind (arith, has_made, gives_index)
 
+  -- A release that may lock, and has ended, is a call of the history with its answer.
   pub given_or_locked : (index : ℕ) (state : ReleaseState)
       → Ends one_word kinds.Indices (gives_or_locks index) base state m w → HasGivenOrLocked index state base w
   given_or_locked index state ends = grind (arith, has_made, gives_or_locks, given_by)
 
+  -- A count of the borrowed indices that has ended is a call of the history.
   pub counted : (n : ℕ) → Ends one_word kinds.Indices counts_out base n m w → HasCounted n base w
   counted n ends =
       has_made kinds.Indices counts_out base w n m ends idle (λ by. []) ends.tells
 
+  -- A call of `is_locked` that has ended is a call of the history.
   pub looked : (b : Bool) → Ends one_word kinds.Indices looks_locked base b m w → HasLooked b base w
   looked b ends =
       has_made kinds.Indices looks_locked base w b m ends idle (λ by. []) ends.tells
 
+  -- A release that may not lock answers Unlocked.
   pub unlocked : (index : ℕ) (state : ReleaseState) → Ends one_word kinds.Indices (gives_index index) base state m w → state ≡ Unlocked
   unlocked index state ends =
       let g = given index state ends in
@@ -216,16 +236,19 @@ module _ (base w : View ℕ) (m : Unit {0}) (idle : base.going ≡ None) where
       answered_by base w ends.capacity ends.history g.by (Release index modes.LockIfLastIndex) (State state)
       (given_by g.by index state) g.called
 
+  -- A count of the borrowed indices is right by what came before its end.
   pub counted_answered : (n : ℕ) → Ends one_word kinds.Indices counts_out base n m w → Answered BorrowedIndices (Number n) base w
   counted_answered n ends = let g = counted n ends in answered_by base w ends.capacity ends.history g.by BorrowedIndices (Number n) [] g.called
 
+  -- A count of the borrowed indices is at most the capacity.
   pub counted_most : (n : ℕ) → Ends one_word kinds.Indices counts_out base n m w → n ≤ base.capacity
   counted_most n ends = let g = counted n ends in at_most base w ends.capacity ends.history g.by n [] g.called
 
+  -- A call of `is_locked` answers right by what came before its end.
   pub looked_answered : (b : Bool) → Ends one_word kinds.Indices looks_locked base b m w → Answered IsLocked (Truth b) base w
   looked_answered b ends = let g = looked b ends in answered_by base w ends.capacity ends.history g.by IsLocked (Truth b) [] g.called
 
--- no index was held by both
+-- Two passes of one set hold no index in common, as a look of the joined pass shows.
 pub apart : (v other w : View ℕ) (i : ℕ)
     → Looks one_word kinds.Indices (joined_view v other).capacity (joined_view v other) w → Holds i v.made
     → Holds i other.made → ⊥

@@ -62,10 +62,12 @@ module _ (v w : View ℕ) (j : ℕ) where
       let is : sum_by (frees {T = ℕ} j) (given_by given_or_locked.by i state) ≡ one_if i j = one_free state in
       record { claimed = omega arith; freed = omega arith }
     where
+      -- A release claims no index.
       no_claim : (s : ReleaseState) → sum_by (claims {T = ℕ} j) (given_by {T = ℕ} given_or_locked.by i s) ≡ 0
       no_claim Unlocked = refl
       no_claim Locked = refl
 
+      -- A release frees its index once.
       one_free : (s : ReleaseState) → sum_by (frees {T = ℕ} j) (given_by {T = ℕ} given_or_locked.by i s) ≡ one_if i j
       one_free Unlocked = omega arith
       one_free Locked = omega arith
@@ -90,13 +92,15 @@ module _ (v w : View ℕ) (j : ℕ) where
 
 -- ---- lists of what is held
 
+-- A number stands in two lists together as often as in both.
 pub times_both : (i : ℕ) (xs ys : List ℕ) → times i (xs ++ ys) ≡ times i xs + times i ys
 times_both i xs ys = sum_by-append (λ x. one_if x i) xs ys
 
+-- A number stands in a list of one number once, if it is that number.
 pub times_one : (i j : ℕ) → times j (i ∷ []) ≡ one_if i j
 times_one i j = omega arith
 
--- what is acquired is held beside the others
+-- an acquire that took an index adds it to the indices that its pass holds
 pub held_taken : (v w : View ℕ) (is : List ℕ) (i : ℕ) → HeldBy is v.made → HasTaken (Ok i) v w → HeldBy (is ++ i ∷ []) w.made
 held_taken v w is i held h j =
     let m = taken_moves v w j i h in
@@ -122,7 +126,7 @@ held_given v w is i state held h j =
 pub held_joined : (is others : List ℕ) (mine theirs : List (Event ℕ)) → HeldBy is mine → HeldBy others theirs → HeldBy (is ++ others) (mine ++ theirs)
 held_joined is others mine theirs ours_held theirs_held index = grind (arith, times_both, sum_by-append, claims, frees)
 
--- a look leaves it, and a call that is refused
+-- A look, or a call that is refused, leaves the indices that the pass holds.
 pub held_still : (v w : View ℕ) (is : List ℕ) → HeldBy is v.made → ((j : ℕ) → Moves j 0 0 v w) → HeldBy is w.made
 held_still v w is held moves j =
     let m = moves j in
@@ -131,7 +135,7 @@ held_still v w is held moves j =
     let b = m.freed in
     omega arith
 
--- and what the one held is still held
+-- An index that one pass held is held by the join of it with another, if no index is held by both.
 pub holds_joined : (i : ℕ) (v other : View ℕ) → IsSound other → ((j : ℕ) → Holds j v.made → Holds j other.made → ⊥)
     → Holds i v.made → Holds i (v.made ++ other.made)
 holds_joined i v other sound apart mine =
@@ -144,7 +148,7 @@ holds_joined i v other sound apart mine =
     (λ less. omega arith)
     (cases_lt (sum_by (frees i) other.made) (sum_by (claims i) other.made))
 
--- in any order
+-- The order of the held indices does not count: one that stands within the list may stand first.
 pub held_moved : (i : ℕ) (xs ys : List ℕ) (made : List (Event ℕ)) → HeldBy (xs ++ i ∷ ys) made → HeldBy (i ∷ (xs ++ ys)) made
 held_moved i xs ys made held j =
     let was = held j in
@@ -165,7 +169,7 @@ held_first i is v sound held =
     let one_is : one_if i i ≡ 1 = rw t refl in
     omega arith
 
--- and no index is held twice
+-- The indices in the list of those that a pass holds all differ.
 pub held_apart : (is : List ℕ) (v : View ℕ) → IsSound v → HeldBy is v.made → AllPairs (λ i j. i ≢ j) is
 held_apart is v sound held = go is (λ i. (let was = held i in let most = sound.once i in omega arith))
   where
@@ -209,6 +213,7 @@ lock_apart v other w low low' sound is seen since shut = (
       omega arith),
 )
   where
+    -- Both passes together hold nothing.
     none : HoldsNothing (v.made ++ other.made)
     none = subst HoldsNothing is (sound.lock (lock_stays since shut))
 

@@ -30,11 +30,12 @@ use Rattle.lock_free_sets.proofs.Whole.Passed.{counted_as, goes_none}
 -- ---- sums beside what a fold makes of the events
 
 module _ {S : Type 0} (a b : Event ℕ → ℕ) (after : S → Event ℕ → S) (first : S) (weight : S → ℕ) where
+  -- This event keeps the balance: its `a` and the weight before it sum up to its `b` and the weight after it.
   abbrev Moves : List (Event ℕ) → Event ℕ → Type 0
   Moves before e = a e + weight (fold after first before) ≡ b e + weight (after (fold after first before) e)
 
-  -- over some events, the sum of a and the weight before them are the sum of b and the weight
-  -- after them, if this is so of each event
+  -- If each of some events balances so (`Moves`), then over all of them the sum of `a` and the weight
+  -- before are the sum of `b` and the weight after.
   adds : (before es : List (Event ℕ)) → Each Moves (before ++ es)
       → sum_by a es + weight (fold after first before) ≡ sum_by b es + weight (fold after first (before ++ es))
   adds before [] each =
@@ -56,6 +57,8 @@ module _ {S : Type 0} (a b : Event ℕ → ℕ) (after : S → Event ℕ → S) 
 -- ---- an index is claimed once more than it is freed where it has a holder
 
 module _ (c i : ℕ) (before : List (Event ℕ)) where
+  -- Each event of the history keeps the balance of an index: its claims, and 1 if it had a holder, are
+  -- its frees, and 1 if it has one then.
   moves : (e : Event ℕ) → HoldsRight c before e → claims i e + one_held (holder_of i before) ≡ frees i e + one_held (holder_after i (holder_of i before) e)
   moves (Claimed p index) h = go (index == i) refl
     where
@@ -85,11 +88,12 @@ module _ (c i : ℕ) (before : List (Event ℕ)) where
 
 -- ---- how long a list is whose numbers are below a bound
 
--- a list of numbers below c is as long as the times that each number below c stands in it add up
--- to
+-- the length of a list of numbers below c is the sum, over the numbers below c, of how often each
+-- stands in the list
 pub length_is : (c : ℕ) (is : List ℕ) → ((i : ℕ) → c ≤ i → times i is ≡ 0) → sum_below (λ i. times i is) c ≡ length is
 length_is c [] none = sum_none (λ i. times i []) c (λ i below. refl)
 length_is c (x ∷ xs) none =
+    -- The first number stands once more in the list than behind its head, and each other number as often.
     let here : times x (x ∷ xs) ≡ 1 + times x xs =
     (let t : (x == x) ≡ true = grind (arith, nat_tests) in
     let one : one_if x x ≡ 1 = rw t refl in
@@ -101,10 +105,12 @@ length_is c (x ∷ xs) none =
     let none_is : one_if x i ≡ 0 = rw t refl in
     let more = sum_by-cons (λ z. one_if z i) x xs in
     omega arith) in
+    -- So the sum for the rest grows by one.
     let rest = length_is c xs (λ i more. (let ne : i ≢ x = omega arith in sym (others i ne) ∙ none i more)) in
     let moved = sum_moved (λ i. times i (x ∷ xs)) (λ i. times i xs) c x below others in
     omega arith
 
+-- A sum whose terms are each at most those of another is at most that sum.
 sum_less : (f g : ℕ → ℕ) (n : ℕ) → ((i : ℕ) → f i ≤ g i) → sum_below f n ≤ sum_below g n
 sum_less f g zero less = omega arith
 sum_less f g (suc n) less = let here = less n in let rest = sum_less f g n less in omega arith
@@ -112,27 +118,35 @@ sum_less f g (suc n) less = let here = less n in let rest = sum_less f g n less 
 -- ---- the machine of a history
 
 module _ (capacity : ℕ) (seen : List (Event ℕ)) (h : IsHistory one_word kinds.Indices capacity seen) where
+  -- The trace of the history.
   abbrev t : Trace ℕ
   t = h.trace
 
+  -- The capacity of the machine.
   abbrev c : ℕ
   c = t.world.capacity
 
+  -- The laws of a unique index set, as a family of laws of the machine.
   abbrev of_set : frame.Family ℕ
   of_set = family t.world.coding c
 
+  -- The machine of the history keeps the laws of unique index sets.
   machine : frame.Sound of_set t
   machine = reached_on_sound t h.run.of_kind h.run.reached
 
+  -- Who holds each index, as the machine has it.
   abbrev hs : List (Option ℕ)
   hs = machine.state.holders
 
+  -- The laws that the machine keeps.
   abbrev laws : OfSet c machine.state t.world.latest t.events
   laws = machine.holds
 
+  -- Each claim of the history is of an index that nobody held, and each free is by its holder.
   pub holds_right : Each (HoldsRight c) seen
   holds_right = subst (Each (HoldsRight c)) (sym h.is) laws.holds
 
+  -- The holder of an index in the history is the one that the machine has.
   holder_is : (i : ℕ) → holder_of i seen ≡ holder hs i
   holder_is i = ap (holder_of i) h.is ∙ laws.holders i
 
@@ -140,6 +154,7 @@ module _ (capacity : ℕ) (seen : List (Event ℕ)) (h : IsHistory one_word kind
   past : (i : ℕ) → c ≤ i → holder hs i ≡ None
   past i more = get_or_past hs i None (let long = laws.good.long in omega arith)
 
+  -- An index that has a holder is below the capacity.
   pub held_within : (i p : ℕ) → holder_of i seen ≡ Some p → i < capacity
   held_within i p holder_of_is = grind (arith, past, holder_is, cases_lt)
 
@@ -162,13 +177,15 @@ module _ (capacity : ℕ) (seen : List (Event ℕ)) (h : IsHistory one_word kind
       let sums = adds (claims i) (frees i) (holder_after i) None one_held [] seen (λ before after e at. moves c i before e (holds_right before after e at)) in
       omega arith
 
+  -- In a locked set no index has a holder.
   none_below : is_locked seen ≡ true → held_below hs c ≡ 0
   none_below shut = sum_none (λ i. one_held (holder hs i)) c (λ i below. ap one_held (sym (holder_is i) ∙ none_held shut i))
 
+  -- The tally counts the indices that have a holder.
   counts_held : (tally_of seen).held ≡ held_below hs c
   counts_held = ap (λ (tally : Tally). tally.held) (ap tally_of h.is ∙ laws.tally)
 
-  -- who made all of it holds these, and has no call under way
+  -- Of a pass that made all that happened, holds the indices `is`, and has no call under way.
   module _ (made : List (Event ℕ)) (all : (f : Event ℕ → ℕ) → sum_by f seen ≡ sum_by f made) (done : IsDone made) (is : List ℕ) (held : HeldBy is made) where
     -- no party has a call under way
     idle : (p : ℕ) → flight_of (doing_of (party_of p t.world.latest)) ≡ None
@@ -179,25 +196,31 @@ module _ (capacity : ℕ) (seen : List (Event ℕ)) (h : IsHistory one_word kind
         let d = done p in
         goes_none (party_of p t.world.latest) (omega arith)
 
+    -- No call of any sort is under way.
     none_under : (weight : Flight ℕ → ℕ) → total weight t.world.latest machine.state.seats ≡ 0
     none_under weight = sum_none (weight_at weight t.world.latest) machine.state.seats (λ p below. ap (weight_of weight) (idle p))
 
+    -- An index stands in the list once just if it has a holder.
     times_is : (i : ℕ) → times i is ≡ one_held (holder hs i)
     times_is i = grind (arith, claims, frees, holder_counts, one_held, holder_is)
 
+    -- As many indices have a holder as the list has.
     held_is : held_below hs c ≡ length is
     held_is =
         sum_same (λ i. one_held (holder hs i)) (λ i. times i is) c (λ i below. sym (times_is i))
         ∙ length_is c is (λ i more. times_is i ∙ ap one_held (past i more))
 
-    -- so many are in use
+    -- the history's tally: as many indices are in use as the pass holds, and no acquire or
+    -- release is under way
     pub tally_is : tally_of seen ≡ record { held = length is; taking = 0; giving = 0 }
     tally_is =
         ap tally_of h.is ∙ (laws.tally ∙ same_tally (held_below hs c) (length is) _ 0 _ 0 held_is (none_under (of_any takes)) (none_under (of_any gives)))
 
+    -- The pass holds at most as many indices as the capacity.
     pub few : length is ≤ capacity
     few = grind (arith, held_below, all_counted, machine, held_is)
 
+    -- Once the set is locked, the pass with the whole share holds no index.
     pub none_left : is_locked seen ≡ true → length is ≡ 0
     none_left shut =
         let none = none_below shut in
@@ -208,12 +231,15 @@ module _ (capacity : ℕ) (seen : List (Event ℕ)) (h : IsHistory one_word kind
 
 module _ (capacity : ℕ) (v : View ℕ) (h : IsHistory one_word kinds.Indices capacity v.seen)
     (parties : IsOfParties v) (is : List ℕ) (held : HeldBy is v.made) where
+  -- Who holds each index, as the machine of the history has it.
   abbrev holders : List (Option ℕ)
   holders = hs capacity v.seen h
 
+  -- The capacity of the machine.
   abbrev size : ℕ
   size = h.trace.world.capacity
 
+  -- An index stands in the list of what the pass holds once at most, and not at all if it has no holder.
   times_most : (i : ℕ) → times i is ≤ one_held (holder holders i)
   times_most i = ⊎_elim holds_it (λ less. (let a = held i in omega arith)) (cases_lt (sum_by (frees i) v.made) (sum_by (claims i) v.made))
     where
@@ -228,6 +254,7 @@ module _ (capacity : ℕ) (v : View ℕ) (h : IsHistory one_word kinds.Indices c
           let a = held i in
           omega arith
 
+  -- The pass holds at most as many indices as have a holder in what it has seen.
   most_held : length is ≤ held_below holders size
   most_held =
       let less = sum_less (λ i. times i is) (λ i. one_held (holder holders i)) size times_most in

@@ -19,34 +19,38 @@ use Rattle.lock_free_sets.proofs.Unique.Holding.{held_taken, held_given, held_jo
 
 -- ---- shares
 
--- both halves, or as much as each, are as much as the whole
+-- a share that was split in half, and whose halves were joined again, is as much as before
 halves : (s x y : Share) → IsAsMuch x (half_of s) → IsAsMuch y (half_of s) → IsAsMuch (both_of x y) s
 halves s x y one two = go s.part s.parts x.part x.parts y.part y.parts one two
   where
+    -- what is claimed of the shares, for their numbers of parts
     go : (p q a b c d : ℕ) → a * (q + q) ≡ p * b → c * (q + q) ≡ p * d → (a * d + c * b) * q ≡ p * (b * d)
     go p q a b c d e f =
         let g : a * (q + q) * d ≡ p * b * d = ap (λ z. z * d) e in
         let h : c * (q + q) * b ≡ p * d * b = ap (λ z. z * b) f in
         omega arith
 
+-- Equal shares are as much.
 as_much : (s t : Share) → s ≡ t → IsAsMuch s t
 as_much s t is = subst (λ x. IsAsMuch x t) (sym is) refl
 
+-- A share that is equal to one that is as much as a third is as much as the third.
 still_as_much : (s t u : Share) → s ≡ t → IsAsMuch t u → IsAsMuch s u
 still_as_much s t u is same = subst (λ x. IsAsMuch x u) (sym is) same
 
+-- A share that is as much as the whole is the whole.
 all_of : (s : Share) → IsAsMuch s all_shares → IsAll s
 all_of s is = omega arith
 
 -- ---- one thread
 
--- a pass that made nothing yet
+-- A pass that has made no event holds no index.
 pub holds_none : {pass : Pass} {is : List ℕ} → made pass ≡ [] → is ≡ [] → Holding pass is pass
 holds_none {pass} {is} none empty =
     let nothing : HoldsNothing (made pass) = subst HoldsNothing (sym none) (λ i. refl) in
     record { set = refl; share = refl; held = subst (λ xs. HeldBy xs (made pass)) (sym empty) nothing }
 
--- it takes one more
+-- An acquire by the pass puts its index behind those that it holds.
 pub holds_more : {start was now : Pass} {is : List ℕ} (more : List ℕ) (i : ℕ) → Holding start is was → SamePass was now
     → HasAcquired i (view was) (view now) → more ≡ is ++ i ∷ [] → Holding start more now
 holds_more {start} {was} {now} {is} more i holding goes took list =
@@ -56,6 +60,7 @@ holds_more {start} {was} {now} {is} more i holding goes took list =
       held = subst (λ xs. HeldBy xs (made now)) (sym list) (held_taken (view was) (view now) is i holding.held took.taken);
     }
 
+-- What is left of a list from a place on is the element there and what is left behind it.
 next : (xs : List ℕ) (at : ℕ) → at < length xs → drop at xs ≡ get_or xs at 0 ∷ drop (at + 1) xs
 next xs at below = rw (add-one, drop-cons xs at 0) refl
 
@@ -65,7 +70,7 @@ pub holds_next : {start now : Pass} (is : List ℕ) (at : ℕ) → Holding start
 holds_next {start} {now} is at holding sound below =
     held_first (get_or is at 0) (drop (at + 1) is) (view now) sound (subst (λ xs. HeldBy xs (made now)) (next is at below) holding.held)
 
--- and then the others are held
+-- after a release of the first of these indices the pass holds the further ones
 pub holds_rest : {start was now : Pass} (is : List ℕ) (at : ℕ) {state : ReleaseState} → Holding start (drop at is) was
     → at < length is → SamePass was now → HasGiven (get_or is at 0) state (view was) (view now) → Holding start (drop (at + 1) is) now
 holds_rest {start} {was} {now} is at {state} holding below goes gave =
@@ -77,7 +82,7 @@ holds_rest {start} {was} {now} is at {state} holding below goes gave =
           (subst (λ xs. HeldBy xs (made was)) (next is at below) holding.held) gave;
     }
 
--- until nothing is
+-- A pass that has released all indices of the list holds none of them.
 pub holds_last : {start now : Pass} (is : List ℕ) (at : ℕ) → Holding start (drop at is) now → length is ≤ at → Holding start [] now
 holds_last {start} {now} is at holding past = subst (λ xs. Holding start xs now) (drop_all at is past) holding
 
@@ -115,5 +120,6 @@ none_out first was {given} {now} {n} is all taken gave goes counted whole =
     go : (a b p q : ℕ) → a * q ≡ p * b → p ≡ q → q * a ≡ q * b
     go a b p q e same = (let f : a * q ≡ q * b = subst (λ z. a * q ≡ z * b) same e in omega arith)
 
+    -- A share that is as much as the whole is the whole.
     same_whole : (s t : Share) → 0 < t.parts → IsAll t → IsAsMuch s t → IsAll s
     same_whole s t any whole_t same = same_factor t.parts s.part s.parts any (go s.part s.parts t.part t.parts same whole_t)

@@ -25,29 +25,36 @@ use Rattle.lock_free_sets.proofs.Unique.Machine.{tally_is, few, none_left, own_f
 -- ---- a call that was begun has ended
 
 module _ (base w : View ℕ) where
+  -- An acquire that has ended leaves each begun call ended.
   pub taken_done : (answer : Acquired) → HasTaken answer base w → IsDone base.made → IsDone w.made
   taken_done (Ok i) has_taken = still_done has_taken.by _ _ _ base w has_taken.called (tt, tt)
   taken_done (Err e) has_taken = still_done has_taken.by _ _ _ base w has_taken.called tt
 
+  -- A release that has ended leaves each begun call ended.
   pub given_done : (index : ℕ) (state : ReleaseState) → HasGiven index state base w → IsDone base.made → IsDone w.made
   given_done index state has_given = still_done has_given.by _ _ _ base w has_given.called (tt, tt)
 
+  -- A release that may lock, and has ended, leaves each begun call ended.
   pub locked_done : (index : ℕ) (state : ReleaseState) → HasGivenOrLocked index state base w → IsDone base.made → IsDone w.made
   locked_done index Unlocked has_given_or_locked = still_done has_given_or_locked.by _ _ _ base w has_given_or_locked.called (tt, tt)
   locked_done index Locked has_given_or_locked = still_done has_given_or_locked.by _ _ _ base w has_given_or_locked.called (tt, (tt, tt))
 
+  -- A count that has ended leaves each begun call ended.
   pub counted_done : (n : ℕ) → HasCounted n base w → IsDone base.made → IsDone w.made
   counted_done n has_counted = still_done has_counted.by _ _ _ base w has_counted.called tt
 
+  -- A call of `is_locked` that has ended leaves each begun call ended.
   pub looked_done : (b : Bool) → HasLooked b base w → IsDone base.made → IsDone w.made
   looked_done b has_looked = still_done has_looked.by _ _ _ base w has_looked.called tt
 
 -- ---- what an answer says of what is held
 
+-- What an answer speaks of is a beginning of what the pass has seen.
 last_of : {start : IndexStart} {answer : Answer ℕ} {old new : View ℕ} → (a : Answered start answer old new) → IsBeginning a.before new.seen
 last_of {start} {answer} {old} {new} a = record { rest = Finished a.by (Indices start) answer ∷ []; is = a.is }
 
 module _ (base w : View ℕ) (m : Unit {0}) (idle : base.going ≡ None) where
+  -- An acquire of an index by a sound pass has acquired it.
   pub acquired : (i : ℕ) → Ends one_word kinds.Indices takes_index base (Ok i) m w → IsSound base → HasAcquired i base w
   acquired i ends was = record { taken = taken base w m idle (Ok i) ends; free = free base w m idle i ends; holds = holds base w m idle i ends was }
 
@@ -96,12 +103,14 @@ module _ (base w : View ℕ) (m : Unit {0}) (idle : base.going ≡ None) where
         nothing = λ same. none_is_held ends;
       }
 
+  -- An acquire that answered an index has acquired it, and the index is below the capacity.
   pub acquired_if : (answer : Acquired) → Ends one_word kinds.Indices takes_index base answer m w → IsSound base → (capacity : ℕ)
       → base.capacity ≡ capacity → IfOk answer (λ i. AcquireDone capacity i base w)
   acquired_if (Ok i) ends was capacity size =
       record { acquired = acquired i ends was; within = subst (λ n. i < n) (ends.capacity ∙ size) (free base w m idle i ends).within }
   acquired_if (Err e) ends was capacity size = tt
 
+  -- An acquire that was refused answers right, where each begun call of the pass has ended.
   pub refused_if : (answer : Acquired) → Ends one_word kinds.Indices takes_index base answer m w → IsDone base.made → IfErr answer (λ e. WasRefused e base w)
   refused_if (Ok i) ends done = tt
   refused_if (Err e) ends done = refused e ends done
@@ -135,12 +144,15 @@ module _ (base w : View ℕ) (m : Unit {0}) (idle : base.going ≡ None) where
       absurd (omega arith))
 
   module _ (n : ℕ) (ends : Ends one_word kinds.Indices counts_out base n m w) where
+    -- The answer of the count, with the events before its end.
     abbrev a : Answered BorrowedIndices (Number n) base w
     a = counted_answered base w m idle n ends
 
+    -- The end of a count leaves the tally as it was before.
     same_tally : tally_of w.seen ≡ tally_of a.before
     same_tally = grind (arith, tally_of, fold-append, tally_after)
 
+    -- The end of a count changes nothing of the lock.
     same_lock : is_locked w.seen ≡ is_locked a.before
     same_lock = grind (arith, is_locked, fold-append, locked_after)
 
@@ -148,6 +160,7 @@ module _ (base w : View ℕ) (m : Unit {0}) (idle : base.going ≡ None) where
     counted_least : (is : List ℕ) → HeldBy is w.made → length is ≤ n
     counted_least is held = go (is_locked a.before) refl
       where
+        -- The pass holds at most what the tally counts, and nothing once the set is locked.
         own : (length is ≤ (tally_of w.seen).held) × (is_locked w.seen ≡ true → length is ≡ 0)
         own = own_few base.capacity w ends.history ends.parties is held
 
@@ -164,9 +177,11 @@ module _ (base w : View ℕ) (m : Unit {0}) (idle : base.going ≡ None) where
     counted_whole : IsDone base.made → HoldsAll n w
     counted_whole done whole is held = go (is_locked a.before) refl
       where
+        -- With the whole share, all that was seen is what the pass made.
         all : (f : Event ℕ → ℕ) → sum_by f w.seen ≡ sum_by f w.made
         all = ends.all (subst IsAll ends.share whole)
 
+        -- Each call that the pass began has ended.
         now : IsDone w.made
         now = counted_done base w n (counted base w m idle n ends) done
 
@@ -187,19 +202,21 @@ module _ (base w : View ℕ) (m : Unit {0}) (idle : base.going ≡ None) where
             omega arith
 
   module _ (b : Bool) (ends : Ends one_word kinds.Indices looks_locked base b m w) where
+    -- The answer of `is_locked`, with the events before its end.
     abbrev l : Answered IsLocked (Truth b) base w
     l = looked_answered base w m idle b ends
 
-    -- who sees the lock holds none
+    -- A pass that finds the set locked holds no index.
     looked_nothing : b ≡ true → HoldsNothing w.made
     looked_nothing t = (sound_after ends).lock (lock_stays (last_of l) (sym l.right ∙ t))
 
-    -- and who does not had not seen it
+    -- A call of `is_locked` that answered false had seen no lock before it.
     looked_unlocked : b ≡ false → is_locked base.seen ≡ false
     looked_unlocked t = not_locked l.since (sym l.right ∙ t)
 
   -- ---- what each answer means
 
+  -- A release that has ended has done what `ReleaseDone` says.
   pub release_done : (index : ℕ) (state : ReleaseState)
       → Ends one_word kinds.Indices (gives_index index) base state m w → ReleaseDone index state base w
   release_done index state ends = record { given = given base w m idle index state ends; unlocked = unlocked base w m idle index state ends }

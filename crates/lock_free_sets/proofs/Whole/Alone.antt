@@ -19,11 +19,12 @@ use Rattle.lock_free_sets.proofs.Whole.Passed.{is_going, passed_by, passed, IsCo
 -- ---- a call of another party that ends
 
 module _ {T : Type 0} where
+  -- 1 for an event that ends a call of another party than this one.
   abbrev beside : ℕ → Event T → ℕ
   beside p (Finished q start answer) = if q == p then 0 else 1
   beside p e = 0
 
-  -- what counts nothing of the party's own events counts none in a list of these
+  -- a measure that is 0 at each event of the party is 0 over all its events
   none_by : (f : Event T → ℕ) (p : ℕ) → ((e : Event T) → is_party p (whose e) ≡ true → f e ≡ 0) → (es : List (Event T)) → sum_by f (events_by p es) ≡ 0
   none_by f p none [] = refl
   none_by f p none (e ∷ es) = go (is_party p (whose e)) refl (none_by f p none es)
@@ -36,6 +37,7 @@ module _ {T : Type 0} where
           omega arith
       go false is rest = rest
 
+  -- An event of the party itself counts 0.
   none_beside : (p : ℕ) (e : Event T) → is_party p (whose e) ≡ true → beside p e ≡ 0
   none_beside p (Finished q start answer) is = rw is refl
   none_beside p e is = refl
@@ -47,14 +49,17 @@ module _ {T : Type 0} where
       let one = sum_by-cons (beside p) e es in
       ap (λ m. fold (passed_by p) m es) (first e (omega arith)) ∙ none_passed p es (omega arith)
     where
+      -- An event at which no other party's call ends leaves the count of such ends at 0.
       first : (e : Event T) → beside p e ≡ 0 → passed_by p 0 e ≡ 0
       first (Begun q start) beside_is_zero = go (q == p)
         where
+          -- the cases are whether the event is the party's
           go : (b : Bool) → ◌≡◌ {A = ℕ} (if b then 0 else 0) 0
           go true = refl
           go false = refl
       first (Finished q start answer) h = go (q == p) h
         where
+          -- the cases are whether the event is the party's
           go : (b : Bool) → ◌≡◌ {A = ℕ} (if b then 0 else 1) 0 → ◌≡◌ {A = ℕ} (if b then 0 else 0 + 1) 0
           go true h = refl
           go false h = h
@@ -63,12 +68,16 @@ module _ {T : Type 0} where
   -- ---- a call with the whole share
 
   module _ (old new : View T) (c : CallsWhole old new) where
+    -- The begin of the call.
     abbrev b : Event T
     b = Begun c.by c.start
 
+    -- The end of the call.
     abbrev f : Event T
     f = Finished c.by c.start c.answer
 
+    -- What is seen is what was seen before, and the call: with the whole share nobody else
+    -- did anything before it.
     seen_is : new.seen ≡ old.seen ++ b ∷ (c.called.during ++ f ∷ [])
     seen_is =
         c.called.is
@@ -87,6 +96,7 @@ module _ {T : Type 0} where
         let four = sum_by-cons g f [] in
         omega arith
 
+    -- No call of another party ended during this call.
     none_during : sum_by (beside c.by) c.called.during ≡ 0
     none_during =
         same_during (beside c.by)
@@ -104,20 +114,24 @@ module _ {T : Type 0} where
         same : (c.by == c.by) ≡ true
         same = grind (arith, nat_tests)
 
+        -- At the begin of the call the count of calls that others ended is 0 again.
         begins_again : passed_by c.by (passed c.by old.seen) b ≡ 0
         begins_again = rw same refl
 
+        -- At its own end the count of calls that others ended is still 0.
         ends_so : passed_by c.by 0 f ≡ 0
         ends_so = rw same refl
 
     module _ (code : Coding T) (kind : Kind) (capacity most retry : ℕ) (knows : Knows code kind capacity new) where
+      -- The trace of the run that the pass knows behind the call.
       abbrev t : Trace T
       t = run_of code kind capacity new.turns
 
+      -- In that trace the calls are counted right.
       counted : IsCounted t
       counted = counted_as kind t (known_run knows).reached
 
-      -- no call is under way
+      -- At the end of the known run no party has a call under way.
       none_going : (q : ℕ) → is_going (party_of q t.world.latest) ≡ 0
       none_going q =
           let all = counted.calls q in
@@ -128,16 +142,21 @@ module _ {T : Type 0} where
           let five = c.has.done q in
           omega arith
 
+      -- No call of another party ended in the run since this call began.
       none_passed_by : passed c.by t.events ≡ 0
       none_passed_by = ap (passed c.by) (sym knows.is) ∙ none_ended
 
+      -- No other party has changed a word since the call began.
       none_of_others : new.others ≡ 0
       none_of_others = knows.others ∙ (ap (others_by t.world) c.mine ∙ go (party_of c.by t.world.latest) refl)
         where
+          -- the cases are whether the party has made a call
           go : (o : Option (Party T)) → party_of c.by t.world.latest ≡ o → others_in t.world c.by ≡ 0
           go None is = ap (others_so t.world.changes) is
           go (Some x) is = ap (others_so t.world.changes) is ∙ counted.others c.by x is (λ q ne. none_going q) none_passed_by
 
+      -- A bound on the steps of a call alone is a bound on this call, as no other party changed a word
+      -- while it was under way.
       pub takes_most : TakesAlone most retry old new → TakesAtMost most old new
       takes_most takes =
           let all : new.asked ≤ old.asked + (most + 0 * retry) =
@@ -156,7 +175,7 @@ module _ {T : Type 0} where
         done = λ p. ap (sum_by (begins p)) made ∙ sym (ap (sum_by (ends p)) made);
       }
 
-  -- one call more has ended
+  -- of one more call that has ended, between the views old and new
   module _ (p : ℕ) (start : Start T) (answer : Answer T) (wrote : List (Event T)) (old new : View T) (called : Called p start answer wrote old new) where
     -- with a call more that wrote no begin and no end but its own, each call that was begun has
     -- still ended
@@ -169,6 +188,7 @@ module _ {T : Type 0} where
         let was = done q in
         omega arith
 
+    -- A pass that has the whole keeps it over a call.
     pub still_whole : HasWhole old → AllInside wrote → new.share ≡ old.share → MissesNothing new → HasWhole new
     still_whole was inside share all =
         let mine : IsAll new.share = subst IsAll (sym share) was.share in
@@ -183,6 +203,7 @@ module _ {T : Type 0} where
       let d = sum_by-append (ends p) mine theirs in
       omega arith
 
+  -- A join of passes whose calls have ended has the whole, if it has the whole share.
   pub joined_whole : (mine theirs new : View T) → HasJoined mine theirs new → IsDone mine.made → IsDone theirs.made
       → IsAll new.share → MissesNothing new → HasWhole new
   joined_whole mine theirs new joined one two share all =

@@ -36,32 +36,40 @@ use Rattle.model.specs.Families.Queues.Steps as queues
 use Rattle.lock_free_sets.specs.Whole.{AllInside}
 
 module _ (T : Type 0) where
+  -- Of two lists the chosen one has no begin and no end if neither has.
   either : (b : Bool) (xs ys : List (Event T)) → AllInside xs → AllInside ys → AllInside (if b then xs else ys)
   either true xs ys left right = left
   either false xs ys left right = right
 
+  -- Two lists without a begin or an end have none together.
   joined : (xs ys : List (Event T)) → AllInside xs → AllInside ys → AllInside (xs ++ ys)
   joined [] ys h r = r
   joined (x ∷ xs) ys h r = (h.0, joined xs ys h.1 r)
 
+  -- The act of a queue's call is no begin and no end.
   of_acts : (p : ℕ) (start : QueueStart T) (o : Option (Answer T)) → AllInside (queues.acts_if_done p start o)
   of_acts p start None = tt
   of_acts p start (Some answer) = (tt, tt)
 
+  -- No step of a call on a queue writes that a call began or ended.
   of_queue : (p : ℕ) (start : QueueStart T) (effect : Effect T) (o : Option (Answer T)) → AllInside (queues.effects_of p start effect o)
   of_queue p start (MakesRoom item q pushed) o = (tt, joined (queues.acts_if_done p start o) _ (of_acts p start o) (tt, tt))
   of_queue p start effect o = grind (arith, of_acts)
 
+  -- No step of a call on a value writes that a call began or ended.
   of_value : (p : ℕ) (start : AtomicStart T) (o : Option (Answer T)) → AllInside (atomic.acted p start o)
   of_value p start o = grind arith
 
+  -- Clears are neither begins nor ends.
   of_cleared : (p : ℕ) (places : List ℕ) → AllInside {T = T} (map (λ bit. Cleared p bit) places)
   of_cleared p [] = tt
   of_cleared p (x ∷ xs) = (tt, of_cleared p xs)
 
+  -- No step of a set of a flag writes that a call began or ended.
   of_set : (p bit : ℕ) (stage : SetStage) (old : ℕ) → AllInside {T = T} (bits.set_events p bit stage old)
   of_set p bit stage old = grind (arith, either)
 
+  -- No step of a `reset_next` writes that a call began or ended.
   of_reset : (p capacity : ℕ) (stage : ResetNextStage) (old : ℕ) → AllInside {T = T} (bits.reset_events p capacity stage old)
   of_reset p capacity (ExchangesElement start passed found) old =
       either (old == found) (Cleared p (place_after capacity start passed) ∷ []) [] (tt, tt) tt
@@ -77,26 +85,33 @@ module _ (T : Type 0) where
   of_bits p (CountOf run) old = tt
   of_bits p (TakeAll run) old = either (old == 0) [] _ tt (tt, tt)
 
+  -- No step of a call on a unique index set writes that a call began or ended.
   of_indices : (p : ℕ) (index : Option ℕ) (o : Option (Answer T)) → AllInside {T = T} (indices.effects p index o)
   of_indices p index o = grind arith
 
+  -- No step of a call on a robust index set writes that a call began or ended.
   of_robust : (p : ℕ) (flight : RobustFlight) (old : ℕ) → AllInside {T = T} (robust.effects p flight old)
   of_robust p flight old = grind arith
 
+  -- No step of a call on a container writes that a call began or ended.
   of_container : (code : Coding T) (p : ℕ) (state : Option (ContainerState T)) (flight : ContainerFlight T) (old : ℕ)
       → AllInside (container.effects code p state flight old)
   of_container code p state flight old = grind arith
 
+  -- No question of a recovery is a begin or an end.
   of_question : (p : ℕ) (given : DeadOwner) (stage : RecoverStage) (old : ℕ) → AllInside {T = T} (container.question_of p given stage old)
   of_question p given stage old = grind (arith, either)
 
+  -- No question of a recovery of a container is a begin or an end.
   of_questions : (p : ℕ) (flight : ContainerFlight T) (old : ℕ) → AllInside (container.questions p flight old)
   of_questions p (Recover run) old = of_question p run.given run.call.stage old
   of_questions p flight old = tt
 
+  -- No step of a call on a loan channel writes that a call began or ended.
   of_loan : (p : ℕ) (effect : LoanEffect) (o : Option (Answer T)) → AllInside {T = T} (loan.effects_of p effect o)
   of_loan p effect o = grind arith
 
+  -- No step of a call of any structure writes that a call began or ended.
   pub step_inside : (code : Coding T) (words : List ℕ) (beside : Option (ℕ × ℕ)) (p : ℕ) (start : Start T) (flight : Flight T) (old : ℕ)
       (kept : Registry T) → AllInside (step_of code words beside p start flight old kept).wrote
   step_inside code words beside p start flight old kept =

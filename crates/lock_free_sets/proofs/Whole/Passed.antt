@@ -38,10 +38,12 @@ use Rattle.lock_free_sets.specs.Whole.{begins, ends, IsInside, AllInside}
 use Rattle.lock_free_sets.proofs.Whole.Inside.{step_inside}
 
 module _ {T : Type 0} where
+  -- 1 for a call that is under way, else 0.
   abbrev goes : Doing T → ℕ
   goes (Going flight since) = 1
   goes (Over others) = 0
 
+  -- 1 for a party with a call under way, else 0.
   abbrev pub is_going : Option (Party T) → ℕ
   is_going None = 0
   is_going (Some x) = goes x.doing
@@ -52,7 +54,7 @@ module _ {T : Type 0} where
   passed_by p n (Finished q start answer) = if q == p then n else n + 1
   passed_by p n e = n
 
-  -- how many calls of others have ended in all these events since the party's latest began
+  -- how many calls of others have ended in these events since the party's latest call began
   abbrev pub passed : ℕ → List (Event T) → ℕ
   passed p events = fold (passed_by p) 0 events
 
@@ -60,12 +62,14 @@ module _ {T : Type 0} where
   -- theirs is under way, and none has ended since it began
   pub record IsCounted (t : Trace T) : Type 0 where
     pub calls : (q : ℕ) → sum_by (begins q) t.events ≡ sum_by (ends q) t.events + is_going (party_of q t.world.latest)
+    -- Behind the begin, no other party has changed a word beside a call that was alone.
     pub others : (p : ℕ) (x : Party T) → party_of p t.world.latest ≡ Some x
         → ((q : ℕ) → q ≢ p → is_going (party_of q t.world.latest) ≡ 0) → passed p t.events ≡ 0
         → others_of t.world.changes x.doing ≡ 0
 
   -- ---- what a step writes counts nothing
 
+  -- Events that a step writes, none of which begins or ends a call, have no begin of any party.
   pub begins_none : (q : ℕ) (es : List (Event T)) → AllInside es → sum_by (begins q) es ≡ 0
   begins_none q [] all_inside = refl
   begins_none q (e ∷ es) h = let one = sum_by-cons (begins q) e es in let rest = begins_none q es h.1 in let none = first e h.0 in omega arith
@@ -73,6 +77,7 @@ module _ {T : Type 0} where
       first : (e : Event T) → IsInside e → begins q e ≡ 0
       first e is_inside = grind arith
 
+  -- Events that a step writes, none of which begins or ends a call, have no end of any party.
   pub ends_none : (q : ℕ) (es : List (Event T)) → AllInside es → sum_by (ends q) es ≡ 0
   ends_none q [] all_inside = refl
   ends_none q (e ∷ es) h = let one = sum_by-cons (ends q) e es in let rest = ends_none q es h.1 in let none = first e h.0 in omega arith
@@ -80,6 +85,7 @@ module _ {T : Type 0} where
       first : (e : Event T) → IsInside e → ends q e ≡ 0
       first e is_inside = grind arith
 
+  -- Events that a step writes leave the count of calls that others ended since the party's last begin.
   passed_none : (p n : ℕ) (es : List (Event T)) → AllInside es → fold (passed_by p) n es ≡ n
   passed_none p n [] all_inside = refl
   passed_none p n (e ∷ es) h = ap (λ m. fold (passed_by p) m es) (first e h.0) ∙ passed_none p n es h.1
@@ -93,27 +99,34 @@ module _ {T : Type 0} where
   -- trace then
   module _ (t : Trace T) (h : IsCounted t) (r : ℕ) (x : Party T) (ask : Option Ask) (n : ℕ) (flight : Flight T) (since : ℕ)
       (found : party_of r t.world.latest ≡ Some x) (doing : x.doing ≡ Going flight since) where
+    -- The step that the party takes.
     abbrev s : Step (Flight T) (Registry T) T
     s = step_in t.world r x flight n
 
+    -- The party behind its step.
     abbrev y : Party T
     y = party_after x since t.world.changes (step_count ask) (change_of t.world.words ask) s
 
+    -- The trace behind the step.
     abbrev later : Trace T
     later = record {
       world = after_answer t.world r x ask n (Going flight since);
       events = t.events ++ events_of_answer t.world r x n (Going flight since);
     }
 
+    -- The step writes no begin and no end.
     inside : AllInside s.wrote
     inside = step_inside T t.world.coding t.world.words (beside_of t.world.words t.world.kept t.world.latest r) r x.start flight n t.world.kept
 
+    -- Behind the step the party is y.
     mine : party_of r later.world.latest ≡ Some y
     mine = party_put_same r y t.world.latest
 
+    -- Each other party is as before.
     theirs : (q : ℕ) → q ≢ r → party_of q later.world.latest ≡ party_of q t.world.latest
     theirs q ne = party_put_other q r y t.world.latest ne
 
+    -- Before the step the party had a call under way.
     went : is_going (party_of r t.world.latest) ≡ 1
     went = ap is_going found ∙ ap goes doing
 
@@ -126,6 +139,7 @@ module _ {T : Type 0} where
         let two = sum_by-append f s.wrote (ending_of r x.start (answer_in s.after)) in
         omega arith
 
+    -- After a step, that count changes only by the end of the call, if the step ends it.
     passed_then : (p : ℕ) → passed p later.events ≡ fold (passed_by p) (passed p t.events) (ending_of r x.start (answer_in s.after))
     passed_then p =
         fold-append (passed_by p) 0 t.events (s.wrote ++ ending_of r x.start (answer_in s.after))
@@ -137,14 +151,17 @@ module _ {T : Type 0} where
     begins_last q (GoOn f) = refl
     begins_last q (Done answer) = refl
 
+    -- The party's call ends with the step, or is under way still.
     ends_mine : (a : After (Flight T) (Answer T)) (c d : ℕ) → sum_by (ends r) (ending_of r x.start (answer_in a)) + goes (doing_after c d a) ≡ 1
     ends_mine (GoOn f) c d = refl
     ends_mine (Done answer) c d = let t : (r == r) ≡ true = grind (arith, nat_tests) in rw t refl
 
+    -- The step ends no call of another party.
     ends_other : (q : ℕ) → q ≢ r → (a : After (Flight T) (Answer T)) → sum_by (ends q) (ending_of r x.start (answer_in a)) ≡ 0
     ends_other q ne (GoOn f) = refl
     ends_other q ne (Done answer) = let t : (r == q) ≡ false = grind (arith, nat_tests) in rw t refl
 
+    -- Behind the step, each party has begun as many calls as it ended, and one more if one is under way.
     calls_then : (q : ℕ) → sum_by (begins q) later.events ≡ sum_by (ends q) later.events + is_going (party_of q later.world.latest)
     calls_then q = ⊎_elim own other (cases_eq q r)
       where
@@ -157,8 +174,7 @@ module _ {T : Type 0} where
         none : sum_by (begins q) (ending_of r x.start (answer_in s.after)) ≡ 0
         none = begins_last q s.after
 
-        -- of the party that steps, as many calls began as ended, and one more if it has one under
-        -- way
+        -- Of the party that steps, as many calls began as ended, and one more if it has one under way still.
         own : q ≡ r → sum_by (begins q) later.events ≡ sum_by (ends q) later.events + is_going (party_of q later.world.latest)
         own same =
             let was = h.calls q in
@@ -182,12 +198,13 @@ module _ {T : Type 0} where
             let e = ends_other q ne s.after in
             omega arith
 
-    -- its own changes are none of others
+    -- A step of the party's own call adds as many changes to all as to its own, so those of others stay none.
     own_changes : (a : After (Flight T) (Answer T)) (c d more : ℕ) → c - d ≡ 0
         → others_of (c + more) (doing_after (c + more) (d + more) a) ≡ 0
     own_changes (GoOn f) c d more none = omega arith
     own_changes (Done answer) c d more none = omega arith
 
+    -- The end of its own call leaves the party's count of calls that others ended.
     passed_mine : (a : After (Flight T) (Answer T)) (m : ℕ) → fold (passed_by r) m (ending_of r x.start (answer_in a)) ≡ m
     passed_mine (GoOn f) m = refl
     passed_mine (Done answer) m = let t : (r == r) ≡ true = grind (arith, nat_tests) in rw t refl
@@ -201,6 +218,7 @@ module _ {T : Type 0} where
         let more : m + 1 ≡ 0 = rw t at none in
         omega arith
 
+    -- Behind the step, no other party has changed a word beside a call that was alone.
     others_then : (p : ℕ) (z : Party T) → party_of p later.world.latest ≡ Some z
         → ((q : ℕ) → q ≢ p → is_going (party_of q later.world.latest) ≡ 0) → passed p later.events ≡ 0
         → others_of later.world.changes z.doing ≡ 0
@@ -225,20 +243,24 @@ module _ {T : Type 0} where
             absurd (goes_beside p ne s.after _ _ (passed p t.events)
             (sym (ap is_going mine) ∙ quiet r (λ e. ne (sym e))) (sym (passed_then p) ∙ none))
 
+    -- The step keeps the counts.
     goes_counted : IsCounted later
     goes_counted = record { calls = calls_then; others = others_then }
 
+  -- A step of a party keeps the counts, whether the party has a call under way or not.
   answered : (t : Trace T) → IsCounted t → (r : ℕ) (x : Party T) (ask : Option Ask) (n : ℕ) → party_of r t.world.latest ≡ Some x
       → (doing : Doing T) → x.doing ≡ doing
       → IsCounted record { world = after_answer t.world r x ask n doing; events = t.events ++ events_of_answer t.world r x n doing }
   answered t counted r x ask n found (Going flight since) is = goes_counted t counted r x ask n flight since found is
   answered t counted r x ask n found (Over others) is = subst (λ es. IsCounted record { world = t.world; events = es }) (sym (append-nil t.events)) counted
 
+  -- A turn in which a party takes a step keeps the counts.
   nexts : (t : Trace T) → IsCounted t → (r : ℕ) (o : Option (Party T)) → party_of r t.world.latest ≡ o
       → IsCounted record { world = after_next t.world r o; events = t.events ++ events_of_next t.world r o }
   nexts t counted r None found = subst (λ es. IsCounted record { world = t.world; events = es }) (sym (append-nil t.events)) counted
   nexts t counted r (Some x) found = answered t counted r x _ _ found x.doing refl
 
+  -- A turn in which a party hears an answer keeps the counts.
   decides : (t : Trace T) → IsCounted t → (r : ℕ) (said : Bool) (o : Option (Party T)) → party_of r t.world.latest ≡ o
       → IsCounted record { world = after_decision t.world r said o; events = t.events ++ events_of_decision t.world r said o }
   decides t counted r said None found = subst (λ es. IsCounted record { world = t.world; events = es }) (sym (append-nil t.events)) counted
@@ -260,18 +282,23 @@ module _ {T : Type 0} where
 
   -- r is the party that begins a call, new this call, begun the trace then
   module _ (t : Trace T) (h : IsCounted t) (r : ℕ) (start : Start T) (flight : Flight T) (free : is_going (party_of r t.world.latest) ≡ 0) where
+    -- The trace behind the begin.
     abbrev begun : Trace T
     begun = record { world = after_begin t.world r start (Some flight); events = t.events ++ Begun r start ∷ [] }
 
+    -- The party behind its begin.
     abbrev new : Party T
     new = party_at_begin start flight t.world.changes
 
+    -- Behind the begin the party is this one.
     found_new : party_of r begun.world.latest ≡ Some new
     found_new = party_put_same r new t.world.latest
 
+    -- Each other party is as before the begin.
     found_other : (q : ℕ) → q ≢ r → party_of q begun.world.latest ≡ party_of q t.world.latest
     found_other q ne = party_put_other q r new t.world.latest ne
 
+    -- The begin of a call keeps the counts.
     begins_counted : IsCounted begun
     begins_counted = record { calls = calls; others = others }
       where
@@ -335,13 +362,16 @@ module _ {T : Type 0} where
     pub free : flight_in t.world p ≡ None
     pub call : is_none (first_of t.world.kind t.world.capacity start t.world.kept) ≡ false
 
+  -- if the turn is a begin, no call of the party is under way
   abbrev IsFree : Trace T → Turn T → Type 0
   IsFree t (Begin p start) = BeginsFree t p start
   IsFree t turn = Unit {0}
 
+  -- A party that counts 0 has no flight.
   pub goes_none : (o : Option (Party T)) → is_going o ≡ 0 → flight_of (doing_of o) ≡ None
   goes_none o e = grind arith
 
+  -- A party without a flight counts 0.
   none_goes : (o : Option (Party T)) → flight_of (doing_of o) ≡ None → is_going o ≡ 0
   none_goes o e = grind arith
 
@@ -359,22 +389,28 @@ module _ {T : Type 0} where
 
   -- ---- any run
 
+  -- A turn that is not refused begins a call only of a party without one.
   free_call : (t : Trace T) (turn : Turn T) → call_refusal t.world turn ≡ None → IsFree t turn
   free_call t (Begin p start) e = let m = may_begin t.world p start e in record { free = m.free; call = m.call }
   free_call t turn e = tt
 
+  -- In an open run too, a turn that is not refused begins a call only of a party without one.
   free_open : (t : Trace T) (turn : Turn T) → open_refusal t.world turn ≡ None → IsFree t turn
   free_open t turn e = grind (arith, row_passed, not_some, free_call)
 
+  -- At the opening no call has begun.
   opens_counted : (t : Trace T) → IsCounted (opening t.world.coding t.world.kind t.world.capacity t.world.parties)
   opens_counted t = record { calls = λ q. refl; others = λ p x found quiet none. absurd (cc) }
 
+  -- In each run of the machine the calls are counted right.
   counted_on : (t : Trace T) → IsReachedOn t → IsCounted t
   counted_on t reached_on = kept_by_runs_on IsCounted (λ u turn e h. turn_counted u turn (free_call u turn e) h) t (opens_counted t) reached_on
 
+  -- In each open run the calls are counted right.
   counted_open : (t : Trace T) → IsReachedOpen t → IsCounted t
   counted_open t reached_open = kept_by open_refusal IsCounted (λ u turn e h. turn_counted u turn (free_open u turn e) h) t (opens_counted t) reached_open
 
+  -- In each run of a machine of any kind the calls are counted right.
   pub counted_as : (kind : Kind) (t : Trace T) → IsReachedAs kind t → IsCounted t
   counted_as kinds.Robust t reached_as = counted_open t reached_as
   counted_as kinds.Container t reached_as = counted_open t reached_as

@@ -15,23 +15,25 @@ use Rattle.lock_free_sets.specs.Driven.{HasMade}
 use Rattle.lock_free_sets.specs.Bits.Callable.{Ascends}
 use Rattle.lock_free_sets.specs.Bits.Stages.{set_wrote, reset_wrote}
 
--- the call set the place where it answered true, and nothing else
+-- a call `set` of the history: it set the place if it answered true, and wrote nothing else
 abbrev pub HasSet : ℕ → Bool → View ℕ → View ℕ → Type 0
 HasSet place answer =
     HasMade (Bits (Set place)) (Truth answer) (λ by. set_wrote by place answer)
 
--- the place stood at a moment of the call that ended last
+-- the last event that the pass has seen is the end of a `set` that answered false; at a moment of that
+-- call the flag of the place was set
 pub record StoodOnce (place : ℕ) (new : View ℕ) : Type 0 where
   pub by : ℕ
   pub before : List (Event ℕ)
   pub is : new.seen ≡ before ++ Finished by (Bits (Set place)) (Truth false) ∷ []
   pub stood : HeldSometime by (λ part. standing place part ≡ 1) before
 
--- the call cleared the place that it answers, and nothing else
+-- a call `reset_next` of the history: it cleared the place that it answers, if any, and wrote nothing else
 abbrev pub HasReset : Option ℕ → View ℕ → View ℕ → Type 0
 HasReset answer = HasMade (Bits ResetNext) (reset_answer answer) (λ by. reset_wrote by answer)
 
--- each place was clear at some moment of the call that ended last
+-- the last event that the pass has seen is the end of a `reset_next` that found nothing; each place was
+-- clear at some moment of that call
 pub record AllClearOnce (capacity : ℕ) (new : View ℕ) : Type 0 where
   pub by : ℕ
   pub before : List (Event ℕ)
@@ -39,19 +41,21 @@ pub record AllClearOnce (capacity : ℕ) (new : View ℕ) : Type 0 where
   pub clear : (place : ℕ) → place < capacity
       → HeldSometime by (λ part. standing place part ≡ 0) before
 
--- the call that ended last came to this place from where the reset position stood at a moment of it: each place that it
--- passed on the way, of which the first follows the last, was clear at some moment of it
+-- The last event that the pass has seen is the end of a `reset_next` that answered this place. The call
+-- looked from where the reset position stood at a moment of it, and each place that it passed on the
+-- way was clear at some moment of it. Behind the last place comes the first one.
 pub record CameFromPosition (capacity place : ℕ) (new : View ℕ) : Type 0 where
   pub by : ℕ
   pub before : List (Event ℕ)
   pub is : new.seen ≡ before ++ Finished by (Bits ResetNext) (Reset place) ∷ []
   pub came : CameTo by capacity place before
 
+-- the event in which party `p` clears the place
 abbrev pub cleared_by : (p place : ℕ) → Event ℕ
 cleared_by p place = Cleared p place
 
--- the call cleared just these places, ascending, and the closure was called with each of them, which led it from the
--- one state to the other
+-- A call `reset_all` of the history: it cleared just these places, ascending, and the closure was
+-- called with each of them, and became `visited`.
 pub record HasCleanedOut {F : Type 0} (step : F → ℕ → F → Type 0) (capacity : ℕ) (visit visited : F)
     (old new : View ℕ) : Type 0 where
   pub places : List ℕ
@@ -59,7 +63,8 @@ pub record HasCleanedOut {F : Type 0} (step : F → ℕ → F → Type 0) (capac
   pub calls : FoldsTo step visit places visited
   pub made : HasMade (Bits ResetAll) Done (λ by. map (cleared_by by) places) old new
 
--- each place that stood as the call began was cleared since, by it or by another
+-- the last event that the pass has seen is the end of a `reset_all`; each place that was set as that
+-- call began was cleared since, by it or by another
 pub record MissedNoPlace (capacity : ℕ) (new : View ℕ) : Type 0 where
   pub by : ℕ
   pub before : List (Event ℕ)
@@ -68,21 +73,23 @@ pub record MissedNoPlace (capacity : ℕ) (new : View ℕ) : Type 0 where
 
 -- ---- what each answer means
 
+-- a `set`, and if it answered false, that the flag of the place was set at a moment of the call
 pub record SetDone (place : ℕ) (answer : Bool) (old new : View ℕ) : Type 0 where
   pub added : HasSet place answer old new
   pub stood : IsFalse answer → StoodOnce place new
 
--- a reset that found a place
+-- a `reset_next` that found a place
 pub record ResetDone (capacity found : ℕ) (old new : View ℕ) : Type 0 where
   pub place : found < capacity
   pub cleared : HasReset (Some found) old new
   pub came : CameFromPosition capacity found new
 
--- one that found none
+-- a `reset_next` that found no place
 pub record ResetNothing (capacity : ℕ) (old new : View ℕ) : Type 0 where
   pub cleared : HasReset None old new
   pub clear : AllClearOnce capacity new
 
+-- a `reset_all`: which places it cleared, and that it missed none that was set as it began
 pub record ResetAllDone {F : Type 0} (step : F → ℕ → F → Type 0) (capacity : ℕ) (visit visited : F) (old new : View ℕ) : Type 0 where
   pub cleared : HasCleanedOut step capacity visit visited old new
   pub stood : MissedNoPlace capacity new

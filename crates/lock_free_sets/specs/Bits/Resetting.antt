@@ -1,4 +1,4 @@
--- What a seat knows while it resets the next place.
+-- What a seat knows between two steps of `reset_next`, whatever the view with which the call began.
 use Rattle.std.specs.Prelude.{ℕ, ◌+◌, Option}
 use Rattle.steps.specs.Bits.Words.{elements}
 use Rattle.steps.specs.declared.ask.After.{After}
@@ -16,17 +16,19 @@ use Rattle.lock_free_sets.specs.Bits.Stages.{resets_next}
 abbrev pub IsBoard : {Q : Type 0} → Seated (View ℕ) ℕ Q → Type 0
 IsBoard s = IsAt (λ (key : ℕ). 1 + elements key + 1) (λ (key : ℕ). key) (λ (v : View ℕ). v.capacity) s
 
+-- the call `reset_next` is about to begin or under way
 abbrev pub ResetAt : View ℕ → View ℕ → ResetNext → Unit {0} → Type 0
 ResetAt = At one_word kinds.Bits resets_next
 
+-- the call `reset_next` has ended with this answer
 abbrev pub ResetEnds : View ℕ → Option ℕ → Unit {0} → View ℕ → Type 0
 ResetEnds = Ends one_word kinds.Bits resets_next
 
--- it may take a turn
+-- the call stands at this stage, so it may take a step
 abbrev pub ResetMay : View ℕ → ResetNext → Type 0
 ResetMay v call = (base : View ℕ) × ResetAt base v call tt
 
--- how it has gone on since, or ended
+-- wherever the call stood so in `v`, it has gone on or ended in `w`
 abbrev pub ResetGoes : View ℕ → ResetNext → After ResetNext (Option ℕ) → View ℕ → Type 0
 ResetGoes v call after w =
     (base : View ℕ) → ResetAt base v call tt

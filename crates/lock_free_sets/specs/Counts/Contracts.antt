@@ -14,12 +14,13 @@ use Rattle.history.specs.declared.view.View.{View}
 use Rattle.lock_free_sets.specs.Driven.{HasMade}
 use Rattle.lock_free_sets.specs.Counts.Callable.{CountsAscend}
 
--- the call counted the place, and answered this number
+-- a call `set` of the history: it counted the place, and answered this number
 abbrev pub HasCounted : (place number : ℕ) → View ℕ → View ℕ → Type 0
 HasCounted place number =
     HasMade (Bits (Set place)) (Number number) (λ by. Counted by place ∷ [])
 
--- the number is the count just before that, less than 2^64
+-- The last two events that the pass has seen are those of a `set`, which counted the place and ended.
+-- Its answer is the count of the place right before that, modulo 2^64.
 pub record AnswersCount (place number : ℕ) (new : View ℕ) : Type 0 where
   pub by : ℕ
   pub before : List (Event ℕ)
@@ -27,11 +28,12 @@ pub record AnswersCount (place number : ℕ) (new : View ℕ) : Type 0 where
       ≡ (before ++ Counted by place ∷ []) ++ Finished by (Bits (Set place)) (Number number) ∷ []
   pub count : number ≡ count_at place before % 2 ^ 64
 
+-- the event in which party `p` takes this count out of its place
 abbrev pub taken_by : ℕ → BitState → Event ℕ
 taken_by p state = TakenOut p state.bit state.count
 
--- the call took just these counts out, ascending, and the closure was called with each of them, which led it from the
--- one state to the other
+-- A call `reset_all` of the history: it took just these counts out, by ascending place, and the closure
+-- was called with each of them, and became `visited`.
 pub record HasTakenOut {F : Type 0} (step : F → BitState → F → Type 0) (capacity : ℕ) (visit visited : F)
     (old new : View ℕ) : Type 0 where
   pub states : List BitState
@@ -39,8 +41,9 @@ pub record HasTakenOut {F : Type 0} (step : F → BitState → F → Type 0) (ca
   pub calls : FoldsTo step visit states visited
   pub made : HasMade (Bits ResetAll) Done (λ by. map (taken_by by) states) old new
 
--- of each place that counted above 0 as the call began something was taken out since, by it or by
--- another, unless it was counted 2^64 times in all
+-- The last event that the pass has seen is the end of a `reset_all`. Of each place that counted above 0
+-- as that call began something was taken out since, by it or by another, unless the place was counted
+-- 2^64 times in all.
 pub record MissedNoCount (capacity : ℕ) (new : View ℕ) : Type 0 where
   pub by : ℕ
   pub before : List (Event ℕ)
@@ -49,10 +52,12 @@ pub record MissedNoCount (capacity : ℕ) (new : View ℕ) : Type 0 where
 
 -- ---- what each answer means
 
+-- a `set`, and that its answer is the count before it
 pub record SetDone (place number : ℕ) (old new : View ℕ) : Type 0 where
   pub counted : HasCounted place number old new
   pub answers : AnswersCount place number new
 
+-- a `reset_all`: which counts it took out, and that it missed none
 pub record ResetAllDone {F : Type 0} (step : F → BitState → F → Type 0) (capacity : ℕ) (visit visited : F) (old new : View ℕ) : Type 0 where
   pub taken : HasTakenOut step capacity visit visited old new
   pub stood : MissedNoCount capacity new

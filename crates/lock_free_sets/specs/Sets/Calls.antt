@@ -1,4 +1,5 @@
--- Which set a pass is for, and what it knows of the set's history.
+-- The words of the contracts of bit sets and counting bit sets: which set a pass is for, what it knows
+-- of the set's history, and what calls and joins leave of it.
 use Rattle.std.specs.Prelude.{◌≡◌, ◌≤◌, ℕ, ◌+◌, Option, Some, IfSome, List}
 use Rattle.steps.specs.declared.words.Words as Words
 use Rattle.model.specs.declared.event.Event.{Event}
@@ -17,14 +18,17 @@ use Rattle.lock_free_sets.specs.declared.mpmc.sets.FixedSize.{FixedSize}
 use Rattle.lock_free_sets.specs.declared.mpmc.sets.Held.{Held}
 
 module _ {E : Type 0} where
+  -- what names a set
   abbrev pub set_id : Set E → SetId
   set_id s = record { table = home_id s.home; capacity = s.capacity }
 
+  -- the capacity of a set
   abbrev pub capacity_of : Set E → ℕ
   capacity_of s = s.capacity
 
-  -- the set of one whose capacity is part of its type
+  -- a set whose type names its capacity is a set, which it holds as a field
   module _ {CAPACITY : ℕ} where
+    -- the set of one whose capacity is part of its type
     abbrev pub inner : FixedSize E CAPACITY → Set E
     inner s = s.set
 
@@ -33,6 +37,7 @@ module _ {E : Type 0} {kind : Ghosts E} {words : Words.Ghosts ℕ} where
   abbrev pub set_of : Held E ℕ (SetRule E) kind words → SetId
   set_of p = record { table = p.seated.seat.table_id; capacity = p.capacity }
 
+  -- the pass is for this set
   abbrev pub IsPassOf : Set E → Held E ℕ (SetRule E) kind words → Type 0
   IsPassOf s p = set_of p ≡ set_id s
 
@@ -60,7 +65,7 @@ module _ {E : Type 0} {kind : Ghosts E} {words : Words.Ghosts ℕ} where
   abbrev pub HasHistory : Held E ℕ (SetRule E) kind words → Type 0
   HasHistory p = IsHistory one_word (machine_kind kind.KIND) (set_of p).capacity (history p)
 
-  -- it is the same party, where it was one
+  -- if the pass had been a party, it is the same party
   abbrev pub IsSameParty : Held E ℕ (SetRule E) kind words → Held E ℕ (SetRule E) kind words → Type 0
   IsSameParty old new = IfSome (party old) (λ p. party new ≡ Some p)
 
@@ -68,7 +73,8 @@ module _ {E : Type 0} {kind : Ghosts E} {words : Words.Ghosts ℕ} where
   abbrev pub MissesNothing : Held E ℕ (SetRule E) kind words → Type 0
   MissesNothing p = passes.MissesNothing (view p)
 
-  -- what each call leaves of a pass, and what the pass knows from then on
+  -- What each call leaves of a pass: its set, share and party, and a run that goes on. With the whole
+  -- share it misses nothing.
   pub record SamePass (old new : Held E ℕ (SetRule E) kind words) : Type 0 where
     pub set : set_of new ≡ set_of old
     pub share : share new ≡ share old
@@ -78,7 +84,7 @@ module _ {E : Type 0} {kind : Ghosts E} {words : Words.Ghosts ℕ} where
     pub aside : (view new).aside ≤ (view old).aside + 1
     pub all : MissesNothing new
 
-  -- what a join leaves of a pass, which has what both had
+  -- what a join leaves of a pass: its set, and a view that has what both views had
   pub record PassJoins (old other new : Held E ℕ (SetRule E) kind words) : Type 0 where
     pub set : set_of new ≡ set_of old
     pub joined : passes.HasJoined (view old) (view other) (view new)

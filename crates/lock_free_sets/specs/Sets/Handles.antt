@@ -10,9 +10,11 @@ use Rattle.lock_free_sets.specs.declared.mpmc.sets.handles.Handle.{Handle}
 use Rattle.lock_free_sets.specs.Sets.Calls.{view, SamePass}
 
 module _ {E : Type 0} {kind : Ghosts E} where
+  -- the set of a handle
   abbrev pub set_in : Handle E kind → Set E
   set_in h = h.set.now
 
+  -- the pass of a handle
   abbrev pub pass_in : Handle E kind → Held E ℕ (SetRule E) kind ghosts
   pass_in h = h.pass
 
@@ -20,7 +22,7 @@ module _ {E : Type 0} {kind : Ghosts E} where
   abbrev pub knows : Handle E kind → View ℕ
   knows h = view h.pass
 
-  -- its set, and of its pass what each call of the set keeps
+  -- what each call by a handle keeps of it: its set, and of its pass what each call of the set keeps
   pub record SameHandle (old new : Handle E kind) : Type 0 where
     pub set : set_in new ≡ set_in old
     pub pass : SamePass (pass_in old) (pass_in new)

@@ -15,18 +15,21 @@ pub record AcquireDone (capacity index : ℕ) (old new : View ℕ) : Type 0 wher
   pub acquired : HasAcquired index old new
   pub within : index < capacity
 
--- a release in mode Default
+-- a release in mode `Default`, which always answers `Unlocked`
 pub record ReleaseDone (index : ℕ) (state : ReleaseState) (old new : View ℕ) : Type 0 where
   pub given : HasGiven index state old new
   pub unlocked : state ≡ Unlocked
 
--- and in the mode that locks
+-- A release in the mode that locks. If it answers `Locked`, the pass holds nothing; if `Unlocked`, a
+-- pass with the whole share holds some index.
 pub record ReleaseOrLockDone (index : ℕ) (state : ReleaseState) (old new : View ℕ) : Type 0 where
   pub given : HasGivenOrLocked index state old new
   pub answered : Answered (starts.Release index modes.LockIfLastIndex) (State state) old new
   pub nothing : state ≡ Locked → HoldsNothing new.made
   pub whole : state ≡ Unlocked → HoldsSome new
 
+-- a count of the borrowed indices: at least what the pass holds, at most the capacity, and with the
+-- whole share what it holds
 pub record BorrowedDone (capacity number : ℕ) (old new : View ℕ) : Type 0 where
   pub counted : HasCounted number old new
   pub answered : Answered starts.BorrowedIndices (Number number) old new
@@ -34,6 +37,7 @@ pub record BorrowedDone (capacity number : ℕ) (old new : View ℕ) : Type 0 wh
   pub most : number ≤ capacity
   pub whole : HoldsAll number new
 
+-- A look at the lock. If it is locked, the pass holds nothing; if it is not, the pass had not seen the lock.
 pub record IsLockedDone (locked : Bool) (old new : View ℕ) : Type 0 where
   pub looked : HasLooked locked old new
   pub answered : Answered starts.IsLocked (Truth locked) old new

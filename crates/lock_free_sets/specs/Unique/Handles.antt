@@ -6,9 +6,11 @@ use Rattle.lock_free_sets.specs.declared.mpmc.unique_index_set.Pass.{Pass}
 use Rattle.lock_free_sets.specs.declared.mpmc.unique_index_set.handles.Handle.{Handle}
 use Rattle.lock_free_sets.specs.UniqueIndexSet.{view, SamePass}
 
+-- the set of a handle
 abbrev pub set_in : Handle → UniqueIndexSet
 set_in h = h.set.now
 
+-- the pass of a handle
 abbrev pub pass_in : Handle → Pass
 pass_in h = h.pass
 
@@ -16,7 +18,7 @@ pass_in h = h.pass
 abbrev pub knows : Handle → View ℕ
 knows h = view h.pass
 
--- its set, and of its pass what each call of the set keeps
+-- what each call by a handle keeps of it: its set, and of its pass what each call of the set keeps
 pub record SameHandle (old new : Handle) : Type 0 where
   pub set : set_in new ≡ set_in old
   pub pass : SamePass (pass_in old) (pass_in new)

@@ -1,4 +1,4 @@
-//! Laws of a pass that has the whole share. It makes each call alone.
+//! Laws of a pass that has the whole share: it makes each call alone.
 ghost use Rattle.std.specs.Prelude.{◌≡◌, ℕ, List, []};
 ghost use Rattle.model.specs.declared.event.Answer.{Answer};
 ghost use Rattle.model.specs.declared.event.Event.{Event};
@@ -12,15 +12,17 @@ ghost use Rattle.history.specs.Passes.{MissesNothing, HasJoined};
 ghost use Rattle.history.specs.Steps.{TakesAlone, TakesAtMost};
 ghost use Rattle.lock_free_sets.specs.Whole.{IsDone, AllInside, HasWhole, CallsWhole};
 
-/// Who has the whole share, and whose calls have ended, makes each call alone. Nobody else changes a word during it, so of
-/// what a clause `steps` allows only the number alone is left. What the pass knows after the call says so (`history`). The lemma is `takes_most` of `proofs/Whole/Alone.antt`.
+/// Who has the whole share, and whose calls have ended, makes each call alone. Nobody else changes a
+/// word during it. So it takes at most the number of steps that its clause `steps` gives for a call
+/// alone. The premise `Knows` comes from clause `run` of `history`, after the call. The lemma is
+/// `takes_most` of `proofs/Whole/Alone.antt`.
 pub fn whole_calls_are_alone<T>()
     ensures { (code : Coding T) (kind : Kind) (capacity alone retry : ℕ) (old new : View T)
         → CallsWhole old new → Knows code kind capacity new → TakesAlone alone retry old new → TakesAtMost alone old new }
 {}
 
-/// Who has the whole keeps it over calls. A first pass has it, and so has a join that leaves no share out. The lemmas are
-/// `first_whole`, `still_whole` and `joined_whole` there.
+/// Who has the whole keeps it over calls. A first pass has it, and so has a join that leaves no share out.
+/// The lemmas are `first_whole`, `still_whole` and `joined_whole` of `proofs/Whole/Alone.antt`.
 pub fn wholes_stay<T>()
     ensures first { (v : View T) → IsAll v.share → v.seen ≡ [] → v.made ≡ [] → HasWhole v }
     ensures call { (p : ℕ) (start : Start T) (answer : Answer T) (wrote : List (Event T)) (old new : View T)

@@ -1,7 +1,8 @@
 //! A count for each place, which any number of threads raise and take out.
 //!
-//! How many atomic steps a call takes is what its clause `steps` says: the operations on words that its pass has
-//! counted. Each that it performs is counted, by the driver. What is proved of threads is what the contracts say.
+//! The clause `steps` of a call says how many atomic steps it takes: these are the operations on words
+//! that its pass counts, and the driver counts each one that it performs. What is proved of threads is
+//! what the contracts say.
 use super::sets;
 use super::sets::rule::Counts;
 pub use steps::bits::counting_bit_set::BitState;

@@ -1,5 +1,6 @@
-//! What bit sets and counting bit sets have in common: their types, and how both are made. Both are this with a kind E;
-//! the modules `bit_set` and `counting_bit_set` have names for it, and the calls on places.
+//! What bit sets and counting bit sets have in common: their types, and how both are made. The types
+//! have a kind E; the modules `bit_set` and `counting_bit_set` have names for those of their kind,
+//! and the calls on places.
 ghost use Rattle.std.specs.Prelude.{◌≡◌, ◌<◌, ◌+◌, [], None};
 ghost use Rattle.std.specs.Coded.{Coded-set};
 ghost use Rattle.model.specs.Coding.{coding_by};

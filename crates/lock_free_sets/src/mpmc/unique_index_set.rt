@@ -1,8 +1,8 @@
 //! A set of indices that threads share, each of which is handed out to one caller at a time. Passes of one set never
 //! hold the same index, and once any of them has seen the lock, none holds one.
 //!
-//! How many atomic steps a call takes is what its clause `steps` says: the operations on words that its pass has
-//! counted, each by the driver. What is proved of threads is what the contracts say.
+//! The clause `steps` of a call says how many atomic steps it takes: these are the operations on words that
+//! the driver counts in its pass. What is proved of threads is what the contracts say.
 ghost use Rattle.std.specs.Prelude.{◌≡◌, ◌<◌, ◌+◌, [], None};
 ghost use Rattle.std.specs.Coded.{Coded-set, coded_ℕ};
 ghost use Rattle.model.specs.declared.turn.Kind.TheVariants as kinds;

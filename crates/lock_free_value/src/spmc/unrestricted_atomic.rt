@@ -1,7 +1,8 @@
 //! One value of any type with words, which one producer and any number of readers share between threads.
 //!
-//! How many atomic steps a call takes is what its clause `steps` says: the operations on words that its pass has
-//! counted. Each that it performs is counted, by the driver. What is proved of threads is what the contracts say.
+//! The clause `steps` of a call says how many atomic steps it takes: these are the operations on words
+//! that its pass counts, and the driver counts each one that it performs. What is proved of threads is
+//! what the contracts say.
 ghost use Rattle.std.specs.Prelude.{◌≡◌, ◌<◌, ◌+◌, ◌*◌, [], None, length};
 ghost use Rattle.std.specs.Coded.{Coded-set};
 ghost use Rattle.laws_value.specs.Stored.{stored};
@@ -45,16 +46,17 @@ pub struct UnrestrictedAtomic<T: Words> {
     home: Home<View<T>, Origin<T>, ValueRule<T>>,
 }
 
-// A drop by hand is one call in a caller's proof, on each way out. One that is derived is as many as it has fields
-// below.
+// In the proof of a caller a drop written by hand is one call on each way out. A derived drop is
+// one call for each field.
 impl<T: Words> Drop for UnrestrictedAtomic<T> {
     fn drop(self) {
         let Self { home: _home } = self;
     }
 }
 
-/// A seat at a value's table, with no call under way. Its rule is a parameter: only so can its size be told by
-/// `T::WORDS`.
+/// A seat at a value's table, with no call under way. Its facts say how many words the table has, that the
+/// seat has a share, and that what it has seen is a history that begins with a store. The rule Q is a
+/// parameter, since else `sized` could not name `T::WORDS`.
 pub struct Held<T: Words, Q: TableRule<(), View<T>, Origin<T>>> {
     pub seated: Seated<View<T>, Origin<T>, Q>,
     ghost sized: { seated.seat.table_id.words ≡ 2 + T.WORDS * 2 + 1 },
@@ -83,7 +85,7 @@ pub struct Pass<T: Words> {
 }
 
 impl<T: Words> Pass<T> {
-    /// The seat of the pass, which has no role.
+    /// Returns the seat of the pass, which has no role.
     fn into_token(self) -> Token<T>
         ensures token { result ≡ self.token }
         ensures none { LacksProducer result.seated.seat.me.0.made }

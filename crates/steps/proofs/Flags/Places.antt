@@ -1,4 +1,5 @@
--- The places that a word's flags name: of its element, ascending, each that stands and no other.
+-- The places whose flags stand in a word of a bit set (`places_in`): they are of its element, they rise, and
+-- each is named once.
 use Rattle.std.proofs.Common.{◌≡◌, ◌≢◌, ℕ, zero, suc, ◌+◌, ◌<◌, ◌≤◌, ◌⊎◌, inl, inr, ⊎_elim, Bool, true, false, List}
 use Rattle.std.proofs.Common.{◌∷◌, refl, ap, ◌∙◌, arith, eq-eqb, ne_eqb, eqb}
 use Rattle.std.specs.Prelude.{cond, ◌==◌}
@@ -22,7 +23,7 @@ range_within a (suc n) =
     (λ p h. let l = h.0 in let r = h.1 in (omega arith, omega arith)) (range_with_len (a + 1) n)
     (range_within (a + 1) n))
 
--- they rise
+-- the numbers of a range rise
 range_rises : (a n : ℕ) → AllPairs (λ x y. x < y) (range_with_len a n)
 range_rises a zero = λ i j d lt within. absurd (omega arith)
 range_rises a (suc n) =
@@ -33,9 +34,11 @@ range_rises a (suc n) =
 -- ---- how often a place is named
 
 module _ (test : ℕ → Bool) (p : ℕ) where
+  -- how often the place p is in a list
   abbrev times : List ℕ → ℕ
   times xs = count_by (λ q. q == p) xs
 
+  -- a number other than p, kept or not, does not change how often p is in the list
   head_other : (a : ℕ) (rest : List ℕ) (n : ℕ) → a ≢ p → times rest ≡ n → (t : Bool) → times (cond t (a ∷ rest) rest) ≡ n
   head_other a rest n ne is true =
       sum_by-cons (λ q. cond (q == p) 1 0) a rest
@@ -50,6 +53,7 @@ module _ (test : ℕ → Bool) (p : ℕ) where
       (λ e. ⊎_elim (λ l. absurd (omega arith)) (λ l. absurd (omega arith)) out)
       (named_never (a + 1) n (⊎_elim (λ l. inl (omega arith)) (λ l. inr (omega arith)) out)) (test a)
 
+  -- p itself, before a list without p, is there once where it is kept and else never
   head_same : (a : ℕ) (rest : List ℕ) → a ≡ p → times rest ≡ 0 → (t : Bool) → times (cond t (a ∷ rest) rest) ≡ cond t 1 0
   head_same a rest same is true =
       sum_by-cons (λ q. cond (q == p) 1 0) a rest
@@ -71,25 +75,30 @@ module _ (test : ℕ → Bool) (p : ℕ) where
 -- ---- the places of an element
 
 module _ (w found : ℕ) where
+  -- whether the flag of a place was found
   abbrev has : ℕ → Bool
   has p = has_flag found p
 
+  -- each place that the word names is of its element
   pub in_element : 1 ≤ w → All (λ p. element_of p ≡ w) (places_in w found)
   in_element low =
       All-filter has (λ p. element_of p ≡ w) (range_with_len (first_place w) 64)
       (All-weaker (λ p. (first_place w ≤ p) × (p < first_place w + 64)) (λ p. element_of p ≡ w)
       (λ p h. let l = h.0 in let r = h.1 in omega arith) (range_with_len (first_place w) 64) (range_within (first_place w) 64))
 
+  -- each place that the word names has its flag in the word
   pub each_stands : All (λ p. has_flag found p ≡ true) (places_in w found)
   each_stands = filter_passes has (range_with_len (first_place w) 64)
 
+  -- the places that the word names rise
   pub places_rise : AllPairs (λ x y. x < y) (places_in w found)
   places_rise = AllPairs-filter (λ x y. x < y) has (range_with_len (first_place w) 64) (range_rises (first_place w) 64)
 
-  -- each place of the element is named once where its flag stands, and no other place is named
+  -- each place of the element is named once where its flag stands in the word, and else never
   pub place_named : (p : ℕ) → element_of p ≡ w → count_by (λ q. q == p) (places_in w found) ≡ cond (has_flag found p) 1 0
   place_named p is = named_once has p (first_place w) 64 (omega arith) (omega arith)
 
+  -- a place of another element is never named
   pub place_not_named : 1 ≤ w → (p : ℕ) → element_of p ≢ w → count_by (λ q. q == p) (places_in w found) ≡ 0
   place_not_named low p ne =
       named_never has p (first_place w) 64

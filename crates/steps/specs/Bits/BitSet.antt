@@ -1,4 +1,5 @@
--- The calls of the bit set on one place, one step after another.
+-- The calls of the bit set on one place, one step after another. `.._asks` says what a call asks for at each
+-- stage, and `.._takes` where the answer leads: to a next stage (`GoOn`) or to its end (`Done`).
 use Rattle.std.specs.Prelude.{ℕ, ◌+◌, ◌-◌, ◌==◌, Bool, true, false, not, Option, Some, None, if◌then◌else◌, nat_lt}
 use Rattle.steps.specs.Queues.Ring.{after_position, load, store}
 use Rattle.steps.specs.Bits.Words.{element_of, has_flag, with_flag, without_flag}
@@ -35,11 +36,12 @@ set_asks sets.LoadsElement place = load (element_of place)
 set_asks (sets.ExchangesElement found) place =
     exchange (element_of place) found (with_flag found place)
 
--- what the set waits for
+-- what the set asks for next, at the stage where it stands
 abbrev pub set_want : Set → ℕ → Want (Unit {0})
 set_want call place = set_asks call.stage place
 
--- where the flag stands, nothing is to be done
+-- the set after an element that it has loaded or found: its end with false where the flag
+-- stands, else the exchange
 abbrev pub set_tests : (place found : ℕ) → After Set Bool
 set_tests place found =
     if has_flag found place
@@ -68,11 +70,11 @@ abbrev pub first_reset : ℕ → ResetNext
 first_reset capacity =
     record { capacity = capacity; stage = resets.LoadsPosition }
 
--- the call at this stage
+-- the reset, moved to this stage
 abbrev pub at_reset : ResetNext → ResetNextStage → ResetNext
 at_reset call stage = record { capacity = call.capacity; stage = stage }
 
--- the place that comes after so many places from the start: after the last one comes 0
+-- the place that is `passed` places after the start; after the last place comes 0
 abbrev pub place_after : (capacity start passed : ℕ) → ℕ
 place_after capacity start passed =
     if nat_lt (start + passed) capacity then start + passed else start + passed - capacity
@@ -88,7 +90,7 @@ reset_asks capacity (resets.ExchangesElement start passed found) =
     (without_flag found (place_after capacity start passed))
 reset_asks capacity (resets.StoresPosition place) = store 0 (after_position place)
 
--- what the reset of the next place waits for
+-- what the reset of the next place asks for next, at the stage where it stands
 abbrev pub reset_want : ResetNext → Want (Unit {0})
 reset_want call = reset_asks call.capacity call.stage
 

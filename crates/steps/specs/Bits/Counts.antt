@@ -1,4 +1,5 @@
--- The call of the counting bit set on one place.
+-- The call of the counting bit set on one place. `set_want` says what a call asks for, and `set_after` that
+-- the answer ends it (`Done`).
 use Rattle.std.specs.Prelude.{ℕ}
 use Rattle.steps.specs.declared.ask.Op.TheVariants.{Add}
 use Rattle.steps.specs.declared.ask.Want.{Want}

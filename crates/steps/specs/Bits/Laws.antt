@@ -25,14 +25,15 @@ use Rattle.steps.specs.Bits.Looks.{is_set_want, is_set_after, count_want, count_
 use Rattle.steps.specs.Bits.ResetAll.{reset_all_want, reset_all_after, reset_all_kept, reset_all_left}
 use Rattle.steps.specs.declared.copied.OneWord.{OneWord}
 
--- the set of a bit loads and exchanges
+-- after its store a set goes on in the same way, whatever the word held before: it loads and
+-- exchanges, and never stores
 pub set_tells : (stage : SetStage) (place : ℕ) (room : Unit {0}) (m n : ℕ)
     → IsTrue (is_store (set_asks stage place))
     → (set_takes stage place m ≡ set_takes stage place n) × (room ≡ room)
 set_tells sets.LoadsElement place room m n t = no_store t
 set_tells (sets.ExchangesElement found) place room m n t = no_store t
 
--- the store of a reset_next tells it nothing
+-- after its store a `reset_next` goes on in the same way, whatever the word held before
 pub reset_tells : (c : ResetNext) (stage : ResetNextStage) (room : Unit {0}) (m n : ℕ)
     → IsTrue (is_store (reset_asks c.capacity stage))
     → (reset_takes c stage m ≡ reset_takes c stage n) × (room ≡ room)
@@ -82,7 +83,7 @@ reset_all_tells c room m n =
     (wants.Ask (record { word = c.word; op = Swap 0 })) wants.Nothing
     (λ h t. no_store t) (λ h t. no_store t)
 
--- one more than is left once it has gone on, nothing once it is done
+-- one more than `reset_all_left` of the call, which each step lowers, and 0 once the call has ended
 abbrev reset_all_then : After ResetAll (Unit {0}) → ℕ
 reset_all_then (GoOn d) = reset_all_left d + 1
 reset_all_then (Done e) = 0
@@ -96,7 +97,7 @@ reset_all_nearer c n =
     (λ t. let further : c.word + 1 < c.end = grind (arith, nat_tests) in omega arith)
     (λ t. omega arith)
 
--- a reset of all places that goes on has fewer steps left
+-- where a reset of all places goes on after a step, `reset_all_left` is less
 pub reset_all_fewer : (c d : ResetAll) (n : ℕ) → reset_all_after c n ≡ GoOn d
     → reset_all_left d < reset_all_left c
 reset_all_fewer c d n goes =

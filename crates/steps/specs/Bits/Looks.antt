@@ -1,4 +1,5 @@
--- The calls of the bit sets that look at one place and change nothing.
+-- The calls of the bit sets that look at one place and change nothing. `.._want` says what a call asks for,
+-- and `.._after` that the answer ends it (`Done`).
 use Rattle.std.specs.Prelude.{ℕ, Bool}
 use Rattle.steps.specs.Queues.Ring.{load}
 use Rattle.steps.specs.Bits.Words.{element_of, has_flag}

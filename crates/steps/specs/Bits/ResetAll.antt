@@ -1,4 +1,6 @@
--- The call that empties the words of a set, one after another.
+-- The call that empties the words of a set, one after another. `reset_all_want` says what the call asks for,
+-- and `reset_all_after` where the answer leads: to a next stage (`GoOn`) or to its end (`Done`).
+-- `reset_all_kept` says what its room keeps, and `reset_all_left` is a number that each step lowers.
 use Rattle.std.specs.Prelude.{ℕ, ◌+◌, ◌-◌, if◌then◌else◌, nat_lt}
 use Rattle.steps.specs.Bits.Words.{elements}
 use Rattle.steps.specs.declared.ask.Op.TheVariants.{Swap}

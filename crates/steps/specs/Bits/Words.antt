@@ -13,7 +13,7 @@ bit_of place = place % 64
 abbrev pub element_of : ℕ → ℕ
 element_of place = 1 + place / 64
 
--- how many elements so many places take
+-- how many elements the flags of this many places take
 abbrev pub elements : ℕ → ℕ
 elements capacity = (capacity + 63) / 64
 

@@ -1,5 +1,6 @@
--- The add of a container, one step after another.
--- T is the type of the values, size the number of their words.
+-- The add of a container, one step after another. T is the type of the values, size the number of their
+-- words. `add_asks` says what the call asks for at each stage, and `add_takes` where the answer leads: to a
+-- next stage (`GoOn`) or to its end (`Done`). `add_goes_back` says whether it begins a loop again.
 use Rattle.std.specs.Prelude.{ℕ, ◌+◌, Bool, false, List, Result, Ok, Err, if◌then◌else◌, nat_lt, slice_index}
 use Rattle.steps.specs.Queues.Ring.{load, store}
 use Rattle.steps.specs.Indices.Robust.Acquire.{Acquired, acquire_asks, acquire_takes, acquire_goes_back}
@@ -35,7 +36,7 @@ add_goes_back (adds.AddsCount index) old = false
 add_goes_back (adds.AddsChange index) old = false
 
 module _ {T : Type 0} where
-  -- the call at this stage
+  -- the add, moved to this stage
   abbrev pub at_add : Add T → AddStage → Add T
   at_add call stage = record call { stage = stage }
 
@@ -64,7 +65,7 @@ module _ {T : Type 0} where
   add_asks words_of size capacity (adds.AddsChange index) given =
       add_one (change_word capacity)
 
-  -- what the add waits for
+  -- what the add asks for next, at the stage where it stands
   abbrev pub add_want : (T → List ℕ) → ℕ → Add T → Owned T → Want (Unit {0})
   add_want words_of size call given = add_asks words_of size call.capacity call.stage given
 

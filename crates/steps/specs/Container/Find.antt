@@ -1,5 +1,7 @@
--- The find of a container, one step after another.
--- T is the type of the values, size the number of their words, R the room for them.
+-- The find of a container, one step after another. T is the type of the values, size the number of their
+-- words, R the room for them. `find_asks` says what the call asks for at each stage, and `find_takes` where
+-- the answer leads: to a next stage (`GoOn`) or to its end (`Done`). `find_kept` says what its room keeps,
+-- and `find_left` is a number that each step lowers.
 use Rattle.std.specs.Prelude.{ℕ, ◌+◌, ◌-◌, ◌*◌, ◌==◌, if◌then◌else◌, nat_lt}
 use Rattle.steps.specs.Queues.Ring.{load}
 use Rattle.steps.specs.Indices.Robust.Parts.{cell_word, one_more}
@@ -46,7 +48,7 @@ find_left size capacity (finds.ChecksCount index found count) =
 find_left size capacity (finds.Asks index found) = 140 * (capacity - index)
 
 module _ {T R : Type 0} where
-  -- the call at this stage
+  -- the find, moved to this stage
   abbrev pub at_find : Find T R → FindStage → Find T R
   at_find call stage = record call { stage = stage }
 
@@ -55,7 +57,7 @@ module _ {T R : Type 0} where
   first_find capacity =
       record { capacity = capacity; stage = finds.LoadsCell 0 0; of = record {} }
 
-  -- what the find waits for
+  -- what the find asks for next, at the stage where it stands
   abbrev pub find_want : ℕ → Find T R → Want (Unit {0})
   find_want size call = find_asks size call.capacity call.stage
 

@@ -131,7 +131,7 @@ module _ {T : Type 0} (value_of : List ℕ → T) (size : ℕ) where
 -- ---- replace and find end by themselves
 
 module _ {T : Type 0} (size : ℕ) where
-  -- one more than is left once it has gone on, nothing once it is done
+  -- one more than `replace_left` of the call, which each step lowers, and 0 once the call has ended
   abbrev replace_then : After (Replace T) Replaced → ℕ
   replace_then (GoOn d) = replace_left size d.stage + 1
   replace_then (Done e) = 0
@@ -157,7 +157,7 @@ module _ {T : Type 0} (size : ℕ) where
   replace_stage_fewer c replaces.AddsCount given k = omega arith
   replace_stage_fewer c replaces.AddsChange given k = omega arith
 
-  -- a replace that goes on has fewer steps left
+  -- where a replace goes on after a step, `replace_left` is less
   pub replace_fewer : (c d : Replace T) (given : Replacement T) (k : ℕ)
       → replace_after size c given k ≡ GoOn d
       → replace_left size d.stage < replace_left size c.stage
@@ -165,7 +165,7 @@ module _ {T : Type 0} (size : ℕ) where
       let e = ap replace_then goes in let f = replace_stage_fewer c c.stage given k in omega arith
 
 module _ {T R : Type 0} (size : ℕ) (few : size ≤ 128) where
-  -- one more than the steps that are left of the call, and 0 once it has ended
+  -- one more than `find_left` of the call, which each step lowers, and 0 once the call has ended
   abbrev find_then : After (Find T R) ℕ → ℕ
   find_then (GoOn d) = find_left size d.capacity d.stage + 1
   find_then (Done e) = 0
@@ -209,7 +209,7 @@ module _ {T R : Type 0} (size : ℕ) (few : size ≤ 128) where
       (find_comes_to c (index + 1) found)
       (λ e. omega arith) (λ e. next_nearer c index found)
 
-  -- a find that goes on has fewer steps left
+  -- where a find goes on after a step, `find_left` is less
   pub find_fewer : (c d : Find T R) (owner n : ℕ) → find_after size c owner n ≡ GoOn d
       → find_left size d.capacity d.stage < find_left size c.capacity c.stage
   find_fewer c d owner n goes =

@@ -1,5 +1,7 @@
--- The look of a state at its container, one step after another.
--- T is the type of the values, size the number of their words.
+-- The look of a state at its container, one step after another. T is the type of the values, size the number
+-- of their words. `look_asks` says what the call asks for at each stage, and `look_takes` where the answer
+-- leads: to a next stage (`GoOn`) or to its end (`Done`). `look_kept` says what its room keeps, and
+-- `look_goes_back` whether it begins a loop again.
 use Rattle.std.specs.Prelude.{ℕ, ◌+◌, ◌==◌, Bool, true, false, not, List, if◌then◌else◌, nat_lt, slice_index_or}
 use Rattle.steps.specs.Queues.Ring.{load}
 use Rattle.steps.specs.Container.Layout.{change_word, count_word, element_word, is_even, check}
@@ -37,7 +39,7 @@ module _ {T : Type 0} where
   first_look capacity =
       record { capacity = capacity; stage = looks.LoadsChange; of = record {} }
 
-  -- what the look waits for
+  -- what the look asks for next, at the stage where it stands
   abbrev pub look_want : ℕ → Look T → Want (Unit {0})
   look_want size call = look_asks size call.capacity call.stage
 

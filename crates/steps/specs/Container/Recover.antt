@@ -1,5 +1,7 @@
--- The recovery of a container, one step after another.
--- T is the type of the values, size the number of their words, R the room for them.
+-- The recovery of a container, one step after another. T is the type of the values, size the number of their
+-- words, R the room for them. `recover_asks` says what the call asks for at each stage, and `recover_takes`
+-- where the answer leads: to a next stage (`GoOn`) or to its end (`Done`). `recover_kept` says what its room
+-- keeps, and `recover_goes_back` whether it begins a loop again.
 use Rattle.std.specs.Prelude.{ℕ, ◌+◌, ◌==◌, Bool, false, not, if◌then◌else◌, nat_lt}
 use Rattle.steps.specs.Queues.Ring.{load}
 use Rattle.steps.specs.Indices.Robust.Parts.{cell_word, empty, locked, exchange, raise_want, raise_after}
@@ -88,7 +90,7 @@ module _ {T R : Type 0} where
   first_recover capacity =
       record { capacity = capacity; stage = recovers.LoadsCounter; of = record {} }
 
-  -- what the recovery waits for
+  -- what the recovery asks for next, at the stage where it stands
   abbrev pub recover_want : ℕ → Recover T R → DeadOwner → Want (Unit {0})
   recover_want size call given = recover_asks size call.capacity call.stage given.owner
 

@@ -1,4 +1,6 @@
--- The remove of a container, one step after another.
+-- The remove of a container, one step after another. `remove_asks` says what the call asks for at each stage,
+-- and `remove_takes` where the answer leads: to a next stage (`GoOn`) or to its end (`Done`).
+-- `remove_goes_back` says whether it begins a loop again.
 use Rattle.std.specs.Prelude.{ℕ, Bool, false, Result, Ok, Err, if◌then◌else◌, nat_lt}
 use Rattle.steps.specs.Queues.Ring.{load}
 use Rattle.steps.specs.Indices.Robust.Release.{Released, release_asks, release_takes, release_goes_back}
@@ -32,7 +34,7 @@ first_remove capacity index =
           else removes.Refuses;
     }
 
--- the call at this stage
+-- the remove, moved to this stage
 abbrev pub at_remove : Remove → RemoveStage → Remove
 at_remove call stage = record call { stage = stage }
 
@@ -50,7 +52,7 @@ remove_asks capacity (removes.Hides count state) given =
     hide capacity given.index count
 remove_asks capacity (removes.AddsChange state) given = add_one (change_word capacity)
 
--- what the remove waits for
+-- what the remove asks for next, at the stage where it stands
 abbrev pub remove_want : Remove → GiveBack → Want (Unit {0})
 remove_want call given = remove_asks call.capacity call.stage given
 

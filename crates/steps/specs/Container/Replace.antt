@@ -1,4 +1,6 @@
--- The replace of a container, one step after another. T is the type of the values, size the number of their words.
+-- The replace of a container, one step after another. T is the type of the values, size the number of their
+-- words. `replace_asks` says what the call asks for at each stage, and `replace_takes` where the answer
+-- leads: to a next stage (`GoOn`) or to its end (`Done`). `replace_left` is a number that each step lowers.
 use Rattle.std.specs.Prelude.{ℕ, ◌+◌, ◌-◌, ◌==◌, List, Result, Ok, Err, if◌then◌else◌, nat_lt, slice_index}
 use Rattle.steps.specs.Queues.Ring.{load, store}
 use Rattle.steps.specs.Indices.Robust.Parts.{cell_word}
@@ -29,7 +31,7 @@ replace_left size replaces.AddsCount = 1
 replace_left size replaces.AddsChange = 0
 
 module _ {T : Type 0} where
-  -- the call at this stage
+  -- the replace, moved to this stage
   abbrev pub at_replace : Replace T → ReplaceStage → Replace T
   at_replace call stage = record call { stage = stage }
 
@@ -62,11 +64,13 @@ module _ {T : Type 0} where
   replace_asks words_of size capacity replaces.AddsChange given =
       add_one (change_word capacity)
 
-  -- what the replace waits for
+  -- what the replace asks for next, at the stage where it stands
   abbrev pub replace_want : (T → List ℕ) → ℕ → Replace T → Replacement T → Want (Unit {0})
   replace_want words_of size call given = replace_asks words_of size call.capacity call.stage given
 
-  -- where the replace goes on to from the old value of its word: an index of another owner stays as it is
+  -- Where the replace goes on to from the old value of its word: it ends where the cell has not
+  -- the given owner, and else hides what stands there, stores the words of the value, shows them,
+  -- and counts the change.
   abbrev pub replace_takes : ℕ → Replace T → ReplaceStage → Replacement T → ℕ
       → After (Replace T) Replaced
   replace_takes size call replaces.Refuses given old =

@@ -115,7 +115,7 @@ module _ {T : Type 0} where
       → ℕ × T → CallbackProgression → F → Type 0
   at_value step p x said q = (r : Bor T) × step p x.0 r said q × (r.now ≡ x.1)
 
-  -- these numbers, but where an element has another number, that one
+  -- the numbers that the state had seen, each replaced by that of the element at its place, if there is one
   abbrev pub numbers_over : List ℕ → List (Element T) → List ℕ
   numbers_over counts [] = counts
   numbers_over [] (e ∷ elements) = []

@@ -1,4 +1,7 @@
--- The calls of the unique index set, one step after another.
+-- The calls of the unique index set, one step after another. `.._asks` says what a call asks for at each
+-- stage, and `.._takes` where the answer leads: to a next stage (`GoOn`) or to its end (`Done`).
+-- `release_left` is a number that each step of a release that may not lock lowers, and `.._goes_back` says
+-- whether it begins a loop again.
 use Rattle.std.specs.Prelude.{ℕ, ◌+◌, ◌-◌, ◌%◌, ◌^◌, ◌==◌, ◌&&◌, Bool, false, not, Result, Ok, Err, if◌then◌else◌, nat_lt}
 use Rattle.steps.specs.Queues.Ring.{load, store}
 use Rattle.steps.specs.Indices.Head.{next_word, flag_word, flag, has_flag, proposed, aba, borrowed, locked, says_locked, head_word}
@@ -35,7 +38,7 @@ abbrev pub first_acquire : ℕ → Acquire
 first_acquire capacity =
     record { capacity = capacity; stage = acquires.LoadsHead }
 
--- the call at this stage
+-- the acquire, moved to this stage
 abbrev pub at_acquire : Acquire → AcquireStage → Acquire
 at_acquire call stage = record call { stage = stage }
 
@@ -64,11 +67,12 @@ acquire_asks capacity (acquires.ExchangesHead head next) =
 acquire_asks capacity (acquires.Claims index) = claim capacity index
 acquire_asks capacity (acquires.Scans index) = claim capacity index
 
--- what the acquire waits for
+-- what the acquire asks for next, at the stage where it stands
 abbrev pub acquire_want : Acquire → Want (Unit {0})
 acquire_want call = acquire_asks call.capacity call.stage
 
--- how the acquire goes on from a head word: where that proposes no index of the set, its proposal stays
+-- how the acquire goes on from a head word: it ends where that says locked or all borrowed, and where that
+-- proposes no index of the set the exchange leaves the proposal
 abbrev pub acquire_sees : Acquire → ℕ → After Acquire Acquired
 acquire_sees call head =
     if says_locked head
@@ -79,7 +83,8 @@ acquire_sees call head =
     then GoOn (at_acquire call (acquires.LoadsNext head))
     else GoOn (at_acquire call (acquires.ExchangesHead head (proposed head)))
 
--- where the acquire begins to claim: at the proposed index, or else at flag 0, from where it tries all, again and again
+-- where the acquire begins to claim: at the proposed index, or at flag 0 where that is no index of the set;
+-- from there it tries each flag, again and again
 abbrev pub first_claim : (capacity head : ℕ) → AcquireStage
 first_claim capacity head =
     if nat_lt (proposed head) capacity
@@ -178,15 +183,16 @@ module _ {M : Type 0} where
         of = record {};
       }
 
-  -- the call at this stage
+  -- the release, moved to this stage
   abbrev pub at_release : Release M → ReleaseStage → Release M
   at_release call stage = record call { stage = stage }
 
-  -- what the release waits for
+  -- what the release asks for next, at the stage where it stands
   abbrev pub release_want : Bool → Release M → ℕ → Want (Unit {0})
   release_want lock call index = release_asks lock call.capacity index call.stage
 
-  -- where the head has moved, a release that may lock goes on from the head found, and any other one only subtracts
+  -- Where the release goes on to from the old value of its word. Where the head has moved, a release that may
+  -- lock goes back to the store with the head found, and one in mode Default only subtracts.
   abbrev pub release_takes : Bool → Release M → ReleaseStage → ℕ
       → After (Release M) ReleaseState
   release_takes lock call releases.ClearsFlag old =

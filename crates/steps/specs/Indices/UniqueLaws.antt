@@ -41,7 +41,7 @@ module _ {M : Type 0} where
   release_tells lock c (releases.ExchangesHead head) index room m n t = no_store t
   release_tells lock c releases.Subtracts index room m n t = no_store t
 
-  -- one more than the steps that are left of the call, and 0 once it has ended
+  -- one more than `release_left` of the call, and 0 once the call has ended
   abbrev release_then : After (Release M) ReleaseState → ℕ
   release_then (GoOn d) = release_left d.stage + 1
   release_then (Done e) = 0
@@ -57,7 +57,7 @@ module _ {M : Type 0} where
       (GoOn (at_release c releases.Subtracts)) (λ e. omega arith) (λ e. omega arith)
   release_stage_fewer c releases.Subtracts k = omega arith
 
-  -- a release that may not lock has fewer steps left where it goes on
+  -- where a release that may not lock goes on after a step, `release_left` is less
   pub release_fewer : (c d : Release M) (k : ℕ) → release_after false c k ≡ GoOn d
       → release_left d.stage < release_left c.stage
   release_fewer c d k goes =

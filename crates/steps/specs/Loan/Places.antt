@@ -9,11 +9,11 @@ is_sent Free = false
 is_sent Loaned = false
 is_sent Sent = true
 
--- where the sender has the index; what is past the slots is free
+-- where the index is; an index past the slots counts as free
 abbrev pub place_at : List Place → ℕ → Place
 place_at places index = slice_index_or places index Free
 
--- the first of so many indices from this one on that is sent
+-- the first index that is sent, among this many indices from the given one on
 abbrev pub sent_within : List Place → ℕ → ℕ → Option ℕ
 sent_within places from zero = None
 sent_within places from (suc left) =
@@ -21,6 +21,6 @@ sent_within places from (suc left) =
     then Some from
     else sent_within places (from + 1) left
 
--- the first index from this one on that is sent, in a channel of so many slots
+-- the first index that is sent, from `from` on and below the number of slots
 abbrev pub next_sent : List Place → (slots from : ℕ) → Option ℕ
 next_sent places slots from = sent_within places from (slots - from)

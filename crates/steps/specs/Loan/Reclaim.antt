@@ -1,4 +1,6 @@
--- The reclaim of a loan channel, one step after another.
+-- The reclaim of a loan channel, one step after another. `reclaim_asks` says what the call asks for at each
+-- stage, and `reclaim_takes` where the answer leads: to a next stage (`GoOn`) or to its end (`Done`).
+-- `reclaim_goes_back` says whether it begins a loop again.
 use Rattle.std.specs.Prelude.{ℕ, ◌+◌, ◌%◌, ◌^◌, Bool, true, false, Option, Some, None, List}
 use Rattle.steps.specs.Loan.Back.{back_asks, back_takes}
 use Rattle.steps.specs.Loan.Layout.{submission_word, completion_word}
@@ -47,7 +49,7 @@ reclaim_asks slots queue (Empties stage) =
     shifted (completion_word slots queue) (pop_asks stage)
 reclaim_asks slots queue (Releases number index stage) = back_asks slots index stage
 
--- what the reclaim waits for
+-- what the reclaim asks for next, at the stage where it stands
 abbrev pub reclaim_want : Reclaim → Want (Unit {0})
 reclaim_want call = reclaim_asks call.slots call.queue call.stage
 

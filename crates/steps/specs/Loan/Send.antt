@@ -1,4 +1,5 @@
--- The send of a loan channel, one step after another.
+-- The send of a loan channel, one step after another. `send_asks` says what the call asks for at each stage,
+-- and `send_takes` where the answer leads: to a next stage (`GoOn`) or to its end (`Done`).
 use Rattle.std.specs.Prelude.{ℕ, Option, Some, None}
 use Rattle.steps.specs.Loan.Back.{index_in, back_asks, back_takes}
 use Rattle.steps.specs.Loan.Layout.{submission_word}
@@ -24,7 +25,7 @@ abbrev pub first_send : (slots queue : ℕ) → Send
 first_send slots queue =
     record { slots = slots; queue = queue; stage = Pushes (first_push queue).stage }
 
--- the call at this stage
+-- the send, moved to this stage
 abbrev pub at_send : Send → SendStage → Send
 at_send call stage = record call { stage = stage }
 
@@ -38,7 +39,7 @@ send_asks slots queue (Pushes stage) given =
     shifted (submission_word slots) (push_asks queue stage given)
 send_asks slots queue (Releases index stage) given = back_asks slots index stage
 
--- what the send waits for
+-- what the send asks for next, at the stage where it stands
 abbrev pub send_want : Send → ℕ → Want (Unit {0})
 send_want call given = send_asks call.slots call.queue call.stage given
 

@@ -1,4 +1,5 @@
--- The take-back of a loan channel, one step after another.
+-- The take-back of a loan channel, one step after another. `take_back_asks` says what the call asks for at
+-- each stage, and `take_back_takes` where the answer leads: to a next stage (`GoOn`) or to its end (`Done`).
 use Rattle.std.specs.Prelude.{ℕ, Bool, true, false, Option, Some, None}
 use Rattle.steps.specs.Copied.{kept_in_one}
 use Rattle.steps.specs.Loan.Back.{index_in, back_asks, back_takes}
@@ -25,7 +26,7 @@ abbrev pub first_take_back : (slots queue : ℕ) → TakeBack
 first_take_back slots queue =
     record { slots = slots; queue = queue; stage = Pops LoadsRead (record { 0 = 0 }) }
 
--- the call at this stage
+-- the take-back, moved to this stage
 abbrev pub at_take_back : TakeBack → TakeBackStage → TakeBack
 at_take_back call stage = record call { stage = stage }
 
@@ -39,7 +40,7 @@ take_back_asks slots queue (Pops stage found) =
     shifted (completion_word slots queue) (pop_asks stage)
 take_back_asks slots queue (Releases index stage) = back_asks slots index stage
 
--- what the take-back waits for
+-- what the take-back asks for next, at the stage where it stands
 abbrev pub take_back_want : TakeBack → Want (Unit {0})
 take_back_want call = take_back_asks call.slots call.queue call.stage
 

@@ -2,8 +2,8 @@
 use Rattle.std.specs.Prelude.{ℕ, ◌+◌, ◌-◌, ◌^◌, ◌==◌, ◌&&◌, Bool, not, Option, Some, None, List, [], ◌∷◌, ◌++◌, length}
 use Rattle.std.specs.Prelude.{drop, min, nat_lt, slice_get, if◌then◌else◌}
 
--- A list of at most so many values. Each value has a position, one more than the value before it; the greatest number
--- of 64 bits is the position of none.
+-- A list of at most `capacity` values. Each value has a position, one more than the value before it; no value
+-- has the greatest number of 64 bits as its position.
 pub record Bounded (V : Type 0) : Type 0 where
   pub capacity : ℕ
   -- the position of the oldest value, or of the next one where there is none

@@ -61,14 +61,15 @@ raised s = record s { generation = next_generation s.generation }
 
 -- ---- the indices that have an owner
 
--- the indices of this list that have an owner, ascending, with him; its first index is this one
+-- the indices of this list that have an owner, ascending, each with its owner; the first index
+-- of the list is this one
 abbrev pub taken_from : ℕ → List (Option ℕ) → List Owned
 taken_from index [] = []
 taken_from index (None ∷ owners) = taken_from (index + 1) owners
 taken_from index (Some owner ∷ owners) =
     record { owner = owner; index = index } ∷ taken_from (index + 1) owners
 
--- the indices that have an owner, ascending, with him
+-- the indices that have an owner, ascending, each with its owner
 abbrev pub taken : Owners → List Owned
 taken s = taken_from 0 s.owners
 
@@ -124,7 +125,8 @@ locked_if_none s =
 abbrev pub without : Owners → ℕ → Owners
 without s index = raised (record s { owners = slice_set s.owners index None })
 
--- the map once an index was given back in this mode: the mode that locks does so where none has an owner
+-- the map once an index was given back in this mode: the mode `LockIfLastIndex` then locks the set where no
+-- index has an owner
 abbrev pub given_back : ReleaseMode → Owners → ℕ → Owners
 given_back Default s index = without s index
 given_back LockIfLastIndex s index = locked_if_none (without s index)
@@ -134,7 +136,8 @@ abbrev pub release_state : ReleaseMode → Owners → ReleaseState
 release_state Default s = Unlocked
 release_state LockIfLastIndex s = state_of s
 
--- a release of an index for an owner: with the state of the set, or refused where the index is not his
+-- what a release of an index for an owner answers: the state of the set, or an error where the
+-- index is not the owner's
 abbrev pub released : Owners → (index owner : ℕ) → ReleaseMode → Result ReleaseState RobustUniqueIndexSetReleaseError
 released s index owner mode =
     if has s index owner

@@ -8,7 +8,7 @@ pub record Places : Type 0 where
   pub flags : List Bool
   pub start : ℕ
 
--- a set of so many places, of which none stands
+-- a set of this many places, of which none stands
 abbrev pub unset : ℕ → Places
 unset capacity = record { flags = replicate capacity false; start = 0 }
 
@@ -30,7 +30,7 @@ standing_from place (flag ∷ flags) =
 abbrev pub standing : Places → List ℕ
 standing s = standing_from 0 s.flags
 
--- the first of the two that there is
+-- the first value, or else the second
 abbrev pub or_else : Option ℕ → Option ℕ → Option ℕ
 or_else (Some place) other = Some place
 or_else None other = other

@@ -1,4 +1,5 @@
--- The number of values that wait in a queue, one step after another.
+-- The number of values that wait in a queue, one step after another. `len_asks` says what the call asks for
+-- at each stage, and `len_takes` where the answer leads: to a next stage (`GoOn`) or to its end (`Done`).
 use Rattle.std.specs.Prelude.{ℕ, ◌==◌, Bool, false, if◌then◌else◌, not}
 use Rattle.steps.specs.Queues.Ring.{distance, load}
 use Rattle.steps.specs.declared.ask.Want.{Want}
@@ -16,7 +17,7 @@ number_waiting capacity write read = if capacity == 0 then 0 else distance write
 abbrev pub first_len : ℕ → Len
 first_len capacity = record { capacity = capacity; stage = LoadsWrite }
 
--- the call at this stage
+-- the call for the length, moved to this stage
 abbrev pub at_len : Len → LenStage → Len
 at_len call stage = record { capacity = call.capacity; stage = stage }
 
@@ -27,7 +28,7 @@ len_asks (LoadsRead write) = load 1
 len_asks (LoadsWriteAgain write read) = load 0
 len_asks (LoadsReadAgain write read) = load 1
 
--- what the call for the length waits for
+-- what the call for the length asks for next, at the stage where it stands
 abbrev pub len_want : Len → Want (Unit {0})
 len_want call = len_asks call.stage
 

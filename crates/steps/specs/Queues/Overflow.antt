@@ -1,4 +1,6 @@
--- The calls of the overflowing queue, one step after another.
+-- The calls of the overflowing queue, one step after another. `.._asks` says what a call asks for at each
+-- stage, and `.._takes` where the answer leads: to a next stage (`GoOn`) or to its end (`Done`). `.._kept`
+-- says what its room keeps, and `.._left` is a number that each step lowers.
 use Rattle.std.specs.Prelude.{ℕ, ◌+◌, ◌-◌, ◌%◌, ◌^◌, ◌==◌, Bool, true, false, not, Option, Some, None, if◌then◌else◌}
 use Rattle.steps.specs.Queues.Ring.{after_position, distance, load, store}
 use Rattle.steps.specs.declared.ask.Op.TheVariants.{Exchange}
@@ -35,7 +37,7 @@ first_push capacity =
       stage = if capacity == 0 then pushes.HandsBack else pushes.LoadsWrite;
     }
 
--- the call at this stage
+-- the push, moved to this stage
 abbrev pub at_push : Push → PushStage → Push
 at_push call stage = record call { stage = stage }
 
@@ -52,12 +54,13 @@ push_asks capacity (pushes.StoresWrite write read) value =
 push_asks capacity (pushes.MovesRead read) value = move 1 read
 push_asks capacity (pushes.LoadsCell read) value = load (cell_word capacity read)
 
--- what the push waits for
+-- what the push asks for next, at the stage where it stands
 abbrev pub push_want : Push → ℕ → Want (Unit {0})
 push_want call value = push_asks call.capacity call.stage value
 
--- Where the push goes on to from the old value of its word: the queue was full where the read position was so far
--- behind; where it has moved since, there is room.
+-- Where the push goes on to from the old value of its word. The queue was full where the read
+-- position that it has loaded is `capacity` behind its write position; where a pop has moved the read
+-- position since, there is room.
 abbrev pub push_takes : Push → PushStage → ℕ → After Push PushEnd
 push_takes call pushes.HandsBack old = Done Own
 push_takes call pushes.LoadsWrite old =
@@ -118,7 +121,7 @@ first_pop capacity =
       stage = if capacity == 0 then pops.FindsNone else pops.LoadsRead;
     }
 
--- the call at this stage
+-- the pop, moved to this stage
 abbrev pub at_pop : Pop → PopStage → Pop
 at_pop call stage = record call { stage = stage }
 
@@ -130,7 +133,7 @@ pop_asks capacity (pops.LoadsWrite read) = load 0
 pop_asks capacity (pops.LoadsCell read) = load (cell_word capacity read)
 pop_asks capacity (pops.MovesRead read) = move 1 read
 
--- what the pop waits for
+-- what the pop asks for next, at the stage where it stands
 abbrev pub pop_want : Pop → Want (Unit {0})
 pop_want call = pop_asks call.capacity call.stage
 

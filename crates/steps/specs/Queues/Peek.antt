@@ -1,5 +1,7 @@
--- The look at the oldest value of a bounded queue, one step after another. V is the type of the values, size the number
--- of their words, R the room for them.
+-- The look at the oldest value of a bounded queue, one step after another. V is the type of the values, size
+-- the number of their words, R the room for them. `peek_asks` says what the call asks for at each stage, and
+-- `peek_takes` where the answer leads: to a next stage (`GoOn`) or to its end (`Done`). `peek_kept` says what
+-- its room keeps, and `peek_left` is a number that each step lowers.
 use Rattle.std.specs.Prelude.{ℕ, ◌+◌, ◌-◌, ◌==◌, ◌||◌, Bool, true, false, if◌then◌else◌, nat_lt}
 use Rattle.steps.specs.Queues.Ring.{load, cell_word, word_at}
 use Rattle.steps.specs.declared.ask.Want.{Want}
@@ -23,7 +25,7 @@ module _ {R : Type 0} where
   peek_keeps with_word room (LoadsCell cell at) old = with_word room at old
 
 module _ {V R : Type 0} where
-  -- the call at this stage
+  -- the peek, moved to this stage
   abbrev pub at_peek : Peek V R → PeekStage → Peek V R
   at_peek call stage = record call { stage = stage }
 
@@ -32,7 +34,7 @@ module _ {V R : Type 0} where
   first_peek capacity =
       record { capacity = capacity; stage = LoadsRead; of = record {} }
 
-  -- what the peek waits for
+  -- what the peek asks for next, at the stage where it stands
   abbrev pub peek_want : Peek V R → Want (Unit {0})
   peek_want call = peek_asks call.stage
 

@@ -1,5 +1,7 @@
--- The calls of the bounded queue, one step after another.
--- V is the type of the values, size the number of their words, R the room for them.
+-- The calls of the bounded queue, one step after another. V is the type of the values, size the number of
+-- their words, R the room for them. `.._asks` says what a call asks for at each stage, and `.._takes` where
+-- the answer leads: to a next stage (`GoOn`) or to its end (`Done`). `.._kept` says what its room keeps, and
+-- `.._left` is a number that each step lowers.
 use Rattle.std.specs.Prelude.{ℕ, ◌+◌, ◌-◌, ◌*◌, ◌%◌, ◌^◌, ◌==◌, ◌||◌, Bool, true, false, Option, Some, None, List, if◌then◌else◌, nat_lt, slice_index}
 use Rattle.steps.specs.declared.ask.Op.TheVariants.{Load, Store}
 use Rattle.steps.specs.declared.ask.Want.{Want}
@@ -38,7 +40,7 @@ abbrev pub store : (word new : ℕ) → Want (Unit {0})
 store word new = wants.Ask (record { word = word; op = Store new })
 
 module _ {V : Type 0} where
-  -- the call at this stage
+  -- the push, moved to this stage
   abbrev pub at_push : Push V → PushStage → Push V
   at_push call stage = record call { stage = stage }
 
@@ -55,7 +57,7 @@ module _ {V : Type 0} where
       store (word_at cell at) (slice_index (words_of value) at)
   push_asks words_of (pushes.StoresWrite write) value = store 0 (after_position write)
 
-  -- what the push waits for
+  -- what the push asks for next, at the stage where it stands
   abbrev pub push_want : (V → List ℕ) → Push V → V → Want (Unit {0})
   push_want words_of call value = push_asks words_of call.stage value
 
@@ -104,7 +106,7 @@ module _ {R : Type 0} where
   pop_keeps with_word room (pops.StoresRead read) old = room
 
 module _ {V R : Type 0} where
-  -- the call at this stage
+  -- the pop, moved to this stage
   abbrev pub at_pop : Pop V R → PopStage → Pop V R
   at_pop call stage = record call { stage = stage }
 
@@ -113,7 +115,7 @@ module _ {V R : Type 0} where
   first_pop capacity =
       record { capacity = capacity; stage = pops.LoadsRead; of = record {} }
 
-  -- what the pop waits for
+  -- what the pop asks for next, at the stage where it stands
   abbrev pub pop_want : Pop V R → Want (Unit {0})
   pop_want call = pop_asks call.stage
 

@@ -1,4 +1,4 @@
--- The calls on roles.
+-- The calls on roles. `.._want` says what a call asks for, and `.._after` that the answer ends it (`Done`).
 use Rattle.std.specs.Prelude.{ℕ, Bool, ◌==◌, not}
 use Rattle.steps.specs.declared.ask.Op.TheVariants.{Load, Store, Exchange}
 use Rattle.steps.specs.declared.ask.Want.{Want}

@@ -12,6 +12,7 @@ use crate::routine::{Ends, Routine};
 #[derive(Clone, Copy)]
 pub struct Version;
 
+/// The one step of a look at the version: it answers the version.
 impl Routine for Version {
     ghost use Rattle.steps.specs.Laws.{version_tells};
 
@@ -37,6 +38,7 @@ impl Routine for Version {
 
     ghost store_tells_nothing = { λ c given room m n t. version_tells c room m n t };
 
+    /// Loads the version.
     #[inline(always)]
     fn ask(self, _given: &()) -> Want<()> {
         Want::Ask(Ask {
@@ -50,6 +52,7 @@ impl Routine for Version {
         After::Done(answer)
     }
 
+    /// 0: the call has no value of the structure to hand out.
     fn value(_given: &(), _room: &()) -> u64 {
         0
     }

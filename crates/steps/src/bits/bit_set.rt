@@ -54,7 +54,7 @@ pub enum ResetNextStage {
     StoresPosition { place: u64 },
 }
 
-/// The place after so many others from the start: after the last one comes 0.
+/// The place that is `passed` places after the start; after the last place comes 0.
 #[inline(always)]
 pub fn place_after(capacity: u32, start: u32, passed: u32) -> u64
     ensures { result ≡ place_after capacity start passed }
@@ -88,7 +88,8 @@ impl Set {
         }
     }
 
-    /// The test of an element that was found.
+    /// The call after an element that it has loaded or found: its end with false where the flag
+    /// stands, else the exchange.
     #[inline(always)]
     fn tests(place: u64, found: u64) -> After<Set, bool>
         ensures { result ≡ set_tests place found }
@@ -127,7 +128,8 @@ impl ResetNext {
         }
     }
 
-    /// The call at the place after so many others, if it has not passed all of them.
+    /// The call at the place that is `passed` places after the start, or its end with None if it
+    /// has passed all places.
     #[inline(always)]
     fn comes_to(self, start: u32, passed: u64) -> After<ResetNext, Option<u64>>
         ensures { result ≡ reset_comes_to self start passed }
@@ -145,7 +147,8 @@ impl ResetNext {
         }
     }
 
-    /// The test of an element that was found.
+    /// The call after an element that it has loaded or found: the exchange where the flag of its place
+    /// stands, else the next place.
     #[inline(always)]
     fn tests(self, start: u32, passed: u32, found: u64) -> After<ResetNext, Option<u64>>
         ensures { result ≡ reset_tests self start passed found }
@@ -165,6 +168,8 @@ impl ResetNext {
     }
 }
 
+/// The steps of `set`: given the place, it reads no value into a room, and answers whether
+/// the place was clear.
 impl Routine for Set {
     ghost use Rattle.steps.specs.Bits.Laws.{set_tells};
 
@@ -190,6 +195,7 @@ impl Routine for Set {
 
     ghost store_tells_nothing = { λ c given room m n t. set_tells c.stage given room m n t };
 
+    /// Asks for the element of the place, then exchanges it for the element with the place's flag.
     #[inline(always)]
     fn ask(self, given: &u64) -> Want<()> {
         let op = match self.stage {
@@ -202,6 +208,8 @@ impl Routine for Set {
         })
     }
 
+    /// Tests the element as loaded, and again as found where another party has changed it. The exchange that
+    /// succeeds has set the flag.
     #[inline(always)]
     fn take(self, given: &u64, _room: &mut (), answer: u64) -> After<Set, bool> {
         match self.stage {
@@ -216,6 +224,7 @@ impl Routine for Set {
         }
     }
 
+    /// 0: the call has no value of the structure to hand out.
     fn value(_given: &u64, _room: &()) -> u64 {
         0
     }
@@ -226,6 +235,7 @@ impl Routine for Set {
     }
 }
 
+/// The steps of `reset_next`: given nothing, it answers the place that it has cleared, or None.
 impl Routine for ResetNext {
     ghost use Rattle.steps.specs.Bits.Laws.{reset_tells};
 
@@ -251,6 +261,8 @@ impl Routine for ResetNext {
 
     ghost store_tells_nothing = { λ c given room m n t. reset_tells c c.stage room m n t };
 
+    /// Asks for the position, then the element of each place, then exchanges that element for the one without
+    /// the place's flag, and stores the position behind the place.
     #[inline(always)]
     fn ask(self, _given: &()) -> Want<()> {
         let (word, op) = match self.stage {
@@ -279,6 +291,8 @@ impl Routine for ResetNext {
         Want::Ask(Ask { word, op })
     }
 
+    /// Begins at the stored position, or at the capacity where that is greater, and tests one place after
+    /// another. A failed exchange tests the place again, with the element as found.
     #[inline(always)]
     fn take(self, _given: &(), _room: &mut (), answer: u64) -> After<ResetNext, Option<u64>> {
         match self.stage {
@@ -311,6 +325,7 @@ impl Routine for ResetNext {
         }
     }
 
+    /// 0: the call has no value of the structure to hand out.
     fn value(_given: &(), _room: &()) -> u64 {
         0
     }

@@ -36,6 +36,7 @@ impl BitState {
 #[derive(Clone, Copy)]
 pub struct Set;
 
+/// The one step of `set` of a counting bit set: given the place, it answers what the count was.
 impl Routine for Set {
     ghost use Rattle.steps.specs.Bits.Laws.{count_tells};
 
@@ -61,6 +62,7 @@ impl Routine for Set {
 
     ghost store_tells_nothing = { λ c given room m n t. count_tells c given room m n t };
 
+    /// Adds 1 to the word of the place, which is its count.
     #[inline(always)]
     fn ask(self, given: &u64) -> Want<()> {
         Want::Ask(Ask {
@@ -69,11 +71,13 @@ impl Routine for Set {
         })
     }
 
+    /// Ends with the count before the addition.
     #[inline(always)]
     fn take(self, _given: &u64, _room: &mut (), answer: u64) -> After<Set, u64> {
         After::Done(answer)
     }
 
+    /// 0: the call has no value of the structure to hand out.
     fn value(_given: &u64, _room: &()) -> u64 {
         0
     }

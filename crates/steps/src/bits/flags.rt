@@ -15,7 +15,7 @@ pub fn element_of(place: u64) -> usize
     FIRST_ELEMENT + (place / 64) as usize
 }
 
-/// How many elements the flags of so many places take.
+/// How many elements the flags of `capacity` places take.
 #[inline(always)]
 pub fn elements(capacity: u32) -> u32
     ensures { result ≡ elements capacity }

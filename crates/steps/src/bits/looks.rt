@@ -16,6 +16,7 @@ pub struct IsSet;
 #[derive(Clone, Copy)]
 pub struct Count;
 
+/// The one step of `is_set`: given the place, it answers whether the place stands.
 impl Routine for IsSet {
     ghost use Rattle.steps.specs.Bits.Laws.{is_set_tells};
 
@@ -41,6 +42,7 @@ impl Routine for IsSet {
 
     ghost store_tells_nothing = { λ c given room m n t. is_set_tells c given room m n t };
 
+    /// Loads the element of the place.
     #[inline(always)]
     fn ask(self, given: &u64) -> Want<()> {
         Want::Ask(Ask {
@@ -49,11 +51,13 @@ impl Routine for IsSet {
         })
     }
 
+    /// Ends with whether the element has the place's flag.
     #[inline(always)]
     fn take(self, given: &u64, _room: &mut (), answer: u64) -> After<IsSet, bool> {
         After::Done(has_flag(answer, *given))
     }
 
+    /// 0: the call has no value of the structure to hand out.
     fn value(_given: &u64, _room: &()) -> u64 {
         0
     }
@@ -72,6 +76,7 @@ impl Ends for IsSet {
     ghost fewer = { λ c d given n goes. is_set_fewer c d given n goes };
 }
 
+/// The one step of a look at a count: given the place, it answers the count.
 impl Routine for Count {
     ghost use Rattle.steps.specs.Bits.Laws.{look_tells};
 
@@ -97,6 +102,7 @@ impl Routine for Count {
 
     ghost store_tells_nothing = { λ c given room m n t. look_tells c given room m n t };
 
+    /// Loads the word of the place, which is its count.
     #[inline(always)]
     fn ask(self, given: &u64) -> Want<()> {
         Want::Ask(Ask {
@@ -105,11 +111,13 @@ impl Routine for Count {
         })
     }
 
+    /// Ends with the count.
     #[inline(always)]
     fn take(self, _given: &u64, _room: &mut (), answer: u64) -> After<Count, u64> {
         After::Done(answer)
     }
 
+    /// 0: the call has no value of the structure to hand out.
     fn value(_given: &u64, _room: &()) -> u64 {
         0
     }

@@ -9,9 +9,10 @@ use crate::routine::{Ends, Routine};
 
 /// Empties the words with the flags or the counts of a set, ascending. One step for each of them.
 ///
-/// Each step swaps one word with 0, and what stood in it lies in the room until the next step: whoever drives the call
-/// hands it out. Each place is emptied at another step, or with the others of its element. Where there is no such word
-/// it takes no step. After `reset_all` of the Rust crate's `BitSet` and `CountingBitSet`.
+/// Each step swaps one word with 0. What stood in it lies in the room until the next step: whoever drives the
+/// call hands it out. The places of one element are emptied in one step, those of different words in
+/// different steps. Where there is no such word the call takes no step. After `reset_all` of the Rust crate's
+/// `BitSet` and `CountingBitSet`.
 #[derive(Clone, Copy)]
 pub struct ResetAll {
     /// The word that is swapped next.
@@ -44,6 +45,8 @@ impl ResetAll {
     }
 }
 
+/// The steps of `reset_all`: given nothing, it keeps in its room the word that it swapped
+/// last, and answers nothing.
 impl Routine for ResetAll {
     ghost use Rattle.steps.specs.Bits.Laws.{reset_all_tells};
 
@@ -69,6 +72,7 @@ impl Routine for ResetAll {
 
     ghost store_tells_nothing = { λ c given room m n t. reset_all_tells c room m n t };
 
+    /// Swaps the next word with 0. Without a word left it asks for nothing, and ends with the next `take`.
     #[inline(always)]
     fn ask(self, _given: &()) -> Want<()> {
         if self.word < self.end {
@@ -81,6 +85,7 @@ impl Routine for ResetAll {
         }
     }
 
+    /// Puts the old word into the room and goes on to the next one, if there is one.
     #[inline(always)]
     fn take(self, _given: &(), room: &mut OneWord, answer: u64) -> After<ResetAll, ()> {
         room.0 = answer;
@@ -94,6 +99,7 @@ impl Routine for ResetAll {
         }
     }
 
+    /// The old word that was swapped last.
     fn value(_given: &(), room: &OneWord) -> u64 {
         room.0
     }

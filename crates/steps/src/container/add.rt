@@ -84,6 +84,7 @@ impl<T: Words> Add<T> {
     }
 }
 
+/// The steps of an add: given the value and its owner, it answers the index, or why there is none.
 impl<T: Words> Routine for Add<T> {
     ghost use Rattle.steps.specs.Container.Laws.{add_tells};
 
@@ -110,6 +111,8 @@ impl<T: Words> Routine for Add<T> {
     ghost store_tells_nothing = { λ c given room m n t.
         add_tells T.words_of T.WORDS c c.stage given room m n t };
 
+    /// Asks for what its acquire asks for, makes the number of the index even where it is odd, stores the
+    /// words of the value, and adds 1 to the number and to the number of changes.
     #[inline(always)]
     fn ask(self, given: &Owned<T>) -> Want<()> {
         let (word, op) = match self.stage {
@@ -142,6 +145,8 @@ impl<T: Words> Routine for Add<T> {
         Want::Ask(Ask { word, op })
     }
 
+    /// An acquire that fails ends the add. Otherwise the value goes to the index that it got, and the add
+    /// ends with that index.
     #[inline(always)]
     fn take(
         self,
@@ -193,6 +198,7 @@ impl<T: Words> Routine for Add<T> {
         })
     }
 
+    /// The value that is added.
     fn value(given: &Owned<T>, _room: &()) -> T {
         given.value
     }

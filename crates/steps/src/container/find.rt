@@ -79,7 +79,7 @@ impl<T: Words, R: Room<T>> Find<T, R> {
         }
     }
 
-    /// Goes on to this cell, if there is one.
+    /// The find at this cell, if there is one; else its end with the number found.
     #[inline(always)]
     fn comes_to(self, index: u64, found: usize) -> After<Find<T, R>, usize>
         ensures { result ≡ find_comes_to self index found }
@@ -99,6 +99,8 @@ impl<T: Words, R: Room<T>> Find<T, R> {
     }
 }
 
+/// The steps of a find of a container: given the owner, it copies each of its values into a room R, asks
+/// about it, and answers how many indices it came to.
 impl<T: Words, R: Room<T> + Drop> Routine for Find<T, R> {
     ghost use Rattle.steps.specs.Container.Laws.{find_tells};
 
@@ -125,6 +127,8 @@ impl<T: Words, R: Room<T> + Drop> Routine for Find<T, R> {
     ghost store_tells_nothing = { λ c given room m n t.
         find_tells R.with_word T.WORDS c c.stage given room m n t };
 
+    /// Loads the next cell. At an index of the owner it loads the number and the words of the value,
+    /// exchanges the number for itself, and asks about the value.
     #[inline(always)]
     fn ask(self, _given: &OwnerId) -> Want<()> {
         let (word, op) = match self.stage {
@@ -144,6 +148,8 @@ impl<T: Words, R: Room<T> + Drop> Routine for Find<T, R> {
         Want::Ask(Ask { word, op })
     }
 
+    /// Counts each index whose cell has the owner. It asks about the value where a value stands and has not
+    /// changed during the copy. It ends after a no, or after the last cell.
     #[inline(always)]
     fn take(self, given: &OwnerId, room: &mut R, answer: u64) -> After<Find<T, R>, usize> {
         let stage = match self.stage {
@@ -213,6 +219,7 @@ impl<T: Words, R: Room<T> + Drop> Routine for Find<T, R> {
         })
     }
 
+    /// The value that was copied last.
     fn value(_given: &OwnerId, room: &R) -> T {
         room.value()
     }

@@ -1,9 +1,9 @@
-//! The words of a container behind those of its set of indices.
+//! The words of a container, behind those of its set of indices.
 //!
-//! The first words are a robust set of indices: the calls on them are made of that set's, whose `BorrowedIndices` and
-//! `IsLocked` say how many indices are filled and whether it is locked. Then come the word that counts changes, the
-//! number of each element, and the `T::WORDS` words of each value. All of these open at 0. A container has a capacity
-//! of 1 or more.
+//! The first words are a robust set of indices: the container's calls are made of calls on that set, whose
+//! `BorrowedIndices` and `IsLocked` say how many indices are filled and whether it is locked. Then come the
+//! word that counts changes, the number of each element, and the `T::WORDS` words of each value. All of these
+//! open at 0. A container has a capacity of 1 or more.
 ghost use Rattle.std.specs.Prelude.{◌≡◌};
 ghost use Rattle.steps.specs.Container.Layout.{change_word, count_word, element_word, total_words};
 
@@ -28,7 +28,7 @@ pub fn count_word(capacity: u32, index: u32) -> usize
     2 + capacity as usize + index as usize
 }
 
-/// One of the words of an element's value, where a value has so many words.
+/// The word `at` of an element's value, where a value takes `words` words.
 #[inline(always)]
 pub fn element_word(capacity: u32, words: u8, index: u32, at: u8) -> usize
     ensures { result ≡ element_word capacity words index at }
@@ -36,7 +36,7 @@ pub fn element_word(capacity: u32, words: u8, index: u32, at: u8) -> usize
     2 + (capacity as usize + capacity as usize) + (words as usize * index as usize + at as usize)
 }
 
-/// How many words a container has, where a value has so many.
+/// How many words a container has, where a value takes `words` words.
 pub fn total_words(capacity: u32, words: u8) -> usize
     ensures { result ≡ total_words capacity words }
 {

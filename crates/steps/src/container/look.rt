@@ -131,6 +131,8 @@ impl<T: Words> Look<T> {
     }
 }
 
+/// The steps of a look: given the numbers that a state has seen, it writes into what the state shows, and
+/// answers whether the container has changed.
 impl<T: Words> Routine for Look<T> {
     ghost use Rattle.steps.specs.Container.Laws.{look_tells};
 
@@ -162,6 +164,9 @@ impl<T: Words> Routine for Look<T> {
         self.wants()
     }
 
+    /// Ends with false where the number of changes is the one that was seen. Otherwise it goes
+    /// through all indices: it copies the value of each whose number is new, and again where that
+    /// changes during the copy.
     #[inline(always)]
     fn take(self, given: &Seen, room: &mut Shown<T>, answer: u64) -> After<Look<T>, bool> {
         match self.stage {
@@ -205,6 +210,7 @@ impl<T: Words> Routine for Look<T> {
         }
     }
 
+    /// The value that was copied last.
     fn value(_given: &Seen, room: &Shown<T>) -> T {
         room.copied()
     }

@@ -153,6 +153,8 @@ impl<T: Words, R: Room<T>> Recover<T, R> {
     }
 }
 
+/// The steps of a recovery of a container: given the dead owner and the mode, it copies each of the owner's
+/// values into a room R, asks about it, and answers the state of the container.
 impl<T: Words, R: Room<T> + Drop> Routine for Recover<T, R> {
     ghost use Rattle.steps.specs.Container.Laws.{recover_tells};
 
@@ -179,6 +181,9 @@ impl<T: Words, R: Room<T> + Drop> Routine for Recover<T, R> {
     ghost store_tells_nothing = { λ c given room m n t.
         recover_tells R.with_word T.WORDS c c.stage given room m n t };
 
+    /// Asks for the counter and for one cell after another. At an index of the dead owner it copies the value
+    /// that stands, asks about it, empties the cell, hides the value, raises the counter and, in the mode
+    /// that locks, locks.
     #[inline(always)]
     fn ask(self, given: &DeadOwner) -> Want<()> {
         let (word, op) = match self.stage {
@@ -210,6 +215,9 @@ impl<T: Words, R: Room<T> + Drop> Routine for Recover<T, R> {
         Want::Ask(Ask { word, op })
     }
 
+    /// Asks about each value of the dead owner, once it is copied without a change in between. After a yes,
+    /// or where no value stands at the index, it empties the cell. It ends at a locked counter, or after the
+    /// last cell, once the number of changes is raised.
     #[inline(always)]
     fn take(
         self,
@@ -296,6 +304,7 @@ impl<T: Words, R: Room<T> + Drop> Routine for Recover<T, R> {
         }
     }
 
+    /// The value that was copied last.
     fn value(_given: &DeadOwner, room: &R) -> T {
         room.value()
     }

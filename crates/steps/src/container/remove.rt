@@ -65,6 +65,8 @@ impl Remove {
     }
 }
 
+/// The steps of a remove: given the index, its owner and the mode, it answers the state of the
+/// container, or the error.
 impl Routine for Remove {
     ghost use Rattle.steps.specs.Container.Laws.{remove_tells};
 
@@ -91,6 +93,8 @@ impl Routine for Remove {
     ghost store_tells_nothing = { λ c given room m n t.
         remove_tells c c.stage given room m n t };
 
+    /// Asks for the number of the index, for what its release asks for, makes the number even where it is
+    /// odd, and adds 1 to the number of changes. A handle of another container asks for nothing.
     #[inline(always)]
     fn ask(self, given: &GiveBack) -> Want<()> {
         let (word, op) = match self.stage {
@@ -112,6 +116,8 @@ impl Routine for Remove {
         Want::Ask(Ask { word, op })
     }
 
+    /// Ends with the error where the handle is of another container, or the index is not the owner's.
+    /// Otherwise it ends with the state of the release, once the change is counted.
     #[inline(always)]
     fn take(
         self,
@@ -160,6 +166,7 @@ impl Routine for Remove {
         })
     }
 
+    /// 0: the call has no value of the structure to hand out.
     fn value(_given: &GiveBack, _room: &()) -> u64 {
         0
     }

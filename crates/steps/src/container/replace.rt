@@ -76,6 +76,7 @@ impl<T: Words> Replace<T> {
     }
 }
 
+/// The steps of a replace: given the index, its owner and the value, it answers nothing, or the error.
 impl<T: Words> Routine for Replace<T> {
     ghost use Rattle.steps.specs.Container.Laws.{replace_tells};
 
@@ -102,6 +103,9 @@ impl<T: Words> Routine for Replace<T> {
     ghost store_tells_nothing = { λ c given room m n t.
         replace_tells T.words_of T.WORDS c c.stage given room m n t };
 
+    /// Loads the cell and the number of the index, makes the number even where it is odd, stores the
+    /// words of the value, and adds 1 to the number and to the number of changes. A handle of another
+    /// container asks for nothing.
     #[inline(always)]
     fn ask(self, given: &Replacement<T>) -> Want<()> {
         let (word, op) = match self.stage {
@@ -129,6 +133,8 @@ impl<T: Words> Routine for Replace<T> {
         Want::Ask(Ask { word, op })
     }
 
+    /// Ends with the error where the handle is of another container, or the index is not the owner's.
+    /// Otherwise the words follow one another, and it ends once the change is counted.
     #[inline(always)]
     fn take(
         self,
@@ -173,6 +179,7 @@ impl<T: Words> Routine for Replace<T> {
         })
     }
 
+    /// The value that is put in place of the old one.
     fn value(given: &Replacement<T>, _room: &()) -> T {
         given.value
     }

@@ -20,6 +20,7 @@ pub struct Seen {
     counts: Vec<u64>,
 }
 
+/// Contracts see what a state has seen as a record of these two, `Numbers`.
 impl Model for Seen {
     ghost use Rattle.steps.specs.Container.State.{Numbers};
 
@@ -29,7 +30,7 @@ impl Model for Seen {
 }
 
 impl Seen {
-    /// No number yet, for so many elements.
+    /// The numbers of a state that has seen nothing of a container with this capacity.
     fn new(alloc: Global, capacity: u32) -> Result<Seen, AllocError>
         ensures { IfOk result (λ s. s ≡ no_numbers capacity) }
     {
@@ -38,7 +39,7 @@ impl Seen {
         Ok(Seen { change: 0, counts })
     }
 
-    /// The numbers of a look that has come to its end.
+    /// Takes over the numbers that a look has written, once the look has come to its end.
     fn take_over<T: Words>(&mut self, shown: &Shown<T>)
         ensures { self.new ≡ seen_of self.old shown.now }
     {
@@ -66,7 +67,7 @@ impl Seen {
     }
 }
 
-/// Writes the numbers of these elements over the others.
+/// Overwrites the numbers with those of these elements, as far as both lists go.
 fn copy_counts<T: Words>(counts: &mut [u64], elements: &[Element<T>])
     ensures { counts.new ≡ numbers_over counts.old elements.now }
 {
@@ -112,6 +113,7 @@ pub struct Shown<T> {
     copy: Copied,
 }
 
+/// Contracts see what a state shows as a record of these three, `Showing`.
 impl<T> Model for Shown<T> {
     ghost use Rattle.steps.specs.Container.State.{Showing};
 
@@ -121,7 +123,7 @@ impl<T> Model for Shown<T> {
 }
 
 impl<T: Words> Shown<T> {
-    /// It shows nothing yet, for so many elements.
+    /// What a new state shows, for a container of this capacity: no value.
     fn new(alloc: Global, capacity: u32) -> Result<Shown<T>, AllocError>
         ensures { IfOk result (λ s. s ≡ shows_nothing T.value_of T.WORDS capacity) }
     {
@@ -157,7 +159,8 @@ impl<T: Words> Shown<T> {
         }
     }
 
-    /// Keeps a word of the value that is read, if it has such a word.
+    /// Keeps a word of the value that is being read, at its place `at`. Nothing changes where
+    /// that is not below 128.
     #[inline(always)]
     pub fn put_word(&mut self, at: u8, word: u64)
         ensures { self.new ≡ with_word self.old at word }

@@ -15,6 +15,7 @@ pub struct BorrowedIndices;
 #[derive(Clone, Copy)]
 pub struct IsLocked;
 
+/// The one step of a look at the number of borrowed indices: it answers that number.
 impl Routine for BorrowedIndices {
     ghost use Rattle.steps.specs.Queues.Ring.{load};
     ghost use Rattle.steps.specs.Indices.UniqueLaws.{load_tells};
@@ -42,6 +43,7 @@ impl Routine for BorrowedIndices {
     ghost store_tells_nothing = { λ c given room m n t.
         load_tells 0 (borrowed_after c) room m n t };
 
+    /// Loads the head.
     #[inline(always)]
     fn ask(self, _given: &()) -> Want<()> {
         Want::Ask(Ask {
@@ -50,6 +52,7 @@ impl Routine for BorrowedIndices {
         })
     }
 
+    /// Ends with the number in the head, or with 0 where the head says that the set is locked.
     #[inline(always)]
     fn take(self, _given: &(), _room: &mut (), answer: u64) -> After<BorrowedIndices, usize> {
         let borrowed = HeadDetails::from(answer).borrowed_indices;
@@ -60,6 +63,7 @@ impl Routine for BorrowedIndices {
         })
     }
 
+    /// 0: the call has no value of the structure to hand out.
     fn value(_given: &(), _room: &()) -> u64 {
         0
     }
@@ -78,6 +82,7 @@ impl Ends for BorrowedIndices {
     ghost fewer = { λ c d given n goes. borrowed_fewer c d n goes };
 }
 
+/// The one step of a look at the lock: it answers whether the set is locked.
 impl Routine for IsLocked {
     ghost use Rattle.steps.specs.Queues.Ring.{load};
     ghost use Rattle.steps.specs.Indices.UniqueLaws.{load_tells};
@@ -105,6 +110,7 @@ impl Routine for IsLocked {
     ghost store_tells_nothing = { λ c given room m n t.
         load_tells 0 (locked_after c) room m n t };
 
+    /// Loads the head.
     #[inline(always)]
     fn ask(self, _given: &()) -> Want<()> {
         Want::Ask(Ask {
@@ -113,11 +119,13 @@ impl Routine for IsLocked {
         })
     }
 
+    /// Ends with whether the number in the head is the one that says locked.
     #[inline(always)]
     fn take(self, _given: &(), _room: &mut (), answer: u64) -> After<IsLocked, bool> {
         After::Done(HeadDetails::from(answer).borrowed_indices == LOCK_ACQUIRE)
     }
 
+    /// 0: the call has no value of the structure to hand out.
     fn value(_given: &(), _room: &()) -> u64 {
         0
     }

@@ -158,7 +158,8 @@ impl Acquire {
         }
     }
 
-    /// Goes on from a head word that it has loaded or found.
+    /// The acquire after a head that it has loaded or found: its end where that says locked or all borrowed,
+    /// else the next step.
     #[inline(always)]
     fn sees(self, head: u64) -> After<Acquire, Result<u32, UniqueIndexSetAcquireFailure>>
         ensures { result ≡ acquire_sees self head }
@@ -184,7 +185,8 @@ impl Acquire {
         })
     }
 
-    /// What it claims once it has exchanged this head.
+    /// The claim that follows once this head is exchanged: of the index that it proposed, or a scan from 0
+    /// where that is no index of the set.
     #[inline(always)]
     fn first_claim(self, head: u64) -> AcquireStage
         ensures { result ≡ first_claim self.capacity head }
@@ -254,6 +256,7 @@ impl<M: Mode> Release<M> {
     }
 }
 
+/// The steps of an acquire of a unique index set: given nothing, it answers the index, or why there is none.
 impl Routine for Acquire {
     ghost use Rattle.steps.specs.Indices.UniqueLaws.{acquire_tells};
 
@@ -279,6 +282,8 @@ impl Routine for Acquire {
 
     ghost store_tells_nothing = { λ c given room m n t. acquire_tells c c.stage room m n t };
 
+    /// Asks for the head and for the cell of the index that it proposes, and exchanges the head for one that
+    /// proposes what that cell names. Then it sets the flag of its index, or of one index after another.
     #[inline(always)]
     fn ask(self, _given: &()) -> Want<()> {
         let (word, op) = match self.stage {
@@ -294,6 +299,9 @@ impl Routine for Acquire {
         Want::Ask(Ask { word, op })
     }
 
+    /// Where another party has moved the head before the exchange, it goes on from the head as found. After
+    /// the exchange the index is its own once its flag was clear. Where that flag was set it goes through all
+    /// flags, until one was clear.
     #[inline(always)]
     fn take(
         self,
@@ -334,6 +342,7 @@ impl Routine for Acquire {
         })
     }
 
+    /// 0: the call has no value of the structure to hand out.
     fn value(_given: &(), _room: &()) -> u64 {
         0
     }
@@ -348,6 +357,7 @@ impl Routine for Acquire {
     }
 }
 
+/// The steps of a release of a unique index set: given the index, it answers whether it has locked the set.
 impl<M: Mode> Routine for Release<M> {
     ghost use Rattle.steps.specs.Indices.UniqueLaws.{release_tells};
 
@@ -374,6 +384,9 @@ impl<M: Mode> Routine for Release<M> {
     ghost store_tells_nothing = { λ c given room m n t.
         release_tells M.LOCKS c c.stage given room m n t };
 
+    /// Clears the flag of the index, stores into its cell the index that the head proposes, and exchanges
+    /// the head for one that proposes its own. After a failed exchange in mode `Default` it subtracts 1
+    /// from the head instead.
     #[inline(always)]
     fn ask(self, given: &u32) -> Want<()> {
         let (word, op) = match self.stage {
@@ -392,6 +405,8 @@ impl<M: Mode> Routine for Release<M> {
         Want::Ask(Ask { word, op })
     }
 
+    /// The exchange that succeeds ends the release, with the state of the set. After a failed one the mode
+    /// that locks tries again with the head as found, and the mode `Default` subtracts.
     #[inline(always)]
     fn take(self, _given: &u32, _room: &mut (), answer: u64) -> After<Release<M>, ReleaseState> {
         let stage = match self.stage {
@@ -421,6 +436,7 @@ impl<M: Mode> Routine for Release<M> {
         })
     }
 
+    /// 0: the call has no value of the structure to hand out.
     fn value(_given: &u32, _room: &()) -> u64 {
         0
     }

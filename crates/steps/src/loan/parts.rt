@@ -27,6 +27,7 @@ pub struct Part<C> {
     pub call: C,
 }
 
+/// The steps of the call, each of whose words lies `base` words further on.
 impl<C: Routine> Routine for Part<C> {
     ghost use Rattle.steps.specs.Loan.Laws.{part_tells};
 
@@ -54,11 +55,13 @@ impl<C: Routine> Routine for Part<C> {
         part_tells c.base (C.want_of c.call given)
         (λ stores. C.store_tells_nothing c.call given room m n stores) t };
 
+    /// Asks for what the inner call asks for, `base` words further on.
     #[inline(always)]
     fn ask(self, given: &C::Given) -> Want<()> {
         shifted(self.base, self.call.ask(given))
     }
 
+    /// Goes on as the inner call does, and ends as it ends.
     #[inline(always)]
     fn take(self, given: &C::Given, room: &mut C::Room, answer: u64) -> After<Part<C>, C::End> {
         match self.call.take(given, room, answer) {

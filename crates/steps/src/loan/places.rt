@@ -23,6 +23,7 @@ pub struct Places {
     of: Vec<Place>,
 }
 
+/// Contracts see a table as the list of the places of the indices.
 impl Model for Places {
     ghost use Rattle.std.specs.Prelude.{List};
     ghost use Rattle.steps.specs.declared.loan.places.Place.{Place};
@@ -32,7 +33,7 @@ impl Model for Places {
     ghost view = { λ p. p.of.items };
 }
 
-/// Whether the index is Sent.
+/// Whether the index is Sent, as the sender's table says.
 fn has_sent(places: &Vec<Place>, index: u32) -> bool
     ensures { result ≡ is_sent (place_at places.now.items index) }
 {
@@ -46,7 +47,7 @@ fn has_sent(places: &Vec<Place>, index: u32) -> bool
     }
 }
 
-/// The first index from this one on that is Sent, in a channel of so many slots.
+/// The first index that is Sent, from `from` on and below `slots`, or None.
 fn next_sent(places: &Vec<Place>, slots: u32, from: u32) -> Option<u32>
     ensures { result ≡ next_sent places.now.items slots from }
 {
@@ -59,7 +60,7 @@ fn next_sent(places: &Vec<Place>, slots: u32, from: u32) -> Option<u32>
 }
 
 impl Places {
-    /// All of so many indices are Free.
+    /// A table in which all indices below `slots` are Free.
     pub fn new(alloc: Global, slots: u32) -> Result<Places, AllocError>
         ensures { IfOk result (λ p. p ≡ replicate slots Free) }
     {
@@ -68,7 +69,7 @@ impl Places {
         })
     }
 
-    /// The index is there from now on.
+    /// Notes that the index is at this place from now on.
     pub fn put(&mut self, index: u32, place: Place)
         ensures { self.new ≡ slice_set self.old index place }
     {
@@ -77,7 +78,7 @@ impl Places {
         }
     }
 
-    /// The first index from this one on that is Sent, in a channel of so many slots.
+    /// The first index that is Sent, from `from` on and below `slots`, or None.
     pub fn next_sent(&self, slots: u32, from: u32) -> Option<u32>
         ensures { result ≡ next_sent self.now slots from }
     {

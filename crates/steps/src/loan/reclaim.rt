@@ -116,7 +116,8 @@ impl Reclaim {
         })
     }
 
-    /// After so many releases, goes on to the first index from this one on that is Sent. Where there is none, it ends.
+    /// After `number` releases, goes on to the first index that is Sent from `from` on. Where there is none,
+    /// it ends with that number.
     #[inline(always)]
     fn comes_to(self, places: &Places, number: u64, from: u32) -> After<Reclaim, u64>
         ensures { result ≡ reclaim_comes_to self places.now number from }
@@ -132,6 +133,7 @@ impl Reclaim {
     }
 }
 
+/// The steps of a reclaim: given the sender's table, it answers how many indices it has released.
 impl Routine for Reclaim {
     ghost use Rattle.steps.specs.Loan.Laws.{reclaim_tells};
 
@@ -163,6 +165,8 @@ impl Routine for Reclaim {
         self.wants()
     }
 
+    /// Pops until the submission queue is empty, then until the completion queue is, and then releases one
+    /// index after another that is `Sent` in the table. A step goes to the inner call of the stage.
     #[inline(always)]
     fn take(self, given: &Places, _room: &mut (), answer: u64) -> After<Reclaim, u64> {
         match self.stage {
@@ -212,6 +216,7 @@ impl Routine for Reclaim {
         }
     }
 
+    /// 0: the call has no value of the structure to hand out.
     fn value(_given: &Places, _room: &()) -> u64 {
         0
     }

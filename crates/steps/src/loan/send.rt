@@ -27,7 +27,7 @@ pub struct Send {
 pub enum SendStage {
     /// Takes a step of the push of the index into the submission queue. Where nothing comes back, the answer is None.
     Pushes { stage: PushStage },
-    /// Takes a step of the release of what came back; at its end the answer is Some of that.
+    /// Takes a step of the release of the index that came back; at its end the answer is Some of that index.
     Releases { index: u32, stage: ReleaseStage },
 }
 
@@ -47,6 +47,7 @@ impl Send {
     }
 }
 
+/// The steps of a send: given the index, it answers the index that came back instead, or None.
 impl Routine for Send {
     ghost use Rattle.steps.specs.Loan.Laws.{send_tells};
 
@@ -72,6 +73,7 @@ impl Routine for Send {
 
     ghost store_tells_nothing = { λ c given room m n t. send_tells c c.stage given room m n t };
 
+    /// Asks for what its push of the index asks for, or its release of the index that came back.
     #[inline(always)]
     fn ask(self, given: &u32) -> Want<()> {
         match self.stage {
@@ -86,6 +88,8 @@ impl Routine for Send {
         }
     }
 
+    /// A push that adds the index ends the send with None. One that hands an index back, the given or the
+    /// oldest one, goes on to release that.
     #[inline(always)]
     fn take(self, given: &u32, _room: &mut (), answer: u64) -> After<Send, Option<u32>> {
         let stage = match self.stage {
@@ -124,6 +128,7 @@ impl Routine for Send {
         })
     }
 
+    /// The index that is sent, as the queue keeps it.
     fn value(given: &u32, _room: &()) -> u64 {
         *given as u64
     }

@@ -49,6 +49,7 @@ impl TakeBack {
     }
 }
 
+/// The steps of a take-back: given nothing, it answers the index that came back, or None.
 impl Routine for TakeBack {
     ghost use Rattle.steps.specs.Loan.Laws.{take_back_tells};
 
@@ -74,6 +75,7 @@ impl Routine for TakeBack {
 
     ghost store_tells_nothing = { λ c given room m n t. take_back_tells c c.stage room m n t };
 
+    /// Asks for what its pop of the completion queue asks for, or its release of the index that was popped.
     #[inline(always)]
     fn ask(self, _given: &()) -> Want<()> {
         match self.stage {
@@ -91,6 +93,7 @@ impl Routine for TakeBack {
         }
     }
 
+    /// An empty queue ends the take-back with None. An index that was popped is released, and then answered.
     #[inline(always)]
     fn take(self, _given: &(), _room: &mut (), answer: u64) -> After<TakeBack, Option<u32>> {
         let stage = match self.stage {
@@ -129,6 +132,7 @@ impl Routine for TakeBack {
         })
     }
 
+    /// 0: the call has no value of the structure to hand out.
     fn value(_given: &(), _room: &()) -> u64 {
         0
     }

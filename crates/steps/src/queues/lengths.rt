@@ -67,6 +67,7 @@ impl Len {
     }
 }
 
+/// The steps of a call for the length: given nothing, it answers how many values wait.
 impl Routine for Len {
     ghost use Rattle.steps.specs.Laws.{len_tells};
 
@@ -92,6 +93,7 @@ impl Routine for Len {
 
     ghost store_tells_nothing = { λ c given room m n t. len_tells c c.stage room m n t };
 
+    /// Loads the write position and the read position, and then both again.
     #[inline(always)]
     fn ask(self, _given: &()) -> Want<()> {
         let word = match self.stage {
@@ -103,6 +105,8 @@ impl Routine for Len {
         Want::Ask(Ask { word, op: Op::Load })
     }
 
+    /// Begins again where a position has moved between its two loads. Otherwise it ends with the number of
+    /// values between the two.
     #[inline(always)]
     fn take(self, _given: &(), _room: &mut (), answer: u64) -> After<Len, u64> {
         let capacity = self.capacity;
@@ -129,6 +133,7 @@ impl Routine for Len {
         After::GoOn(Len { capacity, stage })
     }
 
+    /// 0: the call has no value of the structure to hand out.
     fn value(_given: &(), _room: &()) -> u64 {
         0
     }

@@ -131,6 +131,8 @@ impl Pop {
     }
 }
 
+/// The steps of a push of the overflowing queue: given the value, it reads the oldest one into its room, and
+/// answers what comes back.
 impl Routine for Push {
     ghost use Rattle.steps.specs.Laws.{overflow_push_tells};
 
@@ -157,6 +159,9 @@ impl Routine for Push {
     ghost store_tells_nothing = { λ c given room m n t.
         overflow_push_tells c c.stage given room m n t };
 
+    /// Asks for the positions, stores the value into the write position's cell, then moves the write
+    /// position. Over a full queue it moves the read position too and loads the oldest value. A queue of
+    /// capacity 0 asks for nothing.
     #[inline(always)]
     fn ask(self, given: &u64) -> Want<()> {
         let (word, op) = match self.stage {
@@ -173,6 +178,9 @@ impl Routine for Push {
         Want::Ask(Ask { word, op })
     }
 
+    /// Ends with the push's own value where the queue has no cell or no position left. After the write
+    /// position has moved the push has added its value. Over a full queue it then takes the oldest one out,
+    /// if no pop has come first.
     #[inline(always)]
     fn take(self, _given: &u64, room: &mut OneWord, answer: u64) -> After<Push, PushEnd> {
         let stage = match self.stage {
@@ -211,10 +219,12 @@ impl Routine for Push {
         })
     }
 
+    /// The value that is pushed.
     fn value(given: &u64, _room: &OneWord) -> u64 {
         *given
     }
 
+    /// What comes back: nothing, the push's own value, or the oldest one.
     #[inline(always)]
     fn answer(end: PushEnd, given: &u64, room: &OneWord) -> Option<u64> {
         match end {
@@ -234,6 +244,8 @@ impl Ends for Push {
     ghost fewer = { λ c d given n goes. overflow_push_fewer c d n goes };
 }
 
+/// The steps of a pop of the overflowing queue: it reads the oldest value into its room, and
+/// answers it, or None.
 impl Routine for Pop {
     ghost use Rattle.steps.specs.Laws.{overflow_pop_tells};
 
@@ -259,6 +271,8 @@ impl Routine for Pop {
 
     ghost store_tells_nothing = { λ c given room m n t. overflow_pop_tells c c.stage room m n t };
 
+    /// Asks for the positions, then loads the read position's cell, then moves the read position by an
+    /// exchange. A queue of capacity 0 asks for nothing.
     #[inline(always)]
     fn ask(self, _given: &()) -> Want<()> {
         let (word, op) = match self.stage {
@@ -271,6 +285,8 @@ impl Routine for Pop {
         Want::Ask(Ask { word, op })
     }
 
+    /// Ends with false where the positions are equal. Where the read position has moved before the exchange,
+    /// the pop loads the cell of the new position.
     #[inline(always)]
     fn take(self, _given: &(), room: &mut OneWord, answer: u64) -> After<Pop, bool> {
         let stage = match self.stage {
@@ -299,6 +315,7 @@ impl Routine for Pop {
         })
     }
 
+    /// The word of the cell that was loaded last.
     fn value(_given: &(), room: &OneWord) -> u64 {
         room.0
     }

@@ -57,6 +57,7 @@ impl<T: Words, R: Room<T>> Peek<T, R> {
     }
 }
 
+/// The steps of a peek: it reads the oldest value into a room R, and answers it, or None.
 impl<T: Words, R: Room<T> + Drop> Routine for Peek<T, R> {
     ghost use Rattle.steps.specs.Laws.{peek_tells};
 
@@ -84,6 +85,7 @@ impl<T: Words, R: Room<T> + Drop> Routine for Peek<T, R> {
     ghost store_tells_nothing = { λ c given room m n t.
         peek_tells R.with_word T.WORDS c c.stage room m n t };
 
+    /// Loads the positions, and then the words of the read position's cell.
     #[inline(always)]
     fn ask(self, _given: &()) -> Want<()> {
         let word = match self.stage {
@@ -94,6 +96,8 @@ impl<T: Words, R: Room<T> + Drop> Routine for Peek<T, R> {
         Want::Ask(Ask { word, op: Op::Load })
     }
 
+    /// Ends with false where nothing waits. Otherwise it puts each word of the cell into the room, and ends
+    /// with true after the last one.
     #[inline(always)]
     fn take(self, _given: &(), room: &mut R, answer: u64) -> After<Peek<T, R>, bool> {
         let stage = match self.stage {
@@ -123,6 +127,7 @@ impl<T: Words, R: Room<T> + Drop> Routine for Peek<T, R> {
         })
     }
 
+    /// The value that the words in the room make.
     fn value(_given: &(), room: &R) -> T {
         room.value()
     }

@@ -24,8 +24,8 @@ pub const CONSUMER: usize = 3;
 /// The first word of the first cell.
 pub const FIRST_CELL: usize = 4;
 
-/// The first word of the position's cell, where a value has so many words. A queue of capacity 0 has no cell, and never
-/// asks for one.
+/// The first word of the position's cell, where a value takes `words` words. A queue of capacity 0 has no
+/// cell, and never asks for one.
 #[inline(always)]
 pub fn cell_word(capacity: u32, words: u8, position: u64) -> usize
     ensures { result ≡ cell_word capacity words position }
@@ -124,6 +124,7 @@ impl<T: Words, R: Room<T>> Pop<T, R> {
     }
 }
 
+/// The steps of a push of a bounded queue: given the value, it answers whether there was room.
 impl<T: Words> Routine for Push<T> {
     ghost use Rattle.steps.specs.Laws.{push_tells};
 
@@ -150,6 +151,8 @@ impl<T: Words> Routine for Push<T> {
     ghost store_tells_nothing = { λ c given room m n t.
         push_tells T.words_of T.WORDS c c.stage given room m n t };
 
+    /// Asks for the positions, stores the words of the value one by one into the write position's cell, then
+    /// the write position. A place past the value's words would get 0.
     #[inline(always)]
     fn ask(self, given: &T) -> Want<()> {
         let (word, op) = match self.stage {
@@ -168,6 +171,8 @@ impl<T: Words> Routine for Push<T> {
         Want::Ask(Ask { word, op })
     }
 
+    /// Ends with false where no position is left or the queue is full. Otherwise the words follow one
+    /// another, and after the position's step the value is in the queue.
     #[inline(always)]
     fn take(self, _given: &T, _room: &mut (), answer: u64) -> After<Push<T>, bool> {
         let stage = match self.stage {
@@ -207,6 +212,7 @@ impl<T: Words> Routine for Push<T> {
         })
     }
 
+    /// The value that is pushed.
     fn value(given: &T, _room: &()) -> T {
         *given
     }
@@ -226,6 +232,7 @@ impl<T: Words> Ends for Push<T> {
     ghost fewer = { λ c d given n goes. push_fewer T.WORDS c d n goes };
 }
 
+/// The steps of a pop of a bounded queue: it reads the oldest value into a room R, and answers it, or None.
 impl<T: Words, R: Room<T> + Drop> Routine for Pop<T, R> {
     ghost use Rattle.steps.specs.Laws.{pop_tells};
 
@@ -253,6 +260,7 @@ impl<T: Words, R: Room<T> + Drop> Routine for Pop<T, R> {
     ghost store_tells_nothing = { λ c given room m n t.
         pop_tells R.with_word T.WORDS c c.stage room m n t };
 
+    /// Asks for the positions, loads the words of the read position's cell, then stores the read position.
     #[inline(always)]
     fn ask(self, _given: &()) -> Want<()> {
         let (word, op) = match self.stage {
@@ -264,6 +272,8 @@ impl<T: Words, R: Room<T> + Drop> Routine for Pop<T, R> {
         Want::Ask(Ask { word, op })
     }
 
+    /// Ends with false where nothing waits. Otherwise it puts each word of the cell into the room, and after
+    /// the position's step the value is out of the queue.
     #[inline(always)]
     fn take(self, _given: &(), room: &mut R, answer: u64) -> After<Pop<T, R>, bool> {
         let stage = match self.stage {
@@ -299,6 +309,7 @@ impl<T: Words, R: Room<T> + Drop> Routine for Pop<T, R> {
         })
     }
 
+    /// The value that the words in the room make.
     fn value(_given: &(), room: &R) -> T {
         room.value()
     }

@@ -33,6 +33,7 @@ pub struct LookRole {
     pub word: usize,
 }
 
+/// The one step of an acquire of a role: it answers whether the role was free.
 impl Routine for AcquireRole {
     ghost use Rattle.steps.specs.Laws.{acquire_tells};
 
@@ -58,6 +59,7 @@ impl Routine for AcquireRole {
 
     ghost store_tells_nothing = { λ c given room m n t. acquire_tells c room m n t };
 
+    /// Exchanges the role's word from 1, which says that it is free, to 0.
     #[inline(always)]
     fn ask(self, _given: &()) -> Want<()> {
         Want::Ask(Ask {
@@ -66,11 +68,13 @@ impl Routine for AcquireRole {
         })
     }
 
+    /// Ends with whether the word was 1, so that the exchange has taken the role.
     #[inline(always)]
     fn take(self, _given: &(), _room: &mut (), answer: u64) -> After<AcquireRole, bool> {
         After::Done(answer == 1)
     }
 
+    /// 0: the call has no value of the structure to hand out.
     fn value(_given: &(), _room: &()) -> u64 {
         0
     }
@@ -89,6 +93,7 @@ impl Ends for AcquireRole {
     ghost fewer = { λ c d given n goes. acquire_fewer c d n goes };
 }
 
+/// The one step of a release of a role: it answers nothing.
 impl Routine for ReleaseRole {
     ghost use Rattle.steps.specs.Laws.{release_tells};
 
@@ -114,6 +119,7 @@ impl Routine for ReleaseRole {
 
     ghost store_tells_nothing = { λ c given room m n t. release_tells c room m n t };
 
+    /// Stores 1 into the role's word, which makes the role free.
     #[inline(always)]
     fn ask(self, _given: &()) -> Want<()> {
         Want::Ask(Ask {
@@ -127,6 +133,7 @@ impl Routine for ReleaseRole {
         After::Done(())
     }
 
+    /// 0: the call has no value of the structure to hand out.
     fn value(_given: &(), _room: &()) -> u64 {
         0
     }
@@ -143,6 +150,7 @@ impl Ends for ReleaseRole {
     ghost fewer = { λ c d given n goes. release_fewer c d n goes };
 }
 
+/// The one step of a look at a role: it answers whether the role is taken.
 impl Routine for LookRole {
     ghost use Rattle.steps.specs.Laws.{look_tells};
 
@@ -168,6 +176,7 @@ impl Routine for LookRole {
 
     ghost store_tells_nothing = { λ c given room m n t. look_tells c room m n t };
 
+    /// Loads the role's word.
     #[inline(always)]
     fn ask(self, _given: &()) -> Want<()> {
         Want::Ask(Ask {
@@ -176,11 +185,13 @@ impl Routine for LookRole {
         })
     }
 
+    /// Ends with whether the word is another than 1, so that the role is taken.
     #[inline(always)]
     fn take(self, _given: &(), _room: &mut (), answer: u64) -> After<LookRole, bool> {
         After::Done(answer != 1)
     }
 
+    /// 0: the call has no value of the structure to hand out.
     fn value(_given: &(), _room: &()) -> u64 {
         0
     }

@@ -1,4 +1,4 @@
-//! Who uses a queue of threads, by a pass and the guards of both roles.
+//! A user of a queue between threads, by a pass and a guard of each role that it has.
 ghost use Rattle.std.specs.Prelude.{◌≡◌};
 ghost use Rattle.std.specs.Option.{ForSome};
 ghost use Rattle.lock_free.specs.Queues.Rings.{queue_id, IsPassOf, producer_queue, consumer_queue};
@@ -12,14 +12,18 @@ use std::sync::Wait;
 use steps::words::Words;
 use tests_calls::numbered::Numbered;
 
-/// A kind of the threads' queues: how it is pushed to and popped from.
+/// A kind of queue between threads: how a number of the script is pushed to it and popped from it.
 pub trait Kind<T: Words>: ring::rule::Kind + Sized {
+    /// Pushes the value of this number, and adds what the push answers.
     fn push(producer: &mut Producer<'_, Self, T>, number: u64, answer: &mut Answer)
         ensures { producer_queue producer.new ≡ producer_queue producer.old };
 
+    /// Pops, and adds the number of the value that came, if one did.
     fn pop(rt: &impl Wait, consumer: &mut Consumer<'_, Self, T>, answer: &mut Answer)
         ensures { consumer_queue consumer.new ≡ consumer_queue consumer.old };
 
+    /// Peeks, and adds the number of the oldest value, if there is one. An overflowing queue has no
+    /// peek and adds nothing.
     fn peek(consumer: &mut Consumer<'_, Self, T>, answer: &mut Answer)
         ensures { consumer_queue consumer.new ≡ consumer_queue consumer.old };
 }
@@ -64,7 +68,7 @@ impl Kind<u64> for Overflowing {
     fn peek(_consumer: &mut Consumer<'_, Overflowing, u64>, _answer: &mut Answer) {}
 }
 
-/// A pass, and a guard of each role that is taken.
+/// A pass of a queue between threads, and a guard of each role that the user has.
 #[derive(Drop)]
 struct User<'a, E: ring::rule::Kind, T: Words> {
     queue: &'a Ring<E, T>,
@@ -77,7 +81,8 @@ struct User<'a, E: ring::rule::Kind, T: Words> {
 }
 
 impl<'a, E: ring::rule::Kind, T: Words> User<'a, E, T> {
-    /// Whether a new pass gets the producer's role.
+    /// Asks for the producer's role with a pass that is split off. True if it was free; otherwise the
+    /// pass is joined again.
     fn take_producer(&mut self) -> bool {
         let Some(pass) = self.pass.split() else {
             return false;
@@ -94,7 +99,8 @@ impl<'a, E: ring::rule::Kind, T: Words> User<'a, E, T> {
         }
     }
 
-    /// The same of the consumer.
+    /// Asks for the consumer's role with a pass that is split off. True if it was free; otherwise the
+    /// pass is joined again.
     fn take_consumer(&mut self) -> bool {
         let Some(pass) = self.pass.split() else {
             return false;
@@ -111,7 +117,8 @@ impl<'a, E: ring::rule::Kind, T: Words> User<'a, E, T> {
         }
     }
 
-    /// Whether the producer gives its role back, with its pass.
+    /// Gives the producer's role back, and joins the pass of the guard. False where the user
+    /// does not have the role.
     fn release_producer(&mut self) -> bool {
         match self.producer.take() {
             Some(producer) => {
@@ -122,7 +129,8 @@ impl<'a, E: ring::rule::Kind, T: Words> User<'a, E, T> {
         }
     }
 
-    /// The same of the consumer.
+    /// Gives the consumer's role back, and joins the pass of the guard. False where the user
+    /// does not have the role.
     fn release_consumer(&mut self) -> bool {
         match self.consumer.take() {
             Some(consumer) => {
@@ -133,7 +141,8 @@ impl<'a, E: ring::rule::Kind, T: Words> User<'a, E, T> {
         }
     }
 
-    /// Whether the consumer gives its role back, and its pass to the producer.
+    /// Gives the consumer's role back, and joins the pass of its guard to the producer. False where one of
+    /// both roles is missing.
     fn join_producer(&mut self) -> bool {
         let Some(consumer) = self.consumer.take() else {
             return false;
@@ -147,7 +156,8 @@ impl<'a, E: ring::rule::Kind, T: Words> User<'a, E, T> {
         }
     }
 
-    /// The same the other way round.
+    /// Gives the producer's role back, and joins the pass of its guard to the consumer. False where one of
+    /// both roles is missing.
     fn join_consumer(&mut self) -> bool {
         let Some(producer) = self.producer.take() else {
             return false;
@@ -161,7 +171,7 @@ impl<'a, E: ring::rule::Kind, T: Words> User<'a, E, T> {
         }
     }
 
-    /// What is done with a role. None where it is no such call.
+    /// Makes a call about a role. None where the name is that of no such call.
     fn role(&mut self, name: &str) -> Option<bool> {
         Some(match name {
             "take_producer" => self.take_producer(),
@@ -180,7 +190,7 @@ impl<'a, E: ring::rule::Kind, T: Words> User<'a, E, T> {
 }
 
 impl<'a, E: Kind<T>, T: Words> User<'a, E, T> {
-    /// The pass; the guards give their roles back.
+    /// The pass of the user. Its guards are dropped, which gives the roles back.
     fn leave(self) -> Pass<E, T> {
         let User {
             queue: _,
@@ -191,6 +201,7 @@ impl<'a, E: Kind<T>, T: Words> User<'a, E, T> {
         pass
     }
 
+    /// Pushes by the producer's guard. `refused` where the user does not have that role.
     fn push(&mut self, number: u64, answer: &mut Answer) {
         match &mut self.producer {
             Some(producer) => E::push(producer, number, answer),
@@ -198,6 +209,7 @@ impl<'a, E: Kind<T>, T: Words> User<'a, E, T> {
         }
     }
 
+    /// Pops by the consumer's guard. `refused` where the user does not have that role.
     fn pop(&mut self, rt: &impl Wait, answer: &mut Answer) {
         match &mut self.consumer {
             Some(consumer) => E::pop(rt, consumer, answer),
@@ -205,6 +217,7 @@ impl<'a, E: Kind<T>, T: Words> User<'a, E, T> {
         }
     }
 
+    /// Peeks by the consumer's guard. `refused` where the user does not have that role.
     fn peek(&mut self, answer: &mut Answer) {
         match &mut self.consumer {
             Some(consumer) => E::peek(consumer, answer),
@@ -227,8 +240,8 @@ impl<'a, E: Kind<T>, T: Words> Answers for User<'a, E, T> {
     }
 }
 
-/// Plays the lines by a further pass of the queue. The pass is handed out where the last line says `keep`: it is to live as
-/// the queue is closed.
+/// Plays the lines by a pass that is split off `pass`. If the last line is `keep`, that pass is returned, so
+/// that the queue is closed while it is still there; otherwise it is dropped.
 pub fn use_queue<E: Kind<T>, T: Words>(
     rt: &impl Wait,
     lines: &str,

@@ -1,4 +1,6 @@
-//! The same of `split_many`, at the types beside a handle of a unique index set.
+//! `split_many` with the clause that no test uses, at the types other than a handle of a unique
+//! index set. What is split off is of the same structure, and each was split off what the split
+//! before had left (`AreCut`).
 ghost use Rattle.std.specs.Prelude.{◌≡◌, IfSome};
 ghost use Rattle.history.specs.Passes.{HasSplit};
 ghost use Rattle.lock_free_owners.specs.Container.Handles as containers;
@@ -15,7 +17,7 @@ use lock_free_sets::mpmc::{sets, unique_index_set as unique};
 use std::alloc::Global;
 use steps::words::Words;
 
-/// Each of three passes of a unique index set was split off what the split before had left.
+/// Three passes are split off a pass of a unique index set, one after another.
 pub fn split_unique_pass(alloc: Global, pass: &mut unique::Pass) -> Option<[unique::Pass; 3]>
     ensures { IfSome result (λ halves. AreCut (λ old new half. (unique_passes.set_of new ≡ unique_passes.set_of old)
         × (unique_passes.set_of half ≡ unique_passes.set_of old)
@@ -24,7 +26,7 @@ pub fn split_unique_pass(alloc: Global, pass: &mut unique::Pass) -> Option<[uniq
     splits::split_many::<3, unique::Pass>(alloc, pass)
 }
 
-/// So was each of three handles of a bit set.
+/// Three handles are split off a handle of a bit set, one after another.
 pub fn split_bits<'a, E: Kind>(
     alloc: Global,
     handle: &mut sets::Handle<'a, E>,
@@ -35,7 +37,7 @@ pub fn split_bits<'a, E: Kind>(
     splits::split_many::<3, sets::Handle<'a, E>>(alloc, handle)
 }
 
-/// So was each of three handles of a robust set.
+/// Three handles are split off a handle of a robust set, one after another.
 pub fn split_robust<'a>(
     alloc: Global,
     handle: &mut robust::Handle<'a>,
@@ -47,7 +49,7 @@ pub fn split_robust<'a>(
     splits::split_many::<3, robust::Handle<'a>>(alloc, handle)
 }
 
-/// So was each of three passes of one.
+/// Three passes are split off a pass of a robust set, one after another.
 pub fn split_robust_pass(alloc: Global, pass: &mut robust::Pass) -> Option<[robust::Pass; 3]>
     ensures { IfSome result (λ halves. AreCut (λ old new half. (robust_passes.set_of new ≡ robust_passes.set_of old)
         × (robust_passes.set_of half ≡ robust_passes.set_of old)
@@ -56,7 +58,7 @@ pub fn split_robust_pass(alloc: Global, pass: &mut robust::Pass) -> Option<[robu
     splits::split_many::<3, robust::Pass>(alloc, pass)
 }
 
-/// So was each of three handles of a container.
+/// Three handles are split off a handle of a container, one after another.
 pub fn split_container<'a, T: Words>(
     alloc: Global,
     handle: &mut container::Handle<'a, T>,

@@ -13,11 +13,13 @@ use Rattle.texts.specs.Reading.{◌>>=◌, number_at, owner_at}
 
 -- ---- how they are read
 
+-- an acquire, by its owner, and the words that are left
 unfoldable pub acquire : List (List ℕ) → Result (RobustStart × List (List ℕ)) Cause
 acquire ws = do
   owner ← owner_at ws
   Ok (Acquire owner.0, owner.1)
 
+-- a release, by its index, owner and mode, and the words that are left
 unfoldable pub release : List (List ℕ) → Result (RobustStart × List (List ℕ)) Cause
 release ws = do
   index ← number_at (2 ^ 64 - 1) ws
@@ -25,16 +27,20 @@ release ws = do
   mode ← mode_at owner.1
   Ok (Release index.0 owner.0 mode.0, mode.1)
 
+-- a find, by its owner, and the words that are left
 unfoldable pub find : List (List ℕ) → Result (RobustStart × List (List ℕ)) Cause
 find ws = do
   owner ← owner_at ws
   Ok (Find owner.0, owner.1)
 
+-- a recovery, by its mode, and the words that are left
 unfoldable pub recover : List (List ℕ) → Result (RobustStart × List (List ℕ)) Cause
 recover ws = do
   mode ← mode_at ws
   Ok (Recover mode.0, mode.1)
 
+-- The call of the robust index set with this name, as a call of its family, and the words that are left. Any
+-- other name is unknown.
 unfoldable pub any_robust_call : List ℕ → List (List ℕ)
     → Result (RobustStart × List (List ℕ)) Cause
 any_robust_call name ws =
@@ -46,7 +52,7 @@ any_robust_call name ws =
     else if bytes_eq name (codes "is_locked") then Ok (IsLocked, ws)
     else Err UnknownCall
 
--- the calls of the robust index set
+-- the call of the robust index set with this name, as a call of any structure, and the words that are left
 unfoldable pub robust_call : List ℕ → List (List ℕ) → Result (Start ℕ × List (List ℕ)) Cause
 robust_call name ws = do
   call ← any_robust_call name ws

@@ -1,4 +1,4 @@
-//! One operation on a word, one step of a call, and whole calls.
+//! How a seat performs one operation on a word, one step of a call, and a whole call.
 ghost use Rattle.std.specs.Prelude.{◌≡◌, ℕ, ◌+◌};
 ghost use Rattle.threaded.specs.Driver.{Owes, OwesAsk, Next, Told, KeepsRule, moves};
 ghost use Rattle.threaded.specs.Seats.{seen, table_of, key_of, IsSame, IsAt};
@@ -11,7 +11,8 @@ use std::sync::Wait;
 use steps::ask::{After, Ask, Op, Want};
 use steps::routine::{Ends, Routine};
 
-/// What a call goes on as after a step. If the step ended it, the function returns its end.
+/// The call as it stands after a step. If the step has ended the call, the function around this
+/// macro returns that end.
 macro_rules! next_or_return {
     ($after:expr) => {
         match $after {
@@ -25,7 +26,7 @@ impl<V> Tells<V> for Brand {
     ghost told = { λ _ _ _. Unit {0} };
 }
 
-/// A step that tells what its caller picks.
+/// An operation of which the caller picks by M what it tells. The view counts it.
 pub struct Says<M, K, Q> {
     of: PhantomData<(M, K, Q)>,
 }
@@ -35,7 +36,8 @@ impl<V, K, Q: Rule<V, K>, M: Tells<V>> Play<(), V> for Says<M, K, Q> {
 }
 
 impl<V, K, Q: Rule<V, K>> Seated<V, K, Q> {
-    /// One operation on one word: its old value, and the new one at a store. The view counts it.
+    /// Performs one operation on one word, and returns the word's old value, or at a store the new one. The
+    /// view counts the operation.
     #[inline(always)]
     pub(super) fn perform<M: Tells<V>>(&mut self, ask: Ask) -> u64
         requires owes { OwesAsk Q.asked (Q.holds (key_of self.old)) (table_of self.old).words
@@ -79,7 +81,8 @@ impl<V, K, Q: Rule<V, K>> Seated<V, K, Q> {
         }
     }
 
-    /// What a call hears where it stands: the word's old value; at a question, which only its caller can answer, 0.
+    /// Performs the operation that the call asks for, and returns its answer. Where the call asks a question,
+    /// which only its caller can answer, or asks for nothing, it performs none and returns 0.
     #[inline(always)]
     fn answer<M: Tells<V>, C: Routine>(&mut self, call: C, given: &C::Given) -> u64
         requires owes { Owes Q.asked (Q.holds (key_of self.old)) (table_of self.old).words
@@ -96,7 +99,7 @@ impl<V, K, Q: Rule<V, K>> Seated<V, K, Q> {
         }
     }
 
-    /// One step of a call, whose caller picks what it tells.
+    /// Takes one step of a call. Its caller picks by M what the step tells.
     #[inline(always)]
     pub fn step_telling<M: Tells<V>, C: Routine>(
         &mut self,
@@ -116,7 +119,8 @@ impl<V, K, Q: Rule<V, K>> Seated<V, K, Q> {
         call.take(given, room, old)
     }
 
-    /// One step of a call. Whoever has a closure answers the questions himself, between two steps; here the answer is 0.
+    /// Takes one step of a call. At a question the call hears 0: a caller that has a closure answers
+    /// questions itself, between two steps.
     #[inline(always)]
     fn once<M: Tells<V>, C: Routine, D: Drives<V, C>>(
         &mut self,
@@ -147,7 +151,7 @@ impl<V, K, Q: Rule<V, K>> Seated<V, K, Q> {
         call.take(given, room, old)
     }
 
-    /// One step of a call, for a caller who acts between two of them.
+    /// Takes one step of a call, for a caller that acts between two steps.
     #[inline(always)]
     pub fn step<C: Routine, D: Drives<V, C>>(
         &mut self,
@@ -170,7 +174,7 @@ impl<V, K, Q: Rule<V, K>> Seated<V, K, Q> {
         self.once::<Brand, C, D>(call, given, room)
     }
 
-    /// Drives a call that ends by itself to its end.
+    /// Takes all steps of a call whose type has a measure that falls with each step (`Ends`).
     #[inline(always)]
     pub fn drive<C: Ends, D: Drives<V, C>>(
         &mut self,
@@ -186,7 +190,8 @@ impl<V, K, Q: Rule<V, K>> Seated<V, K, Q> {
         ensures capacity { Q.capacity_seen (seen self.new) ≡ Q.capacity_seen (seen self.old) }
         ensures end { D.ends given.now (seen self.old) result room.new (seen self.new) }
     {
-        // The first steps stand by themselves, so that a compiler sees at each of them the call's stage.
+        // The first four steps stand before the loop, so that a compiler sees at each of
+        // them the call's stage.
         let call = next_or_return!(self.once::<Brand, C, D>(call, given, room));
         let call = next_or_return!(self.once::<Brand, C, D>(call, given, room));
         let call = next_or_return!(self.once::<Brand, C, D>(call, given, room));
@@ -196,7 +201,7 @@ impl<V, K, Q: Rule<V, K>> Seated<V, K, Q> {
         }
     }
 
-    /// Drives a call that may go back for as long as others step.
+    /// Takes all steps of a call that may go back for as long as others step.
     #[inline(always)]
     pub fn drive_on<C: Routine, D: Drives<V, C>>(
         &mut self,
@@ -213,7 +218,8 @@ impl<V, K, Q: Rule<V, K>> Seated<V, K, Q> {
         ensures capacity { Q.capacity_seen (seen self.new) ≡ Q.capacity_seen (seen self.old) }
         ensures end { D.ends given.now (seen self.old) result room.new (seen self.new) }
     {
-        // The first steps stand by themselves, as in `drive`.
+        // The first eight steps stand before the loop, so that a compiler sees at each of
+        // them the call's stage.
         let call = next_or_return!(self.once::<Brand, C, D>(call, given, room));
         let call = next_or_return!(self.once::<Brand, C, D>(call, given, room));
         let call = next_or_return!(self.once::<Brand, C, D>(call, given, room));

@@ -1,4 +1,4 @@
-//! How seats come to be, of a new table and of one another, and a load by itself.
+//! How seats are made, split and joined, and how a seat loads a word outside any call.
 ghost use Rattle.std.specs.Prelude.{◌≡◌, ◌<◌, ◌+◌, ℕ, IfOk, IfSome, IfNone, [], length};
 ghost use Rattle.atomic_table.specs.Table.{opening, Splits, Joins};
 ghost use Rattle.steps.specs.declared.ask.Op.TheVariants.{Load};
@@ -13,7 +13,7 @@ use std::sync::Arc;
 use steps::ask::{Ask, Op};
 
 impl<V, K, Q: Rule<V, K>> Seated<V, K, Q> {
-    /// A new table of these words, and its first seat.
+    /// Makes a table of these words, and its first seat.
     pub fn open(
         alloc: Global,
         words: &[u64],
@@ -35,7 +35,8 @@ impl<V, K, Q: Rule<V, K>> Seated<V, K, Q> {
         ))
     }
 
-    /// A seat more at the same table. None where no further reference can be counted. One load, which the view counts.
+    /// Makes a further seat at the same table, by one load, which the view counts. None where no further
+    /// reference can be counted.
     pub fn split<S: Split<V>>(&mut self) -> Option<Seated<V, K, Q>>
         requires some { 0 < (table_of self.old).words }
         requires splits { Splits (Q.holds (key_of self.old)) self.old.seat.id (seen self.old)
@@ -53,7 +54,8 @@ impl<V, K, Q: Rule<V, K>> Seated<V, K, Q> {
         Some(Seated { seat, table })
     }
 
-    /// Takes in the other seat of the table. One load, which the view counts beside what both have counted.
+    /// Takes in another seat of the table, by one load. The view then has what both views have counted, and 1
+    /// more for this load.
     pub fn join<J: Join<V>>(&mut self, other: Seated<V, K, Q>)
         requires table { table_of other ≡ table_of self.old }
         requires some { 0 < (table_of self.old).words }
@@ -68,7 +70,8 @@ impl<V, K, Q: Rule<V, K>> Seated<V, K, Q> {
         self.table.shared.join_seat::<J>(&mut self.seat, seat);
     }
 
-    /// One load of a word by itself, which the view counts. What it tells is picked where it is called.
+    /// Loads one word outside any call; the view counts this load. The type M, which the caller picks, says
+    /// what the load tells.
     #[inline(always)]
     pub fn look<M: Tells<V>>(&mut self, word: usize) -> u64
         requires owes { OwesAsk Q.asked (Q.holds (key_of self.old)) (table_of self.old).words

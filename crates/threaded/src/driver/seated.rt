@@ -1,4 +1,4 @@
-//! A seat at a table that is shared.
+//! A seat at a shared table, and the reference to this table that a structure holds.
 ghost use Rattle.std.specs.Prelude.{◌≡◌, []};
 ghost use Rattle.std.specs.Arc.{arc_value};
 
@@ -6,8 +6,8 @@ use atomic_table::{Seat, Table, TableRule};
 use std::alloc::Global;
 use std::sync::Arc;
 
-/// What a caller steps with: a seat, and the one reference to its table that its steps go through. The table is this
-/// crate's alone, so that nobody else can read or write a word by it.
+/// A seat, with the reference to its table through which its steps go. Only this crate can name the field
+/// `table`, so no other crate can read or write a word through it.
 #[derive(Drop)]
 pub struct Seated<V, K, Q: TableRule<(), V, K>> {
     pub seat: Seat<(), V>,
@@ -16,7 +16,8 @@ pub struct Seated<V, K, Q: TableRule<(), V, K>> {
     ghost bare: { seat.me.1 ≡ [] },
 }
 
-/// The words of a structure, as the structure holds them. Whoever has it can read or write no word by it: that takes a seat.
+/// The reference to its table that a structure holds. It gives no access to a word: for that
+/// a caller needs a seat.
 #[derive(Drop)]
 pub struct Home<V, K, Q: TableRule<(), V, K>> {
     pub(crate) table: Arc<Table<(), V, K, Q, Global>, Global>,

@@ -1,4 +1,4 @@
-//! Records that a writer and a reader share by `Arc`, which go through a ring of `rtrb`.
+//! The way of records that the writer and the reader share by `Arc`, through a ring of `rtrb`.
 
 use super::by_copy::blank;
 use super::passing::{Ends, Reader, WAITING, Writer, word_of};
@@ -6,10 +6,11 @@ use rtrb::{Consumer, Producer, RingBuffer};
 use std::alloc::{AllocError, Global};
 use std::sync::{Arc, Wait};
 
-/// A record that is shared.
+/// A record that both ends may have.
 type Shared = Arc<Vec<u64>, Global>;
 
-/// Who writes records where they lie, if nobody else has them, and passes them on.
+/// The writer, which has all records. It writes one where it lies, if the reader has it no more, and passes a
+/// clone of its `Arc` on.
 pub struct Shares {
     ring: Producer<Shared>,
     records: Vec<Shared>,
@@ -24,13 +25,13 @@ impl Drop for Shares {
     }
 }
 
-/// Who reads them there.
+/// The reader, which reads records where they lie.
 #[derive(Drop)]
 pub struct Looks {
     ring: Consumer<Shared>,
 }
 
-/// Writes a record of this number where nobody else has it: whether nobody has.
+/// Writes the record of this number. False where somebody else still has the `Arc`.
 #[inline(always)]
 fn is_written(record: &mut Shared, number: u64) -> bool {
     let Some(words) = Arc::get_mut(record) else {
@@ -71,7 +72,7 @@ impl Reader for Looks {
     }
 }
 
-/// The two ends, with as many records as may wait, each of so many words.
+/// The two ends, with `WAITING` records of `words` words.
 pub fn ends(alloc: Global, words: usize) -> Result<Ends<Shares, Looks>, AllocError> {
     let mut records = Vec::with_capacity(alloc, WAITING)?;
     for _ in 0..WAITING {

@@ -1,4 +1,4 @@
-//! Records that are written and read in the slots of a bus.
+//! The way of records that are written and read in the slots of a bus.
 
 use super::by_copy::blank;
 use super::passing::{Ends, Reader, WAITING, Writer, word_of};
@@ -9,7 +9,7 @@ use zero_copy_bus::bus::Sizes;
 use zero_copy_bus::publisher::{Loan, Publisher};
 use zero_copy_bus::subscriber::{Sample, Subscriber};
 
-/// The sizes of a bus of so many subscribers. A queue is as long as the slots are many, so that no record is lost.
+/// The sizes of a bus of this many subscribers. A queue has room for all slots, so no record is lost.
 pub fn sizes_of(subscribers: usize) -> Sizes {
     Sizes {
         slots: WAITING,
@@ -18,7 +18,7 @@ pub fn sizes_of(subscribers: usize) -> Sizes {
     }
 }
 
-/// Records to write, each of so many words, one more than there are slots.
+/// Records of `words` words, one more than there are slots, which a publisher is given to write.
 pub fn spares(alloc: Global, words: usize) -> Result<Vec<Vec<u64>>, AllocError> {
     let mut spares = Vec::with_capacity(alloc, WAITING + 1)?;
     for _ in 0..WAITING + 1 {
@@ -27,20 +27,20 @@ pub fn spares(alloc: Global, words: usize) -> Result<Vec<Vec<u64>>, AllocError> 
     Ok(spares)
 }
 
-/// Who publishes records.
+/// The writer, which publishes records.
 #[derive(Drop)]
 pub struct Publishes<'a> {
     publisher: Publisher<'a, Vec<u64>>,
 }
 
-/// Those who receive them.
+/// The readers, which each receive every record.
 #[derive(Drop)]
 pub struct Receives<'a> {
     subscribers: Vec<Subscriber<'a, Vec<u64>>>,
 }
 
 impl<'a> Publishes<'a> {
-    /// A slot. Where none is free, those that came back are collected first.
+    /// A slot to write in. Where no slot is free, the publisher first takes back what the readers gave back.
     #[inline(always)]
     fn next_loan<R: Wait>(&mut self, rt: &R) -> Option<Loan<'a, Vec<u64>>> {
         if let Ok(loan) = self.publisher.loan(rt) {
@@ -65,7 +65,7 @@ impl<'a> Writer for Publishes<'a> {
     }
 }
 
-/// The sum of the words of the record that one receives next.
+/// Receives the next record of one reader, and returns the sum of its words. None where no record waits.
 #[inline(always)]
 fn read_next<R: Wait>(rt: &R, subscriber: &mut Subscriber<'_, Vec<u64>>) -> Option<u64> {
     let sample = subscriber.receive(rt)?;
@@ -74,7 +74,7 @@ fn read_next<R: Wait>(rt: &R, subscriber: &mut Subscriber<'_, Vec<u64>>) -> Opti
     Some(sum)
 }
 
-/// The sum of the words of a record.
+/// The sum of the words of a record, read where it lies.
 #[inline(always)]
 fn sum_of(subscriber: &Subscriber<'_, Vec<u64>>, sample: &Sample) -> Option<u64> {
     let reading = subscriber.read(sample).ok()?;
@@ -96,7 +96,8 @@ impl<'a> Reader for Receives<'a> {
     }
 }
 
-/// A publisher with so many who subscribe. None where one is not let in.
+/// The two ends: the publisher with `readers` subscribers. None where one is not let in,
+/// or memory is refused.
 pub fn ends<'a, R: Wait>(
     rt: &R,
     alloc: Global,

@@ -1,10 +1,12 @@
-//! Records that are copied into a buffer under a lock, and out of it again.
+//! The way of records that are copied into a buffer under a lock, and out of it again, with which the other
+//! ways are compared.
 
 use super::passing::{Ends, Reader, WAITING, Writer, word_of};
 use std::alloc::{AllocError, Global};
 use std::sync::{Mutex, Wait};
 
-/// The records that wait, in cells that are taken in turn. Each number is written at its place, by how many came before.
+/// The records that wait, in cells that are used in turn. `put` and `taken` are the numbers of records that
+/// were put and taken.
 #[derive(Drop)]
 pub struct Waiting {
     cells: Vec<Vec<u64>>,
@@ -12,13 +14,13 @@ pub struct Waiting {
     taken: usize,
 }
 
-/// A record of so many words.
+/// A record of `words` words, each of them 0.
 pub fn blank(alloc: Global, words: usize) -> Result<Vec<u64>, AllocError> {
     vec![in alloc; 0u64; words]
 }
 
 impl Waiting {
-    /// Room for records of so many words.
+    /// A buffer for `WAITING` records of `words` words.
     pub fn new(alloc: Global, words: usize) -> Result<Waiting, AllocError> {
         let mut cells = Vec::with_capacity(alloc, WAITING)?;
         for _ in 0..WAITING {
@@ -31,7 +33,7 @@ impl Waiting {
         })
     }
 
-    /// Copies a record in: whether there was room.
+    /// Copies a record in. False where the buffer is full.
     #[inline(always)]
     fn put(&mut self, record: &[u64]) -> bool {
         if self.put.wrapping_sub(self.taken) >= WAITING {
@@ -47,7 +49,8 @@ impl Waiting {
         true
     }
 
-    /// Copies the oldest out, which is gone where this was the last who reads it: whether there was one.
+    /// Copies the oldest record out, and removes it if this reader is the last one. False
+    /// where no record waits.
     #[inline(always)]
     fn take(&mut self, record: &mut [u64], is_last: bool) -> bool {
         if self.put == self.taken {
@@ -66,7 +69,7 @@ impl Waiting {
     }
 }
 
-/// Copies a record to one that is as long: whether it is.
+/// Copies a record. False where the two are not equally long.
 #[inline(always)]
 fn copies(from: &[u64], to: &mut [u64]) -> bool {
     if from.len() != to.len() {
@@ -76,14 +79,14 @@ fn copies(from: &[u64], to: &mut [u64]) -> bool {
     true
 }
 
-/// Who copies records in.
+/// The writer, which makes a record of its own and copies it in.
 #[derive(Drop)]
 pub struct Puts<'a> {
     waiting: &'a Mutex<Waiting>,
     record: Vec<u64>,
 }
 
-/// Those who copy them out, each for itself.
+/// The readers, which copy each record out one after another.
 #[derive(Drop)]
 pub struct Takes<'a> {
     waiting: &'a Mutex<Waiting>,
@@ -118,7 +121,7 @@ impl<'a> Reader for Takes<'a> {
     }
 }
 
-/// The two ends, each with a record of its own.
+/// The two ends of this way, each with a record of its own to copy from or to.
 pub fn ends<'a>(
     alloc: Global,
     waiting: &'a Mutex<Waiting>,

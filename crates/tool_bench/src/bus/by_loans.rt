@@ -1,4 +1,4 @@
-//! Records that are written and read in the slots of a typed loan channel.
+//! The way of records that are written and read in the slots of a typed loan channel.
 
 use super::passing::{Ends, Reader, Writer, word_of};
 use std::alloc::Global;
@@ -7,13 +7,13 @@ use zero_copy_loans::channel::Channel;
 use zero_copy_loans::receiver::{Receiver, Sample};
 use zero_copy_loans::sender::Sender;
 
-/// Who writes records into places that it loans, and sends them.
+/// The writer, which writes a record in the place of a loan, and sends it.
 #[derive(Drop)]
 pub struct Sends<'a> {
     sender: Sender<'a, Vec<u64>>,
 }
 
-/// Who reads them there, and gives the places back.
+/// The reader, which reads a record where it lies, and gives its place back.
 #[derive(Drop)]
 pub struct Gets<'a> {
     receiver: Receiver<'a, Vec<u64>>,
@@ -33,7 +33,7 @@ impl<'a> Writer for Sends<'a> {
     }
 }
 
-/// The sum of the words of a record.
+/// The sum of the words of a record, read where it lies.
 #[inline(always)]
 fn sum_of(receiver: &Receiver<'_, Vec<u64>>, sample: &Sample) -> Option<u64> {
     let reading = receiver.read(sample).ok()?;

@@ -1,29 +1,29 @@
-//! Records go from a writer to a reader, by turns in one thread.
+//! A way on which records go from a writer to a reader, by turns in one thread.
 
 use std::sync::Wait;
 
-/// How many records may wait.
+/// How many records may wait on the way.
 pub const WAITING: usize = 16;
 
-/// Who makes records and passes them on.
+/// The end of a way that makes records and passes them on.
 pub trait Writer: Drop {
-    /// Makes the record of this number, and passes it on: whether there was room.
+    /// Makes the record of this number, and passes it on. False where there was no room for it.
     fn write<R: Wait>(&mut self, rt: &R, number: u64) -> bool;
 }
 
-/// Who reads records.
+/// The end of a way that reads records.
 pub trait Reader: Drop {
-    /// The sum of the words of the record that comes next. None where none waits.
+    /// Reads the next record, and returns the sum of its words. None where no record waits.
     fn read<R: Wait>(&mut self, rt: &R) -> Option<u64>;
 }
 
-/// The word at a place of the record of this number.
+/// The word at the place `at` of the record of this number.
 #[inline(always)]
 pub fn word_of(number: u64, at: usize) -> u64 {
     number.wrapping_add(at as u64)
 }
 
-/// The two ends of a way that records go.
+/// The two ends of a way that records take.
 pub struct Ends<W: Drop, D: Drop> {
     pub writer: W,
     pub reader: D,
@@ -39,7 +39,8 @@ impl<W: Drop, D: Drop> Drop for Ends<W, D> {
 }
 
 impl<W: Writer, D: Reader> Ends<W, D> {
-    /// Passes so many records, each of which is read before the next is made: the sum of all.
+    /// Passes `records` records, each of which is read before the next one is made. It returns the sum of all
+    /// words, and None where a record did not go or come.
     #[inline(never)]
     pub fn pass<R: Wait>(&mut self, rt: &R, records: u64) -> Option<u64> {
         let mut sum = 0u64;

@@ -1,4 +1,4 @@
-//! The container of numbers by hand.
+//! The container of numbers, with its steps by hand.
 ghost use Rattle.std.specs.Prelude.{◌≡◌, ◌+◌, ◌<◌};
 
 use super::Words;
@@ -6,7 +6,8 @@ use super::robust::{EMPTY, LOCKED, Owners};
 use std::alloc::{AllocError, Global};
 use std::sync::Wait;
 
-/// The counter, the owner of each index, how many changes there were, the number of each element, and the elements.
+/// A container: its words are the counter, the owner of each index, the number of changes, the number of each
+/// element, and the elements.
 #[derive(Drop)]
 pub struct Values {
     owners: Owners,
@@ -14,7 +15,7 @@ pub struct Values {
 }
 
 impl Values {
-    /// One in which no value stands.
+    /// A container in which no value stands.
     pub fn new(alloc: Global, capacity: u32) -> Result<Values, AllocError> {
         let cells = capacity as usize;
         let mut numbers = Vec::from_elem(alloc, 0u64, 2 + (cells + cells) + cells)?;
@@ -26,6 +27,7 @@ impl Values {
         Ok(Values { owners })
     }
 
+    /// Adds the value for the owner, and returns its index. None where no index is free.
     #[inline(never)]
     pub fn add<R: Wait>(&mut self, rt: &R, value: u64, owner: u64) -> Option<u32> {
         let index = self.owners.acquire(rt, owner)?;
@@ -45,7 +47,8 @@ impl Values {
         Some(index)
     }
 
-    /// A copy of the value at this index, and its number.
+    /// The value at this index, and the number of its element. None where no value stands, or it changed
+    /// while it was copied.
     #[inline(always)]
     fn copied(&mut self, index: u32) -> Option<(u64, u64)>
         requires { index < self.old.owners.capacity }
@@ -66,7 +69,7 @@ impl Values {
         }
     }
 
-    /// The sum of an owner's values.
+    /// The sum of the owner's values.
     #[inline(never)]
     pub fn find(&mut self, owner: u64) -> u64 {
         let mut sum = 0u64;
@@ -80,7 +83,7 @@ impl Values {
         sum
     }
 
-    /// Frees this index of a dead owner: whether the container is not locked.
+    /// Frees this index of a dead owner, if that owner has it. False where the container is locked.
     #[inline(always)]
     fn frees<R: Wait>(&mut self, rt: &R, index: u32, dead: u64) -> bool
         requires { index < self.old.owners.capacity }
@@ -98,7 +101,7 @@ impl Values {
         self.owners.raise(rt)
     }
 
-    /// Frees each index of this dead owner.
+    /// Frees each index of this dead owner. False where the container is locked.
     #[inline(never)]
     pub fn recover<R: Wait>(&mut self, rt: &R, dead: u64) -> bool {
         let mut is_open = self.owners.words.load(0) != LOCKED;

@@ -1,11 +1,11 @@
-//! The overflowing queue by hand. The words are those that `steps::queues` names.
+//! The pop of an overflowing queue, with its steps by hand. The words are those that `steps::queues` names.
 ghost use Rattle.std.specs.Prelude.{◌≡◌, ◌+◌, ◌<◌, ◌^◌};
 
 use super::Words;
 use std::alloc::{AllocError, Global};
 use std::sync::Wait;
 
-/// A slot below the number of slots, which is not 0.
+/// The cell of this position, which is below the number of cells.
 #[inline(always)]
 pub fn slot(slots: u32, position: u64) -> usize
     requires { 0 < slots }
@@ -14,7 +14,7 @@ pub fn slot(slots: u32, position: u64) -> usize
     (position % slots as u64) as usize
 }
 
-/// The overflowing queue of numbers.
+/// An overflowing queue of numbers. It has one cell more than its capacity.
 #[derive(Drop)]
 pub struct Overflowing {
     words: Words,
@@ -25,7 +25,7 @@ pub struct Overflowing {
 }
 
 impl Overflowing {
-    /// An empty one.
+    /// An empty queue. Memory counts as refused if the capacity is 0 or 2^32 - 1.
     pub fn new(alloc: Global, capacity: u32) -> Result<Overflowing, AllocError> {
         if capacity == 0 || capacity == u32::MAX {
             return Err(AllocError);
@@ -35,6 +35,7 @@ impl Overflowing {
         Ok(Overflowing { words, capacity })
     }
 
+    /// Takes the oldest number out. None where the queue is empty.
     #[inline(never)]
     pub fn pop<R: Wait>(&mut self, rt: &R) -> Option<u64> {
         let mut read = self.words.load(1);

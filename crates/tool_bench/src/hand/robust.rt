@@ -1,17 +1,22 @@
-//! The robust index set by hand. The container has its first words too.
+//! The robust index set, with its steps by hand. The container by hand has the same first words
+//! and uses these calls.
 ghost use Rattle.std.specs.Prelude.{◌≡◌, ◌+◌, ◌≤◌};
 
 use super::Words;
 use std::alloc::{AllocError, Global};
 use std::sync::Wait;
 
+/// The cell of an index that nobody has.
 pub const EMPTY: u64 = u64::MAX;
 
+/// The counter of a locked set.
 pub const LOCKED: u64 = u64::MAX;
 
+/// The counter at its end, where it stays.
 const GREATEST: u64 = u64::MAX - 1;
 
-/// The counter, the owner of each index, and further words.
+/// A robust set: its words are the counter, the owner of each index, and those that a
+/// container has behind them.
 #[derive(Drop)]
 pub struct Owners {
     pub words: Words,
@@ -28,7 +33,7 @@ impl Owners {
         Ok(Owners { words, capacity })
     }
 
-    /// Raises the counter: false where the set is locked.
+    /// Raises the counter by 1. False where the set is locked; a counter at its end stays.
     #[inline(always)]
     pub fn raise<R: Wait>(&mut self, rt: &R) -> bool
         ensures capacity { self.new.capacity ≡ self.old.capacity }
@@ -51,7 +56,7 @@ impl Owners {
         unreachable!()
     }
 
-    /// Takes the lowest index without an owner.
+    /// Takes the lowest index without an owner. None where there is none, or the set is locked or at its end.
     pub fn acquire<R: Wait>(&mut self, rt: &R, owner: u64) -> Option<u32>
         ensures capacity { self.new.capacity ≡ self.old.capacity }
         ensures size { self.new.words.size ≡ self.old.words.size }
@@ -75,6 +80,7 @@ impl Owners {
         unreachable!()
     }
 
+    /// Gives the index back. False where the owner does not have it.
     pub fn release<R: Wait>(&mut self, rt: &R, index: u32, owner: u64) -> bool {
         if index >= self.capacity {
             return false;
@@ -86,6 +92,7 @@ impl Owners {
         true
     }
 
+    /// The sum of the owner's indices, each plus 1.
     #[inline(never)]
     pub fn find(&mut self, owner: u64) -> u64 {
         let mut found = 0u64;
@@ -97,7 +104,7 @@ impl Owners {
         found
     }
 
-    /// Asks of each owner whether it is this dead one.
+    /// Frees each index of this dead owner. False where the set is locked.
     #[inline(never)]
     pub fn recover<R: Wait>(&mut self, rt: &R, dead: u64) -> bool {
         if self.words.load(0) == LOCKED {

@@ -11,6 +11,7 @@ join-requires g c =
     let e = c.in_ok-sender.ensures in
     c.leave.ensures.queue ∙ (c.in_ok-sent.ensures.receiver ∙ (e.receiver ∙ sym (c.in_ok-sent.ensures.sender ∙ e.sender)))
 
+-- the end came, so all numbers that were sent were received, and the marks told are theirs
 pub returns : goal.returns
 returns g c =
     let none : next_of c.in_ok-sender.sender + c.args.count ≡ c.args.count = omega (arith, c.in_ok-sender.ensures.next) in

@@ -1,4 +1,5 @@
-//! The same of a container.
+//! Calls of a container once more, each with a clause that no other client has a use for
+//! (as `twins.rt` says).
 ghost use Rattle.std.specs.Prelude.{◌≡◌, ◌≤◌, ◌<◌, ◌^◌, ◌∷◌, length, true, false, Ok, Err, List, MatchOption, IfOk, IfErr, OnOk, []};
 ghost use Rattle.lock_free.specs.IndexReading.{is_locked as has_lock};
 ghost use Rattle.lock_free.specs.Container.Bare.{IsCounted};
@@ -55,7 +56,8 @@ pub fn remove<T: Words>(
     container.remove(rt, handle, mode, pass)
 }
 
-/// So is what a replace answers, which succeeds with the container's own handle alone.
+/// What a replace answers is its answer in the history, and right. It succeeds only with a
+/// handle of this container.
 pub fn replace<T: Words>(
     container: &Container<T>,
     handle: ContainerHandle,
@@ -74,8 +76,8 @@ pub fn replace<T: Words>(
     container.replace(handle, value, pass)
 }
 
-/// So is a length. It is at most the capacity, and 0 if the pass had seen the lock. One operation is aside at most, and one
-/// more if the last call of the pass was a find that rests.
+/// A length is its answer in the history, and right. It is at most the capacity, and 0 if the pass had seen
+/// the lock. One operation is aside at most, and one more if the last call of the pass was a find that rests.
 pub fn len<T: Words>(container: &Container<T>, rt: &impl Wait, pass: &mut Pass<T>) -> usize
     requires { IsPassOf container.now pass.old }
     ensures counted { HasCounted result (view pass.old) (view pass.new) }
@@ -87,7 +89,7 @@ pub fn len<T: Words>(container: &Container<T>, rt: &impl Wait, pass: &mut Pass<T
     container.len(rt, pass)
 }
 
-/// So is whether it is 0.
+/// Whether the container is empty is the call's answer in the history, and right.
 pub fn is_empty<T: Words>(container: &Container<T>, rt: &impl Wait, pass: &mut Pass<T>) -> bool
     requires { IsPassOf container.now pass.old }
     ensures tested { HasTested result (view pass.old) (view pass.new) }
@@ -97,7 +99,7 @@ pub fn is_empty<T: Words>(container: &Container<T>, rt: &impl Wait, pass: &mut P
     container.is_empty(rt, pass)
 }
 
-/// So is a look at the lock.
+/// What a look at the lock answers is its answer in the history, and right.
 pub fn is_locked<T: Words>(container: &Container<T>, pass: &mut Pass<T>) -> bool
     requires { IsPassOf container.now pass.old }
     ensures looked { HasLooked result (view pass.old) (view pass.new) }

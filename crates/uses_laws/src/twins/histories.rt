@@ -75,9 +75,9 @@ pub fn of_counts(pass: &counting_bit_set::Pass)
     pass.history();
 }
 
-/// An index was claimed where nobody held it and the set was not locked, and its holder freed it. Who was answered an index
-/// has claimed just that one in the call. `is_locked` has answered what was so. Those that count as held are those that
-/// somebody held.
+/// An index was claimed where nobody held it and the set was not locked, and its holder freed it. Who was
+/// answered an index has claimed just that one in the call. `is_locked` has answered whether the set was
+/// locked. The indices that count as held are those that somebody held.
 pub fn of_indices(pass: &unique_index_set::Pass)
     ensures claimed { (p index : ℕ) → Whenever (indices.history pass.now) (Claimed p index)
         (λ before. (index < (indices.set_of pass.now).capacity) × (holder_of index before ≡ None) × (is_locked before ≡ false)) }
@@ -122,8 +122,10 @@ pub fn of_queue(pass: &index_queue::Pass)
     pass.history();
 }
 
-/// The same of an overflowing queue, but that no push is refused, that one more than the capacity may wait, and that who pushes
-/// may take out too. What left it was the oldest that waited.
+/// Of an overflowing queue: what was taken out, by pops and by pushes, is a beginning of what was pushed,
+/// each the oldest that waited then, and at most one more than the capacity waits. A pop found nothing only
+/// where nothing waited. A length was that of a moment of the call. An acquire of the producer's role
+/// answered whether nobody had it, and who pushed had it.
 pub fn of_overflowing_queue(pass: &safely_overflowing_index_queue::Pass)
     ensures book { (before after : List (Event ℕ)) → (ends.view pass.now).seen ≡ before ++ after
         → published before ≡ handed_out before ++ waiting before }
@@ -165,10 +167,11 @@ pub fn of_value(pass: &unrestricted_atomic::Pass<u64>)
     pass.history();
 }
 
-/// An index was filled where it was not, and a recovery asked about one that its owner had at a moment of the call. It freed for
-/// its own owner what it was told to free, or was shown. `is_locked` has answered what was so. In a well-formed, honest history
-/// an index was granted where nobody held it, and in any history if nobody has given it back and no recovery has freed it.
-/// Updates meet the changes. Up to the end of each call it has seen the events of the first of the turns that it knows.
+/// An index was filled where it was not, and a recovery asked about one that its owner had at a moment of the
+/// call. It freed for its own owner what it was told to free, or was shown. `is_locked` has answered whether
+/// the set was locked. In a well-formed, honest history an index was granted where nobody held it, and in any
+/// history if nobody has given it back and no recovery has freed it. Updates meet the changes. Up to the end
+/// of each call it has seen the events of the first of the turns that it knows.
 pub fn of_container(pass: &container::Pass<u64>)
     ensures filled { (p index owner : ℕ) → Whenever (containers.history pass.now) (Filled p index owner)
         (λ before. (index < (containers.container_of pass.now).capacity) × (filled_of index before ≡ None)) }

@@ -1,4 +1,5 @@
-//! The same of a robust index set.
+//! Calls of a robust index set once more, each with a clause that no other client has a use for (as
+//! `twins.rt` says).
 ghost use Rattle.std.specs.Prelude.{◌≡◌, ◌+◌, ◌≤◌, true, false};
 ghost use Rattle.lock_free.specs.CallbackProgression.TheVariants.{Continue};
 ghost use Rattle.lock_free.specs.IndexReading.{is_locked as has_lock};
@@ -22,7 +23,8 @@ pub fn is_locked(handle: &mut Handle<'_>) -> bool
     handle.is_locked()
 }
 
-/// So is a count of the indices. It is at most the capacity, and 0 if the pass had seen the lock.
+/// A count of the indices is its answer in the history, and right. It is at most the capacity, and 0 if the
+/// pass had seen the lock.
 pub fn borrowed_indices(handle: &mut Handle<'_>, rt: &impl Wait) -> usize
     ensures counted { HasCounted result (knows handle.old) (knows handle.new) }
     ensures answered { IsRightCount result (knows handle.old) (knows handle.new) }

@@ -115,8 +115,8 @@ pub fn keep_positions(pass: &mut Pass, other: Pass)
     pass.join(other);
 }
 
-/// No two numbers were published after equally many others, and no two were taken. What was taken after so many others is what
-/// was published after as many.
+/// No two numbers were published at one position of the queue's history, and no two were taken at one
+/// position. The number taken after n others is the one published after n others.
 pub fn of_positions(pass: &Pass)
     ensures published { (p q : ℕ) (x y : Item ℕ) (before after earlier later : List (Event ℕ))
         → (view pass.now).seen ≡ before ++ Published p x ∷ after → (view pass.now).seen ≡ earlier ++ Published q y ∷ later

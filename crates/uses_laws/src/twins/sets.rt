@@ -1,4 +1,5 @@
-//! The same of the unique index set, and of both bit sets.
+//! Calls of the unique index set and of both bit sets once more, each with a clause that no other client has
+//! a use for (as `twins.rt` says).
 ghost use Rattle.std.specs.Prelude.{◌≡◌, ◌<◌, ◌≤◌, false, IfSome, IsFalse, IsTrue};
 ghost use Rattle.model.specs.declared.event.Answer.TheVariants.{Number, State};
 ghost use Rattle.model.specs.declared.families.indices.IndexStart.TheVariants as starts;
@@ -25,8 +26,8 @@ use lock_free::mpmc::{bit_set, counting_bit_set};
 use std::sync::Wait;
 use steps::indices::enums::ReleaseState;
 
-/// What a release in the mode that locks answers is right. Who locks holds none, and who does not holds some, if its share
-/// is the whole.
+/// What a release in the mode that locks answers is right. If it locks, the pass holds no index then. If it
+/// does not and the pass has the whole share, the pass still holds one.
 pub fn release_or_lock(
     rt: &impl Wait,
     set: &UniqueIndexSet,
@@ -52,7 +53,7 @@ pub fn borrowed_indices(set: &UniqueIndexSet, pass: &mut Pass) -> usize
     set.borrowed_indices(pass)
 }
 
-/// Who finds the lock holds none, and who does not find it had not seen it.
+/// A pass that finds the lock holds no index. One that does not find it had not seen it before.
 pub fn is_locked(set: &UniqueIndexSet, pass: &mut Pass) -> bool
     requires { IsPassOf set.now pass.old }
     ensures looked { HasLooked result (view pass.old) (view pass.new) }
@@ -71,7 +72,7 @@ pub fn borrowed_by_handle(handle: &mut Handle<'_>) -> usize
     handle.borrowed_indices()
 }
 
-/// So does a look at the lock by a handle.
+/// A look at the lock by a handle tells what the look by a pass tells.
 pub fn is_locked_by_handle(handle: &mut Handle<'_>) -> bool
     ensures same { SameHandle handle.old handle.new }
     ensures looked { IsLockedDone result (knows handle.old) (knows handle.new) }

@@ -6,8 +6,9 @@ ghost use Rattle.lock_free.specs.Shares.{added, all_shares, both_of, pieces, res
 
 use lock_free::laws::histories::{any_number, any_order};
 
-/// A first pass that was split any number of times has the whole share again where all that was split off is joined to it. So
-/// have two passes that have k and j parts of a whole that has k + j.
+/// A first pass that was split any number of times has the whole share again where all that was split
+/// off is joined to it. Two passes with k and j of k + j equal parts of the whole have the whole
+/// share once they are joined.
 pub fn of_shares()
     ensures split { (n : ℕ) → IsAll (added (rest n all_shares) (pieces n all_shares)) }
     ensures joined { (whole k j : ℕ) (one other : Share) → 0 < whole → IsPart k whole one → IsPart j whole other → k + j ≡ whole

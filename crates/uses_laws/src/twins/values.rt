@@ -71,7 +71,7 @@ pub fn load_still(
     if first == later { Some(loaded) } else { None }
 }
 
-/// No two values were stored after equally many others. What was loaded after so many stores is what the last of them stored.
+/// No two values were stored at one version. What was loaded after n stores is the value of the n-th store.
 pub fn of_versions(pass: &Pass<u64>)
     ensures stored { (p q x y : ℕ) (before after earlier later : List (Event ℕ))
         → (view pass.now).seen ≡ before ++ Acted p (Atomic (Store x)) (Truth true) ∷ after

@@ -1,4 +1,5 @@
-//! What is done with a stream.
+//! The calls of a stream: how its ends are made, how values and the end are sent and received, and how both
+//! ends are joined.
 ghost use Rattle.std.specs.Prelude.{◌≡◌, ◌≤◌, ◌++◌, ◌∷◌, [], ◌+◌, ℕ, true, false, take, length, is_none};
 ghost use Rattle.std.specs.Prelude.{IsTrue, IsFalse, IfOk, IfErr, IfSome, IfNone};
 ghost use Rattle.model.specs.declared.event.Item.TheVariants.{Value};
@@ -134,7 +135,7 @@ where
 }
 
 impl<T: Copy> Arrival<T> {
-    /// What a pop has found.
+    /// What a pop of the queue has found, as a receiver tells it.
     fn of(found: Option<Element<T>>) -> Arrival<T>
         ensures { result ≡ arrival_of found }
     {
@@ -145,7 +146,7 @@ impl<T: Copy> Arrival<T> {
         }
     }
 
-    /// Whether it is the end.
+    /// Whether the arrival is the end of the stream.
     pub fn is_end(&self) -> bool
         ensures { result ≡ is_end self.now }
     {
@@ -219,6 +220,7 @@ impl<T: Copy> Received<T>
 where
     Element<T>: Words,
 {
+    /// The pass of an end that has received. No atomic step.
     fn into_pass(self) -> Pass<Element<T>>
         ensures { result ≡ self.pass }
     {
@@ -231,8 +233,9 @@ impl<T: Copy> Sent<T>
 where
     Element<T>: Words,
 {
-    /// Brings both ends together. What was received is a beginning of what was sent, in order. Where the end came it is all of it,
-    /// and the sender had finished. The pass of both comes back, with the whole share.
+    /// Brings both ends together. What was received is a beginning of what was sent, in order. If the
+    /// end came, it is all that was sent, and the sender had finished. The joined pass comes back,
+    /// with the whole share.
     pub fn join(self, other: Received<T>) -> Pass<Element<T>>
         requires { received_queue other ≡ sent_queue self }
         ensures queue { queue_of result ≡ sent_queue self }

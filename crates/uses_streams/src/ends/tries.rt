@@ -1,4 +1,5 @@
-//! The calls that try so many times at most, and end in any case. After each try that fails others get a turn.
+//! The calls of a stream's ends that try up to a limit, and so end in any case. After each try that fails
+//! another thread may run.
 ghost use Rattle.std.specs.Prelude.{◌≡◌, ◌++◌, ◌∷◌, [], ◌+◌, ◌*◌, true, IsTrue, IsFalse, IfOk, IfErr};
 ghost use Rattle.model.specs.declared.event.Item.TheVariants.{Value};
 ghost use Rattle.history.specs.Steps.{TakesAtMost};
@@ -17,8 +18,9 @@ impl<'a, T: Copy> Sender<'a, T>
 where
     Element<T>: Words,
 {
-    /// Sends a value and returns true. Or returns false after so many tries, each of which was refused, since the queue was full
-    /// or its write position is at its end. Then nothing was sent. A try has the steps of `send`.
+    /// Sends a value and returns true. Or returns false after `tries` tries, each of which was
+    /// refused, since the queue was full or its write position is at its end. Then nothing was sent. A
+    /// try has the steps of `send`.
     pub fn send_within(&mut self, value: T, tries: u64) -> bool
         ensures queue { sender_queue self.new ≡ sender_queue self.old }
         ensures sent { IsTrue result → sent_so_far self.new ≡ sent_so_far self.old ++ value ∷ [] }
@@ -38,9 +40,9 @@ where
         false
     }
 
-    /// Sends the end, once and after all values, and gives the role back. Or the sender comes back after so many tries, each of
-    /// which was refused, since the queue was full or its write position is at its end. A try has the steps of `send`, and there is
-    /// one more where the role is given back.
+    /// Sends the end, once and after all values, and gives the role back. Or the sender comes back after
+    /// `tries` tries, each of which was refused, since the queue was full or its write position is at its
+    /// end. A try has the steps of `send`, and there is one more where the role is given back.
     pub fn finish_within(self, tries: u64) -> Result<Sent<T>, Sender<'a, T>>
         ensures queue { IfOk result (λ s. sent_queue s ≡ sender_queue self.entry) }
         ensures sent { IfOk result (λ s. sent s ≡ sent_so_far self.entry) }
@@ -69,8 +71,9 @@ impl<'a, T: Copy> Receiver<'a, T>
 where
     Element<T>: Words,
 {
-    /// Receives the next value or the end, or nothing after so many tries, each of which found the queue empty. Each try is a
-    /// `receive`. Once the end came it comes again, whatever the number of tries, and nothing is popped any more.
+    /// Receives the next value or the end, or nothing after `tries` tries, each of which found the queue
+    /// empty. Each try is a `receive`. Once the end came it comes again, whatever the number of tries, and
+    /// nothing is popped any more.
     pub fn receive_within(&mut self, tries: u64) -> Arrival<T>
         ensures queue { receiver_queue self.new ≡ receiver_queue self.old }
         ensures received { received_so_far self.new ≡ received_so_far self.old ++ arrived result }

@@ -9,7 +9,7 @@ use crate::element::Element;
 use std::sync::{Forever, Wait};
 use steps::words::Words;
 
-/// Waits for each value, and ends at the end of the stream.
+/// An iterator over the values of a receiver: it waits for each value, and ends at the end of the stream.
 pub struct Values<'a, T: Copy, R: Wait>
 where
     Element<T>: Words,

@@ -1,4 +1,5 @@
-//! The calls that wait: between two tries others get a turn.
+//! The calls of a stream's ends that wait for room, for a value or for the end. Between two tries another
+//! thread may run.
 ghost use Rattle.std.specs.Prelude.{◌≡◌, ◌++◌, ◌∷◌, [], List, true, is_none, IsTrue, IfSome, IfNone, OnOk};
 ghost use Rattle.uses_streams.specs.Ends.{sender_queue, receiver_queue, sent_queue, GainAlike};
 ghost use Rattle.uses_streams.specs.Ends.{sent_so_far, received_so_far, sent, has_finished, has_finished_once, is_at_end};
@@ -10,7 +11,8 @@ use std::sync::Wait;
 use std::thread;
 use steps::words::Words;
 
-/// Who is handed values one after the other, and what is known of it once it has taken these.
+/// A worker that is handed values one after the other. Its ghost fact says what is known of it once it has
+/// taken a list of them.
 pub trait Takes<T> {
     ghost has_taken: { List T → Self → Type 0 };
 
@@ -89,9 +91,9 @@ where
         unreachable!()
     }
 
-    /// Receives into a vector all values until the end, each as soon as it is there. Before each one it makes room for it. Err where
-    /// there is no memory for that, and then all that was received is in the vector, so a later call can go on. Where no value
-    /// comes and no end it waits for good.
+    /// Receives into a vector all values until the end, each as soon as it is there. Before it receives it
+    /// makes room for one more. Err where there is no memory for that; then all that was received is in the
+    /// vector, and a later call can go on. Where no value comes and no end it waits for good.
     pub fn receive_all(&mut self, rt: &impl Wait, values: &mut Vec<T>) -> Result<(), AllocError>
         ensures queue { receiver_queue self.new ≡ receiver_queue self.old }
         ensures came { GainAlike (received_so_far self.old) (received_so_far self.new) values.old.items values.new.items }

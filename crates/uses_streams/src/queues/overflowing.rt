@@ -1,4 +1,4 @@
-//! The calls of an overflowing queue's consumer.
+//! The calls of an overflowing queue's consumer that wait for a number, or that try up to a limit.
 ghost use Rattle.std.specs.Prelude.{◌≡◌, ◌<◌, ℕ, None, IfSome, IfNone};
 ghost use Rattle.model.specs.declared.event.Item.TheVariants.{Index};
 ghost use Rattle.lock_free_queues.specs.Queues.Contracts.{PopFoundNone};
@@ -9,8 +9,9 @@ use lock_free_queues::spsc::safely_overflowing_index_queue::Consumer;
 use std::sync::Wait;
 use std::thread;
 
-/// Takes the oldest number as soon as there is one: between two tries others get a turn. Where none comes, or the queue has no
-/// capacity, it waits for good. A try has the steps of one pop (by no clause). This project's own.
+/// Takes the oldest number as soon as there is one. Between two tries another thread may run. Where no number
+/// comes, or the queue has no capacity, it waits for good. A try has the steps of one pop (by no clause).
+/// This project's own.
 pub fn pop_overflowing_waiting(rt: &impl Wait, consumer: &mut Consumer<'_>) -> u64
     ensures queue { consumer_queue consumer.new ≡ consumer_queue consumer.old }
     ensures share { (consumer_view consumer.new).share ≡ (consumer_view consumer.old).share }
@@ -25,8 +26,9 @@ pub fn pop_overflowing_waiting(rt: &impl Wait, consumer: &mut Consumer<'_>) -> u
     unreachable!()
 }
 
-/// Takes the oldest number, or returns None after so many tries, each of which found none. Between two tries others get a turn. A try
-/// has the steps of one pop (by no clause). Where the queue has no capacity it returns None, and nothing changes. This project's own.
+/// Takes the oldest number, or returns None after `tries` tries, each of which found none. Between two tries
+/// another thread may run. A try has the steps of one pop (by no clause). Where the queue has no capacity it
+/// returns None, and nothing changes. This project's own.
 pub fn pop_overflowing_within(
     rt: &impl Wait,
     consumer: &mut Consumer<'_>,

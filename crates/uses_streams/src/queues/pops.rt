@@ -1,4 +1,4 @@
-//! The calls of a consumer.
+//! The calls of a queue's consumer that pop many values, that wait for one, or that try up to a limit.
 ghost use Rattle.std.specs.Prelude.{◌≡◌, ◌≤◌, ◌+◌, ◌*◌, ◌∷◌, [], take, drop, length, IfSome, IfNone};
 ghost use Rattle.history.specs.Steps.{TakesAtMost};
 ghost use Rattle.lock_free_queues.specs.Queues.Relays.{Receiving};
@@ -11,8 +11,9 @@ use std::sync::Wait;
 use std::thread;
 use steps::words::Words;
 
-/// Pops into a slice, in order, until it is full or the queue is found empty. Returns how many came: they are the first ones of the
-/// slice, and the others stay as they were. At most the atomic steps of so many pops, and of one more.
+/// Pops into a slice, in order, until it is full or the queue is found empty. Returns how many came: they are
+/// the first ones of the slice, and the rest of the slice stays as it was. At most the atomic steps of that
+/// many pops, and of one more.
 pub fn pop_all<E: BoundedKind<T>, T: Words>(
     consumer: &mut Consumer<'_, E, T>,
     values: &mut [T],
@@ -33,7 +34,8 @@ pub fn pop_all<E: BoundedKind<T>, T: Words>(
     values.len()
 }
 
-/// Pops a value as soon as there is one: between two tries others get a turn. Where none comes it waits for good.
+/// Pops a value as soon as there is one. Between two tries another thread may run. Where no value comes it
+/// waits for good.
 pub fn pop_waiting<E: BoundedKind<T>, T: Words>(
     rt: &impl Wait,
     consumer: &mut Consumer<'_, E, T>,
@@ -49,8 +51,8 @@ pub fn pop_waiting<E: BoundedKind<T>, T: Words>(
     unreachable!()
 }
 
-/// Pops a value, or returns None after so many tries, each of which found the queue empty. Between two tries others get a turn. A try
-/// has the steps of one pop.
+/// Pops a value, or returns None after `tries` tries, each of which found the queue empty. Between two tries
+/// another thread may run. A try has the steps of one pop.
 pub fn pop_within<E: BoundedKind<T>, T: Words>(
     consumer: &mut Consumer<'_, E, T>,
     tries: u64,

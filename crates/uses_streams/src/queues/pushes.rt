@@ -1,4 +1,4 @@
-//! The calls of a producer.
+//! The calls of a queue's producer that push many values, that wait for room, or that try up to a limit.
 ghost use Rattle.std.specs.Prelude.{◌≤◌, ◌+◌, ◌*◌, ◌∷◌, [], take, length, IsTrue, IsFalse};
 ghost use Rattle.history.specs.Steps.{TakesAtMost};
 ghost use Rattle.lock_free_queues.specs.Queues.Relays.{Sending};
@@ -11,9 +11,9 @@ use std::sync::Wait;
 use std::thread;
 use steps::words::Words;
 
-/// Pushes the values of a slice in order until one is refused, since the queue is full or its write position at its end. Returns how
-/// many went in: so many of the first ones, so a later call can go on with `&values[count..]`. At most the atomic steps of so many
-/// pushes, and of one more.
+/// Pushes the values of a slice in order until one is refused, since the queue is full or its write position
+/// at its end. Returns how many went in, the first `count` ones, so a later call can go on with
+/// `&values[count..]`. At most the atomic steps of that many pushes, and of one more.
 pub fn push_all<E: BoundedKind<T>, T: Words>(
     producer: &mut Producer<'_, E, T>,
     values: &[T],
@@ -33,8 +33,8 @@ pub fn push_all<E: BoundedKind<T>, T: Words>(
     values.len()
 }
 
-/// Pushes a value as soon as there is room: between two tries others get a turn. It waits for good where the queue has no places or
-/// its write position is at its end, and it may where nobody pops any more.
+/// Pushes a value as soon as there is room. Between two tries another thread may run. It waits for good where
+/// the queue has no places or its write position is at its end, and it may where nobody pops any more.
 pub fn push_waiting<E: BoundedKind<T>, T: Words>(
     rt: &impl Wait,
     producer: &mut Producer<'_, E, T>,
@@ -51,8 +51,9 @@ pub fn push_waiting<E: BoundedKind<T>, T: Words>(
     unreachable!()
 }
 
-/// Pushes a value and returns true. Or returns false after so many tries, each of which was refused, since the queue was full or its
-/// write position is at its end. Then nothing was pushed. Between two tries others get a turn. A try has the steps of one push.
+/// Pushes a value and returns true. Or returns false after `tries` tries, each of which was refused, since
+/// the queue was full or its write position is at its end. Then nothing was pushed. Between two tries another
+/// thread may run. A try has the steps of one push.
 pub fn push_within<E: BoundedKind<T>, T: Words>(
     producer: &mut Producer<'_, E, T>,
     value: &T,

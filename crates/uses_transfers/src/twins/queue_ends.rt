@@ -1,4 +1,5 @@
-//! The same of the calls of a plain queue's ends, at the queue of numbers.
+//! Calls of a plain queue's ends (`uses_streams::queues`) once more, at the queue of numbers, each with the
+//! clauses that the program has no use for.
 ghost use Rattle.std.specs.Prelude.{◌≡◌, ◌≤◌, ◌+◌, ◌*◌, ◌∷◌, [], take, drop, length, IsTrue, IsFalse, IfSome, IfNone};
 ghost use Rattle.model.specs.declared.event.Item.TheVariants.{Index};
 ghost use Rattle.history.specs.Steps.{TakesAtMost};
@@ -21,14 +22,14 @@ pub fn push_all(producer: &mut Producer<'_>, numbers: &[u64]) -> usize
     queues::push_all(producer, numbers)
 }
 
-/// Who waits pushes the number, and no other.
+/// `push_waiting` pushes this number, and no other.
 pub fn push_waiting(rt: &impl Wait, producer: &mut Producer<'_>, number: u64)
     ensures { Sending Index producer.old (number ∷ []) producer.new }
 {
     queues::push_waiting(rt, producer, &number);
 }
 
-/// A number is pushed by the last of so many tries, or by none.
+/// A number is pushed by the last of at most `tries` tries, or each of `tries` tries was refused.
 pub fn push_within(producer: &mut Producer<'_>, number: u64, tries: u64) -> bool
     ensures sent { IsTrue result → Sending Index producer.old (number ∷ []) producer.new }
     ensures pushed { IsTrue result → WasPushedWithin tries (producer_queue producer.old).capacity (Index number)
@@ -53,14 +54,15 @@ pub fn pop_all(consumer: &mut Consumer<'_>, room: &mut [u64]) -> usize
     queues::pop_all(consumer, room)
 }
 
-/// Who waits pops the number that it gives, and no other.
+/// `pop_waiting` pops the number that it returns, and no other.
 pub fn pop_waiting(rt: &impl Wait, consumer: &mut Consumer<'_>) -> u64
     ensures { Receiving Index consumer.old (result ∷ []) consumer.new }
 {
     queues::pop_waiting(rt, consumer)
 }
 
-/// What comes was popped by the last of so many tries, or each found the queue empty.
+/// What comes was popped by the last of at most `tries` tries, or each of `tries` tries
+/// found the queue empty.
 pub fn pop_within(consumer: &mut Consumer<'_>, tries: u64) -> Option<u64>
     ensures received { IfSome result (λ x. Receiving Index consumer.old (x ∷ []) consumer.new) }
     ensures popped { IfSome result

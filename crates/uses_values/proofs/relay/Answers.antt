@@ -12,6 +12,8 @@ pub relayed-requires-clause-receives : goal.relayed-requires-clause-receives
 relayed-requires-clause-receives g c =
     c.in_ok-sender.ensures.receiver c.finish-other.result (read_all _ _ _ _ _ c.in_ok-back.ensures.read c.finish-other.ensures.receives).received.of
 
+-- both ends are taken in, so of the values sent a beginning was received or came back, and the marks are
+-- those of the received ones
 pub returns : goal.returns
 returns g c =
     all_relayed mark _ _ _ _ _ _ _ _ _ _ _ _ _ _ c.in-Ok.ensures.fresh c.in-Ok.ensures.next c.in_ok-sends.ensures.opened

@@ -1,4 +1,4 @@
--- Each turn cuts one more off.
+-- `split_many` (src/splits.rt): each iteration splits one handle or pass more off.
 use Rattle.std.proofs.Common.{◌≡◌, true, [], ◌∷◌, ◌++◌, is_ok, if◌then◌else◌, sym, ap, subst, ◌∙◌}
 use Rattle.lock_free_guards.specs.Cuts.{AreCut}
 use Rattle.lock_free_guards.proofs.Cuts.{one_more_cut}

@@ -1,4 +1,5 @@
--- the halves so far were cut off in turn
+-- `split_many` (src/splits.rt): in its loop the handles or passes in `halves` were split
+-- off one after another.
 use Rattle.lock_free_guards.specs.Cuts.{AreCut}
 use Rattle.lock_free_guards.proofs.splits.split_many.Given as given
 

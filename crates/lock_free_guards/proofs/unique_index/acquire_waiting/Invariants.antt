@@ -1,4 +1,4 @@
--- each try so far took none
+-- `acquire_waiting` (src/unique_index.rt): in its loop each try has found no index left, and took none.
 use Rattle.std.proofs.Common.{◌≡◌, ℕ}
 use Rattle.model.specs.declared.event.Start.TheVariants.{Indices}
 use Rattle.model.specs.declared.families.indices.IndexStart.TheVariants.{Acquire}

@@ -12,6 +12,7 @@ use Rattle.lock_free_guards.proofs.Trying.{none_tried}
 use Rattle.lock_free_guards.proofs.UniqueTries as tries
 use Rattle.lock_free_guards.proofs.unique_index.acquire_within.Goals as goal
 
+-- the invariant of the loop holds before its first iteration
 pub loop-init : goal.loop-init
 loop-init g c = (refl, none_tried (Indices Acquire) (view c.args.pass))
 
@@ -34,6 +35,7 @@ returns-in-Ok-clause-acquired g c =
           c.in-Ok.ensures.acquired,
     )
 
+-- a pass whose try took an index holds it beside those that it held (clause `held`)
 pub returns-in-Ok-clause-held : goal.returns-in-Ok-clause-held
 returns-in-Ok-clause-held g c =
     let i = c.in-Ok.index in
@@ -49,23 +51,27 @@ returns-in-IsLocked-clause-locked g c is =
       tries.refused c.loop.counter c.args.pass c.loop.pass c.in-Err.back c.loop.invariant.1 c.in-Err.ensures.refused_same IsLocked shut,
     )
 
+-- a try that is refused because the set is locked has seen the lock (clause `lock`)
 pub returns-in-IsLocked-clause-lock : goal.returns-in-IsLocked-clause-lock
 returns-in-IsLocked-clause-lock g c is =
     tries.lock_seen (view c.loop.pass) (view c.in-Err.back)
     (subst (λ f. WasRefused f (view c.loop.pass) (view c.in-Err.back)) is c.in-Err.ensures.refused)
 
+-- a pass whose last try took an index holds it beside those that it held (clause `held`)
 pub returns-clause-held : goal.returns-clause-held
 returns-clause-held g c =
     let all : c.loop.counter ≡ c.args.tries - 1 = omega arith in
     let tried = subst (λ n. HasTried n (Indices Acquire) (view c.args.pass) (view c.loop.pass)) all c.loop.invariant.1 in
     tries.held c.args.tries c.args.pass c.loop.pass tried c.acquire-2.result c.acquire-2.ensures.acquired
 
+-- where the last try found no index left, the set was not seen locked before (clause `unlocked`)
 pub returns-clause-unlocked : goal.returns-clause-unlocked
 returns-clause-unlocked g c =
     let all : c.loop.counter ≡ c.args.tries - 1 = omega arith in
     let tried = subst (λ n. HasTried n (Indices Acquire) (view c.args.pass) (view c.loop.pass)) all c.loop.invariant.1 in
     tries.unlocked c.args.tries c.args.pass c.loop.pass tried c.acquire-2.result c.acquire-2.ensures.refused
 
+-- a pass whose last try took none holds what it held (clause `kept`)
 pub returns-clause-kept : goal.returns-clause-kept
 returns-clause-kept g c =
     let all : c.loop.counter ≡ c.args.tries - 1 = omega arith in

@@ -1,4 +1,5 @@
-//! The calls of a sender, each an equation on its table.
+//! The calls of a sender. The contract of each gives the sender's table after the call as a function of the
+//! table before it.
 ghost use Rattle.std.specs.Prelude.{◌≡◌, ◌↔◌, ◌+◌, ◌*◌, ◌<◌, max, IsTrue};
 ghost use Rattle.std.specs.Prelude.{IfOk, IfErr, IfSome, IfNone, slice_set, replicate};
 ghost use Rattle.lock_free_sets.specs.UniqueIndexSet.{view, made, set_of, capacity_of, IsPassOf};
@@ -30,7 +31,7 @@ use lock_free_sets::mpmc::unique_index_set_enums::UniqueIndexSetAcquireFailure;
 use std::alloc::Global;
 use std::sync::Wait;
 
-/// Pops until a pop finds that nothing waits.
+/// Pops from the queue of what was sent until a pop finds nothing.
 fn empty_submission(rt: &impl Wait, receiver: &mut overflow::Consumer<'_>)
     ensures same { SameConsumerByCapacity receiver.old receiver.new }
     ensures emptied { 0 < (sends.consumer_queue receiver.old).capacity
@@ -44,7 +45,7 @@ fn empty_submission(rt: &impl Wait, receiver: &mut overflow::Consumer<'_>)
     unreachable!()
 }
 
-/// The same of what was given back.
+/// Pops from the queue of what was given back until a pop finds nothing.
 fn empty_completion(rt: &impl Wait, consumer: &mut index_queue::Consumer<'_>)
     ensures queue { returns.consumer_queue consumer.new ≡ returns.consumer_queue consumer.old }
     ensures goes { Goes (returns.consumer_view consumer.old) (returns.consumer_view consumer.new) }
@@ -149,7 +150,7 @@ impl<'a> LoanSender<'a> {
         self.set.release_raw_index(index, &mut self.pass);
     }
 
-    /// Whether the index is Sent.
+    /// Returns whether the index is Sent. No atomic step.
     fn has_sent(&self, index: u32) -> bool
         ensures { result ≡ is_sent (place_at (places_of self.now) index) }
     {
@@ -159,7 +160,7 @@ impl<'a> LoanSender<'a> {
         }
     }
 
-    /// An index that was Sent is given back to the set.
+    /// Gives an index that is Sent back to the set, and makes it Free in the table.
     fn free(&mut self, sent: u32)
         requires { IsTrue (is_sent (place_at (places_of self.old) sent)) }
         ensures places { places_of self.new ≡ slice_set (places_of self.old) sent Free }
@@ -173,8 +174,9 @@ impl<'a> LoanSender<'a> {
         self.set.release_raw_index(sent, &mut self.pass);
     }
 
-    /// Gives an index that came back to the set if it is Sent. Any other value changes nothing. `send` and `take_back` do
-    /// so. It is a call of its own for what `send_as` answers. At most 5 atomic steps.
+    /// Gives an index that came back to the set if it is Sent. Any other value changes nothing. `send`
+    /// and `take_back` settle what comes back to them; after `send_as` the caller does, by this call.
+    /// At most 5 atomic steps.
     pub fn settle(&mut self, value: u64)
         ensures same { SettleKeeps self.old self.new }
         ensures places { places_of self.new ≡ returned value (places_of self.old) }

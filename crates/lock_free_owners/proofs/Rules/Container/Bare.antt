@@ -17,7 +17,7 @@ use Rattle.atomic_table.proofs.Lists.{at_set, set_else, set_here}
 use Rattle.threaded.proofs.Shares.{shares_stay}
 use Rattle.lock_free_owners.specs.Container.Bare.{IsCounted, Still}
 
--- an exchange of a number for itself
+-- An exchange that replaces a number by itself leaves the word as it was.
 pub unchanged : (count found : ℕ) → written (ops.Exchange count count) found ≡ found
 unchanged count found = grind (arith, by_eq)
 
@@ -36,6 +36,8 @@ module _ {T : Type 0} (views : List (View T)) (events : List (Event T)) (id : �
       (λ (e : (j ≢ id) × (get_elem? views j ≡ some u)). k.spent j u e.1 part)
       (at_set views id j (one_more v) u found)
 
+  -- the views still know all events after this seat's view is replaced by the one that
+  -- counts one operation more
   known_on : Known (set views id (one_more v)) events
   known_on = ⊎_elim mine theirs (cases_eq k.by id)
     where
@@ -72,6 +74,8 @@ module _ {T : Type 0} (views : List (View T)) (events : List (Event T)) (id : �
 no_more : (n : ℕ) → n + 0 ≡ n
 no_more n = omega arith
 
+-- what the seats have asked for still adds up after one of them has counted one operation more, which
+-- is no step
 asked_on : {T : Type 0} (views : List (View T)) (steps id : ℕ) (v : View T) → get_elem? views id ≡ some v → HaveAsked views steps
     → HaveAsked (set views id (one_more v)) steps
 asked_on views steps id v at h =
@@ -90,6 +94,7 @@ module _ {T : Type 0} (code : Coding T) (key slots id : ℕ) (v : View T) where
         tt,
         reseat code kinds.Container key (set s.words word (f (slice_index s.words word))) s r id v (one_more v)
             (ap (set s.words word) (same (slice_index s.words word)) ∙ set_same s.words word) at
+            -- The view fits the trace as before, as it has only counted one operation more.
             (record {
               seen = fits.seen;
               other = fits.other;
@@ -125,14 +130,17 @@ counted_one v = record { known = refl; aside = omega arith }
 
 -- a call whose view stays until its end
 module _ {T C E M : Type 0} (stands : View T → C → Type 0) (ends : View T → E → M → View T → Type 0) (v : View T) where
+  -- a call that goes on by one load, or ends by it, leaves what the seat knows
   abbrev pub Stays : After C E → Type 0
   Stays a = (n : M) → Next (λ (z : View T). z.capacity) (Still stands) ends v a n (one_more v)
 
+  -- a load that leaves what is known tells what a step of the call tells
   pub still_tells : ((base : View T) (e : E) (n : M) → IsCounted base v → ends v e n (one_more v) → ends base e n (one_more v))
       → (after : C → ℕ → After C E) (kept : C → M → ℕ → M) (c : C) (m : M) (k : ℕ) → Stays (after c k)
       → Told (λ (z : View T). z.capacity) (Still stands) ends after kept c m v k (one_more v)
   still_tells carries after kept c m k stays = (refl, λ base at. go base at.0 (after c k) (stays (kept c m k)))
     where
+      -- the cases are whether the call goes on or has ended
       go : (base : View T) → IsCounted base v → (a : After C E) → Next (λ (z : View T). z.capacity) (Still stands) ends v a (kept c m k) (one_more v)
           → Next (λ (z : View T). z.capacity) (Still stands) ends base a (kept c m k) (one_more v)
       go base same (GoOn d) h = (counted_on base v same, h.1)

@@ -1,4 +1,5 @@
--- What the closure of a find on a container was called with so far.
+-- What the closure of a find of a container was called with at each stage (`SoFar`), and that each step
+-- and answer keeps it.
 use Rattle.lock_free_owners.proofs.Names.{◌≡◌, ℕ, ◌+◌, ◌^◌, ◌<◌, ◌≤◌, nat_lt, inr, List}
 use Rattle.lock_free_owners.proofs.Names.{[], ◌∷◌, ◌++◌, length, refl, sym, ap, subst, ◌∙◌, arith, length-append}
 use Rattle.lock_free_owners.proofs.Names.{Contains, All, FoldsTo, FoldsTo-push, map-append, All-push}
@@ -14,26 +15,32 @@ use Rattle.lock_free_owners.specs.Container.Visits.{FindStage, FindAsks, IsNamed
 use Rattle.lock_free_owners.proofs.Rules.Robust.Finding.{ascend_push, below_push, below_more}
 
 module _ {T F : Type 0} (step : F → T → ContainerHandle → CallbackProgression → F → Type 0) (cap owner id : ℕ) (f : F) where
+  -- the handle is one that the find may visit
   abbrev mine : ContainerHandle → Type 0
   mine = IsNamed cap owner id
 
+  -- the visits are at indices below this one
   abbrev Below : ℕ → List (Visit T) → Type 0
   Below low xs = All (λ (x : Visit T). x.handle.index < low) xs
 
+  -- the visits are at some of these indices
   abbrev Among : List ℕ → List (Visit T) → Type 0
   Among indices xs = All (λ (x : Visit T). Contains indices x.handle.index) xs
 
+  -- The visit of a value at this index.
   abbrev at_index : ℕ → T → Visit T
   at_index low value = record { value = value; handle = named low owner id }
 
+  -- The visits that come from these copies.
   abbrev told : List (ℕ × T) → List (Visit T)
   told copies = visits_of owner id copies
 
-  -- one copy more is one visit more
+  -- The visits that come from one more copy are the visits before it, and one at the index of that copy.
   told_push : (before : List (ℕ × T)) (index : ℕ) (value : T) → told (before ++ (index, value) ∷ []) ≡ told before ++ at_index index value ∷ []
   told_push before index value = map-append (λ (c : ℕ × T). at_index c.0 c.1) before ((index, value) ∷ [])
 
-  -- the calls from f on that led to p, among n indices below this one
+  -- Called at these visits, from f on, the closure became p. The visits are among n indices below
+  -- `low`, which the find has counted.
   pub record Came (low n : ℕ) (visits : List (Visit T)) (p : F) : Type 0 where
     pub indices : List ℕ
     pub ascend : Ascends cap indices
@@ -44,11 +51,13 @@ module _ {T F : Type 0} (step : F → T → ContainerHandle → CallbackProgress
     pub among : Among indices visits
     pub calls : FoldsTo (goes_on step) f visits p
 
-  -- this index is counted, and not yet asked about
+  -- The find has counted this index among `found`, and the closure was called at the copies
+  -- of lower indices only.
   abbrev pub Counted : ℕ → ℕ → List (ℕ × T) → F → Type 0
   Counted index found copies p = (n : ℕ) × (n + 1 ≡ found) × Came index n (told copies) p
 
-  -- it has copied these, and with the last of them, which is in its room, it still has to call the closure
+  -- What the closure was called with at each stage: with all copies before a question, and at a
+  -- question with all but the last one, whose value is in the room.
   abbrev pub SoFar : finds.FindStage → List (ℕ × T) → T → F → Type 0
   SoFar (finds.TheVariants.LoadsCell index found) copies value p = Came index found (told copies) p
   SoFar (finds.TheVariants.LoadsCount index found) copies value p = Counted index found copies p
@@ -57,16 +66,20 @@ module _ {T F : Type 0} (step : F → T → ContainerHandle → CallbackProgress
   SoFar (finds.TheVariants.Asks index found) copies value p =
       (before : List (ℕ × T)) × (copies ≡ before ++ (index, value) ∷ []) × Counted index found before p
 
+  -- At first the find has counted no index and called its closure with none.
   pub came_none : (low : ℕ) → Came low 0 [] f
   came_none low = grind arith
 
+  -- Visits below an index are below the next one.
   higher : (low : ℕ) (xs : List (Visit T)) → Below low xs → Below (low + 1) xs
   higher low xs below_holds = grind arith
 
+  -- Visits among some indices are among them and one more.
   wider : (indices : List ℕ) (index : ℕ) (xs : List (Visit T)) → Among indices xs → Among (indices ++ index ∷ []) xs
   wider indices index xs h = All-weaker (λ (x : Visit T). Contains indices x.handle.index) (λ (x : Visit T). Contains
       (indices ++ index ∷ []) x.handle.index) (λ x i. Contains-append_left indices (index ∷ []) x.handle.index i) xs h
 
+  -- The find comes past an index that it does not count.
   came_on : (low n : ℕ) (visits : List (Visit T)) (p : F) → Came low n visits p → Came (low + 1) n visits p
   came_on low n visits p came = grind (arith, below_more, higher)
 
@@ -101,6 +114,7 @@ module _ {T F : Type 0} (step : F → T → ContainerHandle → CallbackProgress
         calls = h.calls;
       }
 
+  -- A find that has come past all indices has found what `HasFound` says, with the capacity as the bound.
   pub found_all : (low n : ℕ) (visits : List (Visit T)) (p : F) → Came low n visits p → HasFound step cap mine f n cap visits p
   found_all low n visits p came = grind arith
 
@@ -109,6 +123,7 @@ module _ {T F : Type 0} (step : F → T → ContainerHandle → CallbackProgress
   IsQuiet (finds.TheVariants.Asks index found) = ⊥
   IsQuiet stage = Unit {0}
 
+  -- The handle of an index below the capacity names this owner.
   own : (index : ℕ) → index < cap → mine (named index owner id)
   own index within = ((refl, within), refl)
 
@@ -120,6 +135,7 @@ module _ {T F : Type 0} (step : F → T → ContainerHandle → CallbackProgress
     All-push (λ (x : Visit T). mine x.handle) xs (at_index low value) h.1 (own low within),
   )
 
+  -- Visits among some indices, and one at a further index, are among these indices and the further one.
   among_more : (indices : List ℕ) (low : ℕ) (value : T) (xs : List (Visit T)) → Among indices xs → Among (indices ++ low ∷ []) (xs ++ at_index low value ∷ [])
   among_more indices low value xs h =
       All-push (λ (y : Visit T). Contains (indices ++ low ∷ []) y.handle.index) xs (at_index low value) (wider indices low xs h) (Contains-push indices low)
@@ -142,8 +158,8 @@ module _ {T F : Type 0} (step : F → T → ContainerHandle → CallbackProgress
         calls = FoldsTo-push (goes_on step) f visits p x q h.calls hit;
       }
 
-  -- an answer to stop ends the find: the closure was called with these visits, of which the last
-  -- was told to stop
+  -- An answer to stop ends the find: the closure was called with these visits, and at the last of them
+  -- it said to stop.
   found_last : (low n found : ℕ) (value : T) (visits : List (Visit T)) (p q : F) → low < cap → n + 1 ≡ found → step p value (named low owner id) Stop q
       → Came low n visits p → HasFound step cap mine f found (low + 1) (visits ++ at_index low value ∷ []) q
   found_last low n found value visits p q within more hit h =
@@ -187,11 +203,13 @@ module _ {T F : Type 0} (step : F → T → ContainerHandle → CallbackProgress
     Onward (Done n) copies value q = HasFound step cap mine f n cap (told copies) q
 
     module _ (size : ℕ) (c : Find T R) where
+      -- A find that comes to an index, or behind the last one, has called its closure at lower indices only.
       comes : (index found : ℕ) (copies : List (ℕ × T)) (value : T) (q : F) → Came index found (told copies) q
           → Onward (find_comes_to c index found) copies value q
       comes index found copies value q came = grind (arith, by_test, nat_lt, at_find, found_all)
 
-      -- past an index that is counted
+      -- A find that passes an index which it counted, without a call of the closure, goes on or ends
+      -- with the closure at p.
       passes : (index found : ℕ) (copies : List (ℕ × T)) (value : T) (p : F) → index < cap → Counted index found copies p
           → Onward (find_comes_to c (index + 1) found) copies value p
       passes index found copies value p index_below_cap counted = grind (arith, comes, came_by)
@@ -199,21 +217,25 @@ module _ {T F : Type 0} (step : F → T → ContainerHandle → CallbackProgress
       -- ---- what a step leaves, by what it did with the closure
 
       module _ (value_of : R → T) (with_word : R → ℕ → ℕ → R) where
+        -- after the answer k the closure was called as the find's next stage, or its end, says
         abbrev pub StepsOnward : finds.FindStage → List (ℕ × T) → R → ℕ → F → Type 0
         StepsOnward stage copies room k p =
             Onward (find_takes size c stage owner k) (copies_after stage k (value_of room) copies) (value_of (find_keeps with_word stage room k)) p
 
+        -- A step at a word calls no closure, so what the closure was called with fits the next stage.
         pub quietly : cap < 2 ^ 32 → (stage : finds.FindStage) → IsQuiet stage → FindStage size cap stage → (copies : List (ℕ × T)) (room : R) (p : F) (k : ℕ)
             → SoFar stage copies (value_of room) p → StepsOnward stage copies room k p
         quietly cap_below stage quiet find_stage copies room p k so_far =
             grind (arith, by_eq, at_find, one_more, find_comes_to, comes, came_on, by_test, is_even, passes)
 
-      -- it is told to go on
+      -- Where the closure says Continue at an index, the find goes on behind it, or ends, with the
+      -- closure at q.
       pub told_on : (index found : ℕ) (copies : List (ℕ × T)) (value : T) (p q : F) → index < cap → step p value (named index owner id) Continue q
           → SoFar (finds.TheVariants.Asks index found) copies value p → Onward (find_comes_to c (index + 1) found) copies value q
       told_on index found copies value p q index_below_cap step_holds so_far = grind (arith, told_push, comes, came_more)
 
-  -- or to stop
+  -- Where the closure says Stop at an index, the find has ended: it counted `found` indices below index
+  -- + 1, and the closure is at q.
   pub told_to_stop : (index found : ℕ) (copies : List (ℕ × T)) (value : T) (p q : F) → index < cap → step p value (named index owner id) Stop q
       → SoFar (finds.TheVariants.Asks index found) copies value p → HasFound step cap mine f found (index + 1) (told copies) q
   told_to_stop index found copies value p q within hit so =

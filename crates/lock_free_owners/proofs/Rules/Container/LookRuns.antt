@@ -15,18 +15,23 @@ use Rattle.lock_free_owners.proofs.Rules.Container.Places.{change_fits, count_fi
 
 module _ {T : Type 0} (code : Coding T) (value_of : List ℕ → T) (size : ℕ) (some_words : 1 ≤ size) (seen : Numbers) (v : View T) (c : Look T)
     (same : c.capacity ≡ v.capacity) (room : Showing T) (cap words slots id : ℕ) (sized : words ≡ total_words cap size + 1) (known : v.capacity ≡ cap) where
+  -- The look after a number that it hears.
   abbrev after : Look T → ℕ → After (Look T) Bool
   after d k = look_after size d seen k
 
+  -- a look that goes on, or ends, leaves what the seat knows
   abbrev Here : After (Look T) Bool → Type 0
   Here = Stays {C = Look T} {E = Bool} {M = Showing T} (LookStands size) LookEnds v
 
+  -- what a step of this look tells
   abbrev Says : View T → ℕ → View T → Type 0
   Says = Told (λ (z : View T). z.capacity) (Still (LookStands size)) LookEnds after (look_kept value_of size) c room
 
+  -- What holds of the look after the number is what a step tells.
   says : (k : ℕ) → Here (after c k) → Says v k (one_more v)
   says = still_tells (LookStands size) LookEnds v (λ base e n same h. counted_on base v same) after (look_kept value_of size) c room
 
+  -- The table has the words of a container and one more.
   full : words ≡ total_words c.capacity size + 1
   full = subst (λ z. words ≡ total_words z size + 1) (sym (same ∙ known)) sized
 
@@ -34,6 +39,7 @@ module _ {T : Type 0} (code : Coding T) (value_of : List ℕ → T) (size : ℕ)
   comes : (index : ℕ) → Here (look_comes_to c index)
   comes index = grind (arith, by_test, nat_lt, at_look, nat_tests)
 
+  -- A look that finds a number of an element stands at a stage that there is.
   finds : (index count : ℕ) → index < v.capacity → Here (look_finds c index count)
   finds index count index_below_capacity = grind (arith, by_test, is_even, look_comes_to, at_look, comes)
 
@@ -70,6 +76,7 @@ module _ {T : Type 0} (code : Coding T) (value_of : List ℕ → T) (size : ℕ)
         (by_eq Here k count (look_comes_to c (index + 1)) (look_finds c index k) (λ e. comes (index + 1)) (λ ne. finds index k at)))),
   )
 
+-- each step of a look that leaves what is known keeps the rule of a container's table
 pub state_rule : {T : Type 0} (code : Coding T) (value_of : List ℕ → T) (size : ℕ) → 1 ≤ size → (seen : Numbers)
     → KeepsRule (λ (z : View T). z.asked) (λ (z : View T). z.capacity) (Still (LookStands size)) LookEnds (λ key. total_words key size + 1) (λ key. key)
     (λ key. IsMachine code kinds.Container key) (λ (c : Look T). look_want size c) (λ c k. look_after size c seen k) (look_kept value_of size)

@@ -1,4 +1,5 @@
--- What the closure of a recovery on a container was asked so far.
+-- What the closure of a recovery of a container was asked at each stage (`SoFar`), and that each step
+-- and answer keeps it.
 use Rattle.lock_free_owners.proofs.Names.{◌≡◌, ℕ, ◌+◌, ◌<◌, ◌≤◌, nat_lt, Bool, true, false, true≢false, ◌==◌, Some}
 use Rattle.lock_free_owners.proofs.Names.{None, List, [], ◌∷◌, ◌++◌, length, append-nil, refl, sym, ap, ◌∙◌, subst}
 use Rattle.lock_free_owners.proofs.Names.{arith, if◌then◌else◌, length-append, All, FoldsTo, FoldsTo-push}
@@ -24,13 +25,16 @@ use Rattle.lock_free_owners.specs.Container.RecoverContract.{question_at, questi
 use Rattle.lock_free_owners.specs.Container.RecoverTurns.{RecoverAsks}
 
 module _ {T F : Type 0} (step : F → T → Bool → F → Type 0) (cap : ℕ) (shut : Bool) (given : DeadOwner) (f : F) where
+  -- what the recovery did at the indices that it came to, the last one first
   abbrev Visits : Type 0
   Visits = List (ℕ × Came T)
 
+  -- the questions are about indices below this one
   abbrev Below : ℕ → List (Answered T) → Type 0
   Below low xs = All (λ (a : Answered T). a.index < low) xs
 
-  -- the questions that led to p, of visits at indices below this one
+  -- The questions at these visits, which are at indices below `low`, led the closure from f to p. They
+  -- ascend, and there are none if the container was locked at first.
   pub record Asked (low : ℕ) (visits : Visits) (p : F) : Type 0 where
     pub are : AreVisits given.mode low visits
     pub questions : FoldsTo (asks step) f (questions_of visits) p
@@ -39,33 +43,38 @@ module _ {T F : Type 0} (step : F → T → Bool → F → Type 0) (cap : ℕ) (
     pub few : length (questions_of visits) ≤ low
     pub nothing : shut ≡ true → questions_of visits ≡ []
 
+  -- No answers ascend.
   no_answers : AnswersAscend {T = T} cap []
   no_answers = grind arith
 
+  -- At first no visit was made, and the closure is f.
   none : (low : ℕ) (p : F) → p ≡ f → Asked low [] p
   none low p p_is_f = grind (arith, no_answers)
 
+  -- Visits below an index are below each higher one.
   higher : (low high : ℕ) → low ≤ high → (visits : Visits) → AreVisits given.mode low visits → AreVisits given.mode high visits
   higher low high up [] h = tt
   higher low high up (visit ∷ before) h = ((let l = h.0 in omega arith), h.1, h.2)
 
+  -- What the closure was asked about indices below one, it was asked about indices below each higher one.
   pub widen : (low high : ℕ) (visits : Visits) (p : F) → low ≤ high → Asked low visits p → Asked high visits p
   widen low high visits p low_up_to_high asked = grind (arith, higher, questions_of)
 
-  -- the same of visits with the same questions
+  -- other visits with the same questions led the closure to p too
   with_same : (low : ℕ) (xs ys : Visits) (p : F) → questions_of xs ≡ questions_of ys → AreVisits given.mode low ys → Asked low xs p → Asked low ys p
   with_same low xs ys p questions_of_is visits asked = grind (arith, asks, length)
 
-  -- it comes further with the last of them, and nothing is asked anew
+  -- A recovery comes further at the index of its last visit, and asks the closure nothing anew.
   further : (index : ℕ) (came next : Came T) (before : Visits) (p : F) → question_at index came ≡ question_at index next → MayCome given.mode next
       → Asked (index + 1) ((index, came) ∷ before) p → Asked (index + 1) ((index, next) ∷ before) p
   further index was next before p same_question may_come asked = grind (arith, with_same, questions_of)
 
-  -- it comes to an index at which nothing stands
+  -- A visit of an index at which no value stands asks the closure nothing.
   comes_none : (index : ℕ) (before : Visits) (p : F) → Asked index before p → Asked (index + 1) ((index, HasFound None) ∷ before) p
   comes_none index before p asked = grind (arith, widen, with_same, append-nil, questions_of)
 
-  -- one question more
+  -- A visit whose value the closure was asked about adds one question with its answer, and the closure
+  -- goes from p to q.
   more : (index : ℕ) (value : T) (answer : Bool) (came : Came T) (before : Visits) (p q : F)
       → question_at index came ≡ record { index = index; value = value; yes = answer } ∷ [] → MayCome given.mode came → shut ≡ false → index < cap
       → step p value answer q → Asked index before p → Asked (index + 1) ((index, came) ∷ before) q
@@ -88,7 +97,8 @@ module _ {T F : Type 0} (step : F → T → Bool → F → Type 0) (cap : ℕ) (
         nothing = λ t. absurd (true≢false (sym t ∙ free));
       }
 
-  -- where the call stands, with these visits, and with this value in its room
+  -- What the closure was asked at each stage of the recovery, with these visits and with
+  -- this value in the room.
   abbrev pub SoFar : RecoverStage → Visits → T → F → Type 0
   SoFar recovers.LoadsCounter visits value p = (p ≡ f) × (visits ≡ [])
   SoFar (recovers.LoadsCell index) visits value p = Asked index visits p
@@ -131,21 +141,24 @@ module _ {T F : Type 0} (step : F → T → Bool → F → Type 0) (cap : ℕ) (
   may_ask size takes recovers.LoadsCounterAgain at free visits value p so = tt
   may_ask size takes (recovers.AddsChange state) at free visits value p so = tt
 
-  -- a step at a word
+  -- The recovery stands at a word of the container, not at a question, so its step calls no closure.
   abbrev pub IsQuiet : RecoverStage → Type 0
   IsQuiet (recovers.Asks index count) = ⊥
   IsQuiet stage = Unit {0}
 
   module _ {R : Type 0} where
+    -- what the closure was asked where the recovery goes on; once it has ended, with all its visits
     abbrev pub Onward : After (Recover T R) ReleaseState → Visits → T → F → Type 0
     Onward (GoOn d) visits value p = SoFar d.stage visits value p
     Onward (Done state) visits value p = Asked cap visits p
 
     module _ (size : ℕ) (c : Recover T R) where
+      -- `Onward` holds of an equal next stage and equal visits too.
       so_then : (value : T) (p : F) (r s : After (Recover T R) ReleaseState) (xs ys : Visits) → r ≡ s → xs ≡ ys → Onward s ys value p → Onward r xs value p
       so_then value p r s xs ys r_is_s xs_are_ys onward = grind arith
 
-      -- at an index, or behind the last, the closure was asked about those below it
+      -- A recovery that comes to an index, or behind the last one, has asked the closure about indices
+      -- below it only.
       comes : (index : ℕ) (visits : Visits) (value : T) (p : F) → index ≤ cap → Asked index visits p → Onward (recover_comes_to c index) visits value p
       comes index visits value p within h =
           by_test (λ stage. Onward (goes_to c stage) visits value p) (nat_lt index c.capacity) (recovers.LoadsCell index)
@@ -153,7 +166,8 @@ module _ {T F : Type 0} (step : F → T → Bool → F → Type 0) (cap : ℕ) (
           (λ t. h)
           (λ t. widen index cap visits p within h)
 
-      -- at a number that was seen, the closure was asked about those below its index
+      -- When the recovery sees the change number of an index, it has asked the closure about
+      -- lower indices only.
       sees_count : (index count : ℕ) (visits : Visits) (value : T) (p : F) → Asked index visits p
           → Onward (recover_sees c index count) (seen_under index count visits) value p
       sees_count index count visits value p h =
@@ -163,20 +177,24 @@ module _ {T F : Type 0} (step : F → T → Bool → F → Type 0) (cap : ℕ) (
           (λ e. so_then value p (recover_sees c index count) (goes_to c (recovers.LoadsWord index count 0)) (seen_under index count visits) visits
           (rw e refl) (rw e refl) h)
 
+      -- A step of a raise of the counter asks the closure nothing.
       raised : (index : ℕ) (by : ReleaseMode) (visits : Visits) (value : T) (p : F) (a : After raises.Raise ReleaseState) → index < cap → IsFreed index visits
           → Asked (index + 1) visits p → Onward (recover_raised c index by a) visits value p
       raised index by visits value p a index_below_cap is_freed asked = grind (arith, widen, comes)
 
+      -- A step of the lock asks the closure nothing.
       locking : (index : ℕ) (visits : Visits) (value : T) (p : F) (a : After Lock ReleaseState) → index < cap → IsFreed index visits
           → Asked (index + 1) visits p → Onward (recover_locked c index a) visits value p
       locking index visits value p a index_below_cap is_freed asked = grind (arith, comes)
 
-      -- it has freed the index: where its number was odd, a value stood there
+      -- After the exchange that freed the index the recovery goes on as `Onward` says. A value stood
+      -- there if the element's number was odd.
       freed_on : (index count : ℕ) (now : Came T) (before : Visits) (value : T) (p : F) → IsToFree count now → Asked (index + 1) ((index, told now) ∷ before) p
           → Onward (if is_even count then recover_raises c index else goes_to c (recovers.Hides index count)) ((index, freed now) ∷ before) value p
       freed_on index count now before value p to_free asked = grind (arith, so_then, is_even, recover_raises, goes_to, further)
 
       module _ (value_of : R → T) (with_word : R → ℕ → ℕ → R) where
+        -- after the answer k the closure was asked as the recovery's next stage, or its end, says
         abbrev pub StepsOnward : RecoverStage → Visits → R → ℕ → F → Type 0
         StepsOnward stage visits room k p =
             Onward (recover_takes size c stage given k) (visits_after given.owner stage k (value_of room) visits)
@@ -193,14 +211,18 @@ module _ {T F : Type 0} (step : F → T → Bool → F → Type 0) (cap : ℕ) (
             -- as it begins nothing was visited, and the closure was not asked
             begun : (low : ℕ) → Asked low visits p
             begun low = subst (λ vs. Asked low vs p) (sym so.1) (none low p so.0)
+        -- at a cell: it is the owner's, or the recovery goes on to the next one
         quietly (recovers.LoadsCell index) still at visits room p k so =
             by_eq (λ z. Onward z visits (value_of room) p) k given.owner (goes_to c (recovers.LoadsCount index)) (recover_comes_to c (index + 1))
             (λ e. so)
             (λ ne. comes (index + 1) visits (value_of room) p (omega arith) (widen index (index + 1) visits p (omega arith) so))
         quietly (recovers.LoadsCount index) still at visits room p k so = sees_count index k visits (value_of room) p so
+        -- at a word of the value: the room has one word more
         quietly (recovers.LoadsWord index count place) still at visits room p k so =
             by_test (λ z. Onward z visits (value_of (with_word room place k)) p) (nat_lt (place + 1) size)
             (goes_to c (recovers.LoadsWord index count (place + 1))) (goes_to c (recovers.ChecksCount index count)) (λ t. so) (λ t. so)
+        -- at the check of the number: it has stayed, so the recovery asks about the copied
+        -- value, or it copies again
         quietly (recovers.ChecksCount index count) still at visits room p k so =
             by_bool (k == count)
             (λ e. so_then (value_of room) p (recover_takes size c (recovers.ChecksCount index count) given k)
@@ -211,6 +233,7 @@ module _ {T F : Type 0} (step : F → T → Bool → F → Type 0) (cap : ℕ) (
             (visits_after given.owner (recovers.ChecksCount index count) k (value_of room) visits) (seen_under index k visits)
             (rw e refl) (rw e refl) (sees_count index k visits (value_of room) p so))
         quietly (recovers.Asks index count) still at visits room p k so = absurd still
+        -- at the exchange of the cell: it frees the index, or the owner has it no more
         quietly (recovers.EmptiesCell index count) still at visits room p k so =
             let now = so.0 in
             let before = so.1 in
@@ -222,6 +245,7 @@ module _ {T F : Type 0} (step : F → T → Bool → F → Type 0) (cap : ℕ) (
             (λ e. so_then (value_of room) p (recover_takes size c (recovers.EmptiesCell index count) given k) (recover_comes_to c (index + 1))
             (visits_after given.owner (recovers.EmptiesCell index count) k (value_of room) visits) ((index, told now) ∷ before)
             (rw e refl) (rw e (ap (with_last told) so.2)) (comes (index + 1) ((index, told now) ∷ before) (value_of room) p (omega arith) so.4))
+        -- at the exchange that hides the value, which asks nothing
         quietly (recovers.Hides index count) still at visits room p k so =
             let gone = so.0 in
             let before = so.1 in
@@ -232,10 +256,12 @@ module _ {T F : Type 0} (step : F → T → Bool → F → Type 0) (cap : ℕ) (
               (Some gone, (k == count), before, refl, λ e. absurd (cc)),
               further index first next before p refl ((λ e. absurd (cc)), (λ e. absurd (cc))) (subst (λ vs. Asked (index + 1) vs p) so.2 so.3),
             )
+        -- at the raise of the counter, and at the lock, which ask nothing
         quietly (recovers.Raises index raise) still at visits room p k so =
             raised index given.mode visits (value_of room) p (raise_after raise k) at so.0 so.1
         quietly (recovers.Locks index (locks.Counts count)) still at visits room p k so =
             locking index visits (value_of room) p (lock_after c.capacity (locks.Counts count) k) at.1 so.0 so.1
+        -- at the exchange that locks: it locks, or the lock counts again
         quietly (recovers.Locks index (locks.ExchangesCounter counter)) still at visits room p k so =
             let found = so.0.0 in
             let hid = so.0.1 in
@@ -258,7 +284,8 @@ module _ {T F : Type 0} (step : F → T → Bool → F → Type 0) (cap : ℕ) (
         quietly recovers.LoadsCounterAgain still at visits room p k so = so
         quietly (recovers.AddsChange state) still at visits room p k so = so
 
-      -- an answer
+      -- An answer of the closure adds one question to the visits, and the recovery goes on with the
+      -- closure at q: to free the index after a yes, past it after a no.
       pub answered : (index count : ℕ) (visits : Visits) (value : T) (answer : Bool) (p q : F) → shut ≡ false → (index < cap) × (is_even count ≡ false)
           → step p value answer q → SoFar (recovers.Asks index count) visits value p
           → Onward (recover_takes size c (recovers.Asks index count) given (if answer then 1 else 0)) visits value q

@@ -1,4 +1,5 @@
--- What the closures of a recovery were called with so far.
+-- What the two closures of a recovery of a robust set were called with at each stage (`SoFar`), and
+-- that each step and answer keeps it.
 use mathlib.Core.List.{map-append}
 use Rattle.lock_free_owners.proofs.Names.{◌≡◌, ℕ, ◌+◌, ◌<◌, ◌≤◌, ◌==◌, nat_lt, Bool, true, false, List, [], ◌∷◌, ◌++◌}
 use Rattle.lock_free_owners.proofs.Names.{map, filter, append-nil, refl, sym, ap, ◌∙◌, subst, arith, All}
@@ -30,56 +31,70 @@ IsOpenAt cap shut (recovers.Asks index owner) = (shut ≡ false) × (index < cap
 IsOpenAt cap shut (recovers.EmptiesCell index owner) = (shut ≡ false) × (index < cap)
 IsOpenAt cap shut stage = Unit {0}
 
+-- what the history says of a recovery at its stage: its visits, and that it asks only if the set was
+-- not locked at first
 abbrev pub Knows : ℕ → ReleaseMode → Bool → RecoverStage → List Visit → Type 0
 Knows cap mode shut stage visits = IsOpenAt cap shut stage × VisitsAt cap mode stage visits
 
+-- The index with its owner.
 abbrev owned : ℕ → ℕ → Owned
 owned owner index = record { owner = owner; index = index }
 
+-- The question about the index of the owner, with its answer.
 abbrev said : ℕ → ℕ → Bool → Asked
 said owner index answer = record { of = owned owner index; yes = answer }
 
 -- ---- what the closures were called with, where one visit is the last
 
+-- The question of a last visit comes behind those of the visits before.
 questions_last : (visits : List Visit) (v : Visit) → questions_of (visits ++ v ∷ []) ≡ questions_of visits ++ question_at v ∷ []
 questions_last visits v = map-append question_at visits (v ∷ [])
 
+-- The index that a last visit freed comes behind those of the visits before.
 freed_last : (visits : List Visit) (v : Visit) → freed_of (visits ++ v ∷ []) ≡ freed_of visits ++ freed_of (v ∷ [])
 freed_last visits v = grind (arith, map, owned_at, filter-append, was_freed, map-append, filter)
 
+-- A last visit that freed nothing adds no freed index.
 not_freed : (visits : List Visit) (v : Visit) → freed_of (v ∷ []) ≡ [] → freed_of (visits ++ v ∷ []) ≡ freed_of visits
 not_freed visits v is = freed_last visits v ∙ (ap (λ os. freed_of visits ++ os) is ∙ append-nil (freed_of visits))
 
 module _ {mode : ReleaseMode} {index owner : ℕ} {came : Came} {visits : List Visit} (h : HasCome mode index came owner visits) (next : Came) where
+  -- Coming further at the last visit changes this visit only.
   to_last : came_to next visits ≡ h.before ++ visit index owner next ∷ []
   to_last = ap (came_to next) h.is ∙ came_last h.before index owner came next
 
+  -- So the questions are those before, and that of the changed visit.
   questions_to : questions_of (came_to next visits) ≡ questions_of h.before ++ question_at (visit index owner next) ∷ []
   questions_to = ap questions_of to_last ∙ questions_last h.before (visit index owner next)
 
+  -- So the freed indices are those before, and that of the changed visit.
   freed_to : freed_of (came_to next visits) ≡ freed_of h.before ++ freed_of (visit index owner next ∷ [])
   freed_to = ap freed_of to_last ∙ freed_last h.before (visit index owner next)
 
 module _ {F S : Type 0} (step : F → ℕ → ℕ → Bool → F → Type 0) (tell : S → ℕ → ℕ → S → Type 0) (cap : ℕ) (shut : Bool) (f : F) (s : S) where
-  -- the calls that led to p and q, at indices below these
+  -- `Calls`, `Visits` and `SoFar` are the relations of this recovery, whose closures began as f and s:
+  -- which calls led them to p and q
   abbrev Calls : List Asked → List Owned → ℕ → ℕ → F → S → Type 0
   Calls = recovering.Calls step tell cap f s
 
-  -- at these visits
+  -- the calls at these visits led the closures to p and q
   abbrev Visits : List Visit → ℕ → ℕ → F → S → Type 0
   Visits = recovering.Visits step tell cap f s
 
+  -- what the closures were called with at this stage
   abbrev pub SoFar : RecoverStage → List Visit → F → S → Type 0
   SoFar = recovering.SoFar step tell cap f s
 
-  -- at the end
+  -- At the end of a recovery: the calls at all its visits led the closures to p and q.
   abbrev pub Visited : List Visit → F → S → Type 0
   Visited visits p q = (low : ℕ) × (high : ℕ) × Visits visits low high p q
 
+  -- what the closures were called with where the recovery goes on; once it has ended, at all its visits
   abbrev pub Onward : After Recover ReleaseState → List Visit → F → S → Type 0
   Onward (GoOn d) visits p q = SoFar d.stage visits p q
   Onward (Done state) visits p q = Visited visits p q
 
+  -- Without visits the closures are f and s.
   none : Visits [] 0 0 f s
   none = grind arith
 
@@ -87,20 +102,23 @@ module _ {F S : Type 0} (step : F → ℕ → ℕ → Bool → F → Type 0) (te
   at_none : (visits : List Visit) (p : F) (q : S) → visits ≡ [] → (p ≡ f) × (q ≡ s) → Visits visits 0 0 p q
   at_none visits p q visits_are_empty both = grind (arith, none)
 
+  -- Calls below some indices are below higher ones.
   widen : (asked : List Asked) (told : List Owned) (low high above over : ℕ) (p : F) (q : S) → low ≤ above → high ≤ over → Calls asked told low high p q
       → Calls asked told above over p q
   widen asked told low high above over p q low_up_to_above high_up_to_over calls = grind arith
 
+  -- Calls at visits below some indices are below higher ones.
   wide : (visits : List Visit) (low high above over : ℕ) (p : F) (q : S) → low ≤ above → high ≤ over → Visits visits low high p q
       → Visits visits above over p q
   wide visits low high above over p q up over_it h = widen (questions_of visits) (freed_of visits) low high above over p q up over_it h
 
-  -- by other lists that are the same
+  -- `Calls` holds of equal lists of questions and of freed indices too.
   as_lists : (asked other : List Asked) (told more : List Owned) (low high : ℕ) (p : F) (q : S) → asked ≡ other → told ≡ more → Calls asked told low high p q
       → Calls other more low high p q
   as_lists asked other told more low high p q asked_is_other told_is_more calls = grind arith
 
-  -- one question more
+  -- One more question about an owned index, with its answer, leads the first closure from p to p'. The
+  -- second closure is not called.
   asks_more : (asked : List Asked) (told : List Owned) (index owner : ℕ) (answer : Bool) (p p' : F) (q : S) → owner < empty → index < cap
       → step p owner index answer p' → Calls asked told index index p q → Calls (asked ++ said owner index answer ∷ []) told (index + 1) index p' q
   asks_more asked told index owner answer p p' q named within hit h =
@@ -118,10 +136,11 @@ module _ {F S : Type 0} (step : F → ℕ → ℕ → Bool → F → Type 0) (te
         told_below = h.told_below;
       }
 
-  -- one index more that is told of
+  -- One more index that the second closure is told of leads it from q to q'. The first closure is not called.
   tells_more : (asked : List Asked) (told : List Owned) (index owner : ℕ) (p : F) (q q' : S) → owner < empty → index < cap → tell q owner index q'
       → Calls asked told (index + 1) index p q → Calls asked (told ++ owned owner index ∷ []) (index + 1) (index + 1) p q'
   tells_more asked told index owner p q q' named within hit h =
+      -- The index is above all that the second closure was told of before.
       let o : Owned = owned owner index in
       record {
         questions = h.questions;
@@ -136,20 +155,24 @@ module _ {F S : Type 0} (step : F → ℕ → ℕ → Bool → F → Type 0) (te
             (All-weaker (λ (x : Owned). x.index < index) (λ (x : Owned). x.index < index + 1) (λ x l. omega arith) told h.told_below) (omega arith);
       }
 
+  -- A recovery that comes to an index, or behind the last one, has called its closures at lower indices only.
   comes : (c : Recover) (index : ℕ) (visits : List Visit) (p : F) (q : S) → Visits visits index index p q → Onward (recover_comes_to c index) visits p q
   comes c index visits p q visits_holds = grind (arith, by_test, at_recover, nat_lt)
 
   -- ---- what each stage leaves
 
+  -- A step of a raise of the counter calls no closure.
   raised : (c : Recover) (index : ℕ) (mode : ReleaseMode) (visits : List Visit) (p : F) (q : S) (a : After raises.Raise ReleaseState)
       → Visits visits (index + 1) (index + 1) p q → Onward (recover_raised c index mode a) visits p q
   raised c index mode visits p q a visits_holds = grind (arith, comes)
 
+  -- A step of the lock calls no closure.
   locking : (c : Recover) (index : ℕ) (visits : List Visit) (p : F) (q : S) (a : After Lock ReleaseState)
       → Visits visits (index + 1) (index + 1) p q → Onward (recover_locked c index a) visits p q
   locking c index visits p q a visits_holds = grind (arith, comes)
 
   module _ (c : Recover) (mode : ReleaseMode) (visits : List Visit) where
+    -- A step that calls no closure leaves both as they were.
     quietly : (stage : RecoverStage) (k : ℕ) → c.stage ≡ stage → (p p' : F) (q q' : S) (a : After Recover ReleaseState)
         → Onward (recover_takes c stage mode k) (visits_taken stage visits k) p q → GoesQuietly c mode k p q a p' q'
         → Onward a (visits_taken stage visits k) p' q'
@@ -182,6 +205,7 @@ module _ {F S : Type 0} (step : F → ℕ → ℕ → Bool → F → Type 0) (te
         (visits_taken (recovers.EmptiesCell index owner) visits k) p q'
     emptied index owner k p q q' named within at h = go (k == owner) refl
       where
+        -- the cases are whether the exchange found the owner in the cell
         fails : Onward (recover_comes_to c (index + 1)) (came_to WasTold visits) p q
         fails = comes c (index + 1) (came_to WasTold visits) p q
             (wide (came_to WasTold visits) (index + 1) index (index + 1) (index + 1) p q (omega arith) (omega arith) h)
@@ -194,6 +218,7 @@ module _ {F S : Type 0} (step : F → ℕ → ℕ → Bool → F → Type 0) (te
             (ap (λ os. os ++ owned owner index ∷ []) (freed_to at WasTold ∙ append-nil (freed_of at.before)) ∙ sym (freed_to at HasFreed))
             (tells_more _ _ index owner p q q' named within hit h)
 
+        -- Coming to the next cell frees no index.
         no_cell : has_freed (recover_comes_to c (index + 1)) ≡ false
         no_cell = by_test (λ stage. has_freed (GoOn (at_recover c stage)) ≡ false) (nat_lt (index + 1) c.capacity) (recovers.LoadsCell (index + 1))
             recovers.LoadsCounterAgain (λ t. refl) (λ t. refl)
@@ -219,8 +244,8 @@ module _ {F S : Type 0} (step : F → ℕ → ℕ → Bool → F → Type 0) (te
         (ap freed_of at.1.is ∙ (freed_last at.1.before (visit index at.0 HasFreed) ∙ sym (freed_to at.1 HasLocked))) h)
         (λ t. h)
 
-    -- at each of its stages a step, or an answer, leaves what the closures were called with as it
-    -- should
+    -- at each of its stages a step or an answer leaves the closures called as the next stage says; the
+    -- cases are the stages
     by_stage : (stage : RecoverStage) (k : ℕ) → c.stage ≡ stage → Knows cap mode shut stage visits → (p p' : F) (q q' : S)
         (a : After Recover ReleaseState) → SoFar stage visits p q → RecoverMoves step tell c mode stage k p q a p' q'
         → Onward a (visits_taken stage visits k) p' q'
@@ -252,6 +277,8 @@ module _ {F S : Type 0} (step : F → ℕ → ℕ → Bool → F → Type 0) (te
     by_stage recovers.LoadsCounterAgain k is at p p' q q' a so m =
         quietly recovers.LoadsCounterAgain k is p p' q q' a (so.0, so.0, so.1) m
 
+    -- A step or an answer at the recovery's stage leaves the closures called as its next
+    -- stage, or its end, says.
     pub onward : (k : ℕ) → Knows cap mode shut c.stage visits → (p p' : F) (q q' : S) (a : After Recover ReleaseState) → SoFar c.stage visits p q
         → RecoverMoves step tell c mode c.stage k p q a p' q' → Onward a (visits_after c visits k) p' q'
     onward k at = by_stage c.stage k refl at
@@ -275,10 +302,13 @@ module _ {F S : Type 0} (step : F → ℕ → ℕ → Bool → F → Type 0) (te
 
   -- ---- the first steps, which leave the closures, and may leave the call
 
+  -- What the closures were called with stays where the stage stays.
   stays : (call : Recover) (visits : List Visit) (p : F) (q : S) (after : After Recover ReleaseState) → after ≡ GoOn call → SoFar call.stage visits p q
       → Onward after visits p q
   stays call visits p q after is so = subst (λ a. Onward a visits p q) (sym is) so
 
+  -- A load of the counter behind the last cell calls no closure. At any other stage the recovery stays
+  -- as it is.
   pub looks_on : (call : Recover) (mode : ReleaseMode) (visits : List Visit) (p : F) (q : S) (after : After Recover ReleaseState)
       (stage : RecoverStage) → call.stage ≡ stage → LooksAgain call mode stage after → SoFar call.stage visits p q → Onward after visits p q
   looks_on call mode visits p q after stage same_stage looks_again so_far = grind (arith, stays, recover_takes)
@@ -291,10 +321,12 @@ module _ {F S : Type 0} (step : F → ℕ → ℕ → Bool → F → Type 0) (te
 
 -- ---- the closures at an equal capacity
 
+-- A closure that may be asked about indices below a number may be so below an equal number.
 pub questions_at : {F : Type 0} {pre : F → ℕ → ℕ → Type 0} {step : F → ℕ → ℕ → Bool → F → Type 0} {a b : ℕ} {f : F}
     → a ≡ b → TakesQuestions pre step a f → TakesQuestions pre step b f
 questions_at {F} {pre} {step} {a} {b} {f} e h = subst (λ z. TakesQuestions pre step z f) e h
 
+-- A closure that may be told of indices below a number may be so below an equal number.
 pub freed_at : {F S : Type 0} {step : F → ℕ → ℕ → Bool → F → Type 0} {pre : S → ℕ → ℕ → Type 0}
     {tell : S → ℕ → ℕ → S → Type 0} {a b : ℕ} {f : F} {s : S}
     → a ≡ b → TakesFreed step pre tell a f s → TakesFreed step pre tell b f s

@@ -1,7 +1,7 @@
-//! The calls on a container by a pass, but those of states. No contract says that an index taken is the lowest. At the
-//! end of the generation counter nothing is added and nothing locks any more. An add that meets the lock after it has
-//! given the index its owner leaves it that owner and places no value; what an earlier owner's remove has not hidden
-//! yet stands there still.
+//! The calls on a container by a pass, but those of states. No contract says that an index taken is the
+//! lowest. At the end of the generation counter nothing is added and nothing locks any more. An add that
+//! meets the lock after it has given an index its owner leaves the index that owner and places no value. A
+//! value that an earlier owner's remove has not hidden yet then still stands at the index.
 ghost use Rattle.std.specs.Prelude.{◌≡◌, ◌+◌, true, Err, IfOk, IfErr, OnOk};
 ghost use Rattle.steps.specs.declared.container.enums.ContainerAddFailure.TheVariants.{IsLocked as Locked};
 ghost use Rattle.model.specs.Families.Indices.Reading.{is_locked};
@@ -147,8 +147,8 @@ impl<T: Words> Container<T> {
         count_all::<T, HowMany>(&mut pass.token.seated, rt, pass.token.capacity)
     }
 
-    /// Returns whether `len` is 0: so where the pass has seen the lock. As many atomic steps. After `is_empty` of the
-    /// Rust crate.
+    /// Returns whether `len` is 0, which it is where the pass has seen the lock. As many atomic steps as
+    /// `len`. After `is_empty` of the Rust crate.
     pub fn is_empty(&self, rt: &impl Wait, pass: &mut Pass<T>) -> bool
         requires { IsPassOf self.now pass.old }
         ensures same { KeepsPass pass.old pass.new }

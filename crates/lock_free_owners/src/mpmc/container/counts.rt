@@ -1,4 +1,5 @@
-//! The count of the indices of a container that have owners, at a seat. The loads of cells have a loop of their own.
+//! The calls `len` and `is_empty` of a container, at a seat: both count the indices that have owners. The
+//! steps that load cells have a loop of their own (`count_cells`).
 ghost use Rattle.std.specs.Prelude.{◌≡◌, ℕ};
 ghost use Rattle.steps.specs.Indices.Robust.Looks.{first_borrowed, borrowed_after};
 ghost use Rattle.steps.specs.declared.indices.robust.parts.Count.TheVariants as stages;
@@ -15,7 +16,7 @@ use steps::indices::robust::parts::Count;
 use steps::routine::Routine;
 use steps::words::Words;
 
-/// Takes one step of the call.
+/// Takes one step of the count.
 #[inline(always)]
 fn step_count<T: Words, W: Counting>(
     seat: &mut Seat<T>,
@@ -30,7 +31,8 @@ fn step_count<T: Words, W: Counting>(
     seat.step::<BorrowedIndices, Counts<W>>(call, &(), &mut ())
 }
 
-/// Takes the steps of the call that load cells, from this one on. Their loop keeps no more than their stage does.
+/// Takes the steps of the count that load cells, from the cell `first` on. It returns where the call has
+/// ended or has come to another stage. The loop carries the index and the number of cells with an owner.
 #[inline(always)]
 fn count_cells<T: Words, W: Counting>(
     seat: &mut Seat<T>,
@@ -73,7 +75,7 @@ fn count_cells<T: Words, W: Counting>(
     }
 }
 
-/// Takes steps of the call.
+/// Takes all further steps over cells if the count stands at a cell, else one step.
 #[inline(always)]
 fn count_next<T: Words, W: Counting>(
     seat: &mut Seat<T>,
@@ -95,7 +97,7 @@ fn count_next<T: Words, W: Counting>(
     }
 }
 
-/// Takes all steps of the call.
+/// Takes all steps of the count, from its first one on.
 #[inline(always)]
 pub(crate) fn count_all<T: Words, W: Counting>(
     seat: &mut Seat<T>,
@@ -107,7 +109,8 @@ pub(crate) fn count_all<T: Words, W: Counting>(
     ensures stays { StaysAtBoard T.WORDS seat.old seat.new }
     ensures ends { CountEnds (coding_by T.Words) W.which (seen seat.old) result tt (seen seat.new) }
 {
-    // The first turns stand by themselves, so that a compiler sees at each of them the call's stage.
+    // The first step and the first cells stand before the loop, so that a compiler sees the
+    // call's stage there.
     let first = step_count::<T, W>(seat, BorrowedIndices::new(capacity));
     let call = match first {
         After::GoOn(next) => next,

@@ -1,4 +1,5 @@
-//! What the calls and the looks say of the views at their steps. These types are for the proofs alone.
+//! A type for each call and look of a container. It says what the seat's view knows while the call is under
+//! way and once it has ended. These types are for the proofs alone.
 ghost use Rattle.std.specs.Prelude.{[]};
 ghost use Rattle.model.specs.Coding.{coding_by};
 ghost use Rattle.model.specs.declared.turn.Kind.TheVariants as kinds;
@@ -57,14 +58,14 @@ impl<T: Words> Drives<View<T>, Replace<T>> for Replaces {
     ghost ends = { ReplaceEnds (coding_by T.Words) };
 }
 
-/// What a count is for.
+/// A type for each question that a count answers.
 pub trait Counting {
     ghost use Rattle.model.specs.declared.families.container.calls.CountOf.{CountOf};
 
     ghost which: { CountOf };
 }
 
-/// How many there are.
+/// The question of `len`: how many indices have an owner.
 pub struct HowMany;
 
 impl Counting for HowMany {
@@ -73,7 +74,7 @@ impl Counting for HowMany {
     ghost which = { Len };
 }
 
-/// Whether there are none.
+/// The question of `is_empty`: whether no index has an owner.
 pub struct WhetherNone;
 
 impl Counting for WhetherNone {
@@ -106,7 +107,8 @@ impl<T: Words> Drives<View<T>, IsLocked> for LooksLocked {
     ghost ends = { λ given. LockEnds (coding_by T.Words) };
 }
 
-/// As which call a look begins, from which view, and with what its state shows. Its caller picks it.
+/// How a look begins: as which call of the history, from which view, and with what its state shows. The
+/// caller of the look picks it.
 pub trait Beginning<T> {
     ghost use Rattle.model.specs.declared.families.container.calls.LookOf.{LookOf};
     ghost use Rattle.steps.specs.Container.State.{Showing};
@@ -130,8 +132,8 @@ impl<T> Beginning<T> for Brand {
     ghost shown = { record { change = 0; elements = []; copy = [] } };
 }
 
-/// Bringing a state up to date. Of a new one, or the one that the pass has, it is a call of the history. Any other is its
-/// user's alone, and then it leaves what is known.
+/// Bringing a state up to date. Of a new state, or the one that the pass has, this is a call of the history.
+/// Of any other state it changes nothing that the pass knows.
 pub struct Looks<B> {
     of: PhantomData<B>,
 }
@@ -144,7 +146,7 @@ impl<T: Words, B: Beginning<T>> Drives<View<T>, Look<T>> for Looks<B> {
     ghost ends = { λ given base. LookOver (coding_by T.Words) B.which B.from B.shown given };
 }
 
-/// The same, once a change was found.
+/// Bringing a state up to date, once a change was found.
 pub struct LooksOn<B> {
     of: PhantomData<B>,
 }
@@ -157,7 +159,7 @@ impl<T: Words, B: Beginning<T>> Drives<View<T>, Look<T>> for LooksOn<B> {
     ghost ends = { λ given base. LookOnOver (coding_by T.Words) B.which B.from B.shown given };
 }
 
-/// The end of a call that rests, or a load that leaves what is known.
+/// The load that ends the pass's last call if it rests. If none rests, the pass knows what it knew.
 pub struct Settle;
 
 impl<T: Words> Tells<View<T>> for Settle {

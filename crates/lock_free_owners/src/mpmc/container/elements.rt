@@ -1,5 +1,5 @@
-//! The loops of a look that has found a change. One goes over the elements, one over those that it does not copy, one over
-//! the words of one that it copies.
+//! The loops of a look (`get_state`, `update_state`) that has found a change. One goes over the elements, one
+//! over elements that it does not copy, and one over the words of an element that it copies.
 ghost use Rattle.std.specs.Prelude.{◌≡◌, ℕ};
 ghost use Rattle.steps.specs.Container.Look.{look_after};
 ghost use Rattle.model.specs.Coding.{coding_by};
@@ -16,7 +16,7 @@ use steps::container::look::{Look, LookStage};
 use steps::container::state::{Seen, Shown};
 use steps::words::Words;
 
-/// Takes one step of the call on the table.
+/// Takes one step of the look on the words of the table.
 #[inline(always)]
 fn step_on<T: Words, B: Beginning<T>>(
     seat: &mut Seat<T>,
@@ -35,8 +35,8 @@ fn step_on<T: Words, B: Beginning<T>>(
     seat.step::<Look<T>, LooksOn<B>>(call, given, room)
 }
 
-/// Takes the steps of a call from this element on, up to one that it copies or to the end. The loop keeps the index
-/// alone.
+/// Takes the steps over elements that the look does not copy, from the element `first` on. It returns at an
+/// element to copy, or at the end. The loop carries only the index.
 #[inline(always)]
 fn pass_over<T: Words, B: Beginning<T>>(
     seat: &mut Seat<T>,
@@ -66,7 +66,8 @@ fn pass_over<T: Words, B: Beginning<T>>(
     }
 }
 
-/// Takes the steps of a call that copies the words of an element from this one on. The loop keeps the place alone.
+/// Takes the steps that copy the words of one element, from the word `first` on. It returns where the look
+/// has come to another stage, or has ended. The loop carries only the place of the word.
 #[inline(always)]
 fn copy_words<T: Words, B: Beginning<T>>(
     seat: &mut Seat<T>,
@@ -98,9 +99,8 @@ fn copy_words<T: Words, B: Beginning<T>>(
     }
 }
 
-/// Takes the steps of a call from this element on, up to the end. It returns also where an element has to be copied
-/// again. The loop keeps the index and the capacity alone. It ends by itself, so that it takes no turn of `rt` between two
-/// elements.
+/// Takes the steps of the look over all elements from `first` on. It returns at the end of the look, or where
+/// an element has to be copied again. The index rises in each iteration, so the loop ends without `rt`.
 fn copy_over<T: Words, B: Beginning<T>>(
     seat: &mut Seat<T>,
     capacity: u32,
@@ -135,7 +135,7 @@ fn copy_over<T: Words, B: Beginning<T>>(
         };
         match call.stage {
             LookStage::LoadsCount { index: further } => {
-                // (The index has grown. That the loop ends is proved by this test.)
+                // The index has always grown here; the test is what proves that the loop ends.
                 if further <= index {
                     return After::GoOn(call);
                 }
@@ -147,7 +147,8 @@ fn copy_over<T: Words, B: Beginning<T>>(
     }
 }
 
-/// Takes the steps of a call that has come to an element, and leaves any other call.
+/// Takes the steps over elements if the look stands at the number of an element. At any other stage it
+/// returns the look unchanged.
 #[inline(always)]
 fn pass_first<T: Words, B: Beginning<T>>(
     seat: &mut Seat<T>,
@@ -174,7 +175,8 @@ fn pass_first<T: Words, B: Beginning<T>>(
     }
 }
 
-/// Takes the steps of a call that copies words, and leaves any other call.
+/// Takes the steps that copy words if the look stands at a word. At any other stage it
+/// returns the look unchanged.
 #[inline(always)]
 fn copy_first<T: Words, B: Beginning<T>>(
     seat: &mut Seat<T>,
@@ -197,7 +199,7 @@ fn copy_first<T: Words, B: Beginning<T>>(
     }
 }
 
-/// Takes the other steps of a look that has found a change.
+/// Takes all further steps of a look once it has found a change.
 pub(crate) fn look_on<T: Words, B: Beginning<T>>(
     seat: &mut Seat<T>,
     rt: &impl Wait,
@@ -233,7 +235,7 @@ pub(crate) fn look_on<T: Words, B: Beginning<T>>(
     unreachable!()
 }
 
-/// A look at this stage.
+/// Returns a look that stands at this stage.
 #[inline(always)]
 fn at_stage<T: Words>(capacity: u32, stage: LookStage) -> Look<T>
     ensures { result ≡ record { capacity = capacity; stage = stage; of = record {} } }

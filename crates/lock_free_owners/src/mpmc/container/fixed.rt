@@ -10,7 +10,7 @@ use std::ops::Deref;
 use steps::enums::UniqueIndexCreationError;
 use steps::words::Words;
 
-/// The calls are those of the container that it has.
+/// The calls of a container whose type names its capacity are those of the container that it has.
 impl<T: Words, const CAPACITY: usize> Deref for FixedSizeContainer<T, CAPACITY> {
     ghost use Rattle.lock_free_owners.specs.Container.Names.{container_in};
 

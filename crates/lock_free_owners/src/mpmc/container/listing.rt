@@ -28,8 +28,9 @@ impl<'a, T: Words> Model for StateEntries<'a, T> {
     ghost view = { λ it. entries_from it.state.now it.index };
 }
 
-/// Returns an iterator over the values that a state shows, each with its index, ascending. `for_each` calls its closure
-/// with the same, unless the state has elements past its capacity: `new` makes none there, and no call adds any.
+/// Returns an iterator over the values that a state shows, each with its index, ascending. `for_each` calls
+/// its closure with the same values, unless the state has elements past its capacity; `new` makes none past
+/// it, and no call adds any.
 ///
 /// It looks at each index below the capacity once. No atomic step, and no memory. This project's own.
 #[inline(always)]

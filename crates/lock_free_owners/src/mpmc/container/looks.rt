@@ -24,7 +24,8 @@ use steps::ask::After;
 use steps::container::look::Look;
 use steps::words::Words;
 
-/// Takes all steps of a look of the state. As which call it begins is picked where it is called.
+/// Takes all steps of a look that brings the state up to date, and returns whether it found a change. The
+/// caller picks by B as which call of the history it begins.
 #[inline(always)]
 fn bring_up<T: Words, B: Beginning<T>>(
     seat: &mut Seat<T>,
@@ -77,9 +78,9 @@ impl<T: Words> Container<T> {
         Ok(state)
     }
 
-    /// Brings a state of this container up to date, and returns whether a change was counted since the look before.
-    /// True if since it began, even to the same value; false, and the state stays, if none since it ended. The count
-    /// wraps at 2^64: a full round reads as none.
+    /// Brings a state of this container up to date, and returns whether a change was counted since the look
+    /// before. True if one was counted since that look began, even to the same value. False, and the state
+    /// stays, if none was since it ended. The count wraps at 2^64.
     ///
     /// No memory. Of the pass's state alone at most 1 and for each index 2 + `T::WORDS` steps; a false takes 1 (tests).
     /// After `update_state` of the Rust crate.

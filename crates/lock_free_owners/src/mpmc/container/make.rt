@@ -1,4 +1,4 @@
-//! How a container is made.
+//! How a container is made, with its first pass.
 ghost use Rattle.std.specs.Prelude.{◌≡◌, ◌⊎◌, ◌<◌, None, Some, IfOk, IfErr, OnOk};
 ghost use Rattle.steps.specs.declared.enums.UniqueIndexCreationError.TheVariants.{NoMemory};
 ghost use Rattle.history.specs.Views.{first_view};
@@ -15,7 +15,7 @@ use steps::indices::robust::parts::{EMPTY, FIRST_CELL};
 use steps::words::Words;
 use threaded::driver::seated::Seated;
 
-/// A container without a value, and its first pass.
+/// Makes a container without a value, and its first pass.
 fn open<T: Words>(
     alloc: Global,
     capacity: u32,

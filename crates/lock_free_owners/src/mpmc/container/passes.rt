@@ -1,4 +1,4 @@
-//! How passes are made of one another.
+//! How a pass of a container is split off another one, or joined to it.
 ghost use Rattle.std.specs.Prelude.{◌≡◌, None, IfSome, IfNone};
 ghost use Rattle.history.specs.ContainerLooks.{KeepsState};
 ghost use Rattle.model.specs.declared.turn.Kind.TheVariants as kinds;
@@ -47,9 +47,10 @@ impl<T: Words> Pass<T> {
         })
     }
 
-    /// Takes in what the other pass of the container has made and has seen, with its share and steps. At most three steps:
-    /// the first is a load by the other one, with which its last call ends if it rests. The state that this one has stays
-    /// its; the other's is no longer a pass's. This project's own.
+    /// Takes in what the other pass of the container has made and has seen, with its share and steps.
+    /// At most three steps. The first is a load by the other pass; if the last call of that pass rests,
+    /// it ends with this load. This pass keeps the state that it has; the other's state is then no
+    /// pass's. This project's own.
     pub fn join(&mut self, other: Pass<T>)
         requires { container_of other ≡ container_of self.old }
         ensures same { PassJoins self.old other self.new }

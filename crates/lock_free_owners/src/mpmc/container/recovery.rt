@@ -1,7 +1,8 @@
-//! Frees the indices of an owner whom the caller takes for dead. It asks nothing of a container that is locked at
-//! first, and ends if it meets the lock. In mode `LockIfLastIndex` it locks the container if no index
-//! has an owner after a free. The value that it asks about can be of another owner, who lives: if another call freed the
-//! index meanwhile, or a remove freed it and has not hidden its value yet (docs/MISTAKES.md).
+//! The recovery of a container: it frees the indices of an owner whom the caller takes for dead. It asks
+//! nothing of a container that is locked at first, and ends if it meets the lock. In mode
+//! `LockIfLastIndex` it locks the container if no index has an owner after a free. The value that it asks
+//! about can be another owner's, who lives: if another call freed the index, or a remove has not hidden
+//! its value yet (docs/MISTAKES.md).
 ghost use Rattle.std.specs.Prelude.{◌≡◌, ◌+◌, ◌<◌, ℕ, false, []};
 ghost use Rattle.steps.specs.Container.Recover.{first_recover};
 ghost use Rattle.steps.specs.Copied.{value_in};
@@ -36,7 +37,7 @@ use steps::routine::Routine;
 use steps::words::Words;
 use threaded::driver::rule::Tells;
 
-/// Takes one step of the call on the table.
+/// Takes one step of the recovery on the words of the table.
 #[inline(always)]
 fn step_recover<T: Words>(
     seat: &mut Seat<T>,
@@ -53,8 +54,8 @@ fn step_recover<T: Words>(
     seat.step_telling::<Brand, Recover<T, Copied>>(call, &given, room)
 }
 
-/// Loads a cell, for a call that has come to it. What that tells is picked where it is called. The parameters with `_`
-/// are there for the proof alone.
+/// Loads the cell of an index. The caller picks by M what the load tells. The parameters with `_`
+/// are for the proof alone.
 #[inline(always)]
 fn load_for<T: Words, M: Tells<View<T>>>(
     seat: &mut Seat<T>,
@@ -74,8 +75,8 @@ fn load_for<T: Words, M: Tells<View<T>>>(
     seat.look::<M>(FIRST_CELL + cell)
 }
 
-/// Takes the step of a call that has come to this cell, but for what the call makes of it. An index is a `usize` here,
-/// so that no turn of a loop has to widen it.
+/// Takes the step of a recovery that stands at this cell, and returns the cell's word. The caller changes the
+/// stage. The index is a `usize`, so that no iteration of a loop has to widen it.
 #[inline(always)]
 fn load_cell<T: Words>(
     seat: &mut Seat<T>,
@@ -95,8 +96,8 @@ fn load_cell<T: Words>(
     load_for::<T, Brand>(seat, capacity, cell, given, room)
 }
 
-/// Takes the steps of a call from this cell on, up to one of the owner or past the last. The loop keeps the index alone,
-/// and makes a call of it where it ends.
+/// Takes the steps of a recovery over cells that are not the owner's, from the cell `first` on. The loop
+/// carries only the index; a `Recover` is made where it ends.
 #[inline(always)]
 fn pass_over<T: Words>(
     seat: &mut Seat<T>,
@@ -128,7 +129,8 @@ fn pass_over<T: Words>(
     }
 }
 
-/// Takes the steps of a call over cells that are not the owner's, if it has come to a cell.
+/// Takes the steps over cells that are not the owner's if the recovery stands at a cell. At any other stage
+/// it returns the recovery unchanged.
 #[inline(always)]
 fn pass_others<T: Words>(
     seat: &mut Seat<T>,
@@ -150,7 +152,7 @@ fn pass_others<T: Words>(
     }
 }
 
-/// A recovery at this stage.
+/// Returns a recovery that stands at this stage.
 #[inline(always)]
 fn at_stage<T: Words>(capacity: u32, stage: RecoverStage) -> Recover<T, Copied>
     ensures { result ≡ record { capacity = capacity; stage = stage; of = record {} } }
@@ -162,7 +164,8 @@ fn at_stage<T: Words>(capacity: u32, stage: RecoverStage) -> Recover<T, Copied>
     }
 }
 
-/// Takes one step of the call, or asks the closure about the value that it has copied.
+/// Takes one step of the recovery, or asks the closure about the copied value where it
+/// stands at its question.
 #[inline(always)]
 fn recover_next<T: Words, F: FnMut(T) -> bool>(
     seat: &mut Seat<T>,
@@ -208,7 +211,8 @@ fn ask<T: Words, F: FnMut(T) -> bool>(predicate: &mut F, value: T) -> bool
     predicate(value)
 }
 
-/// Frees the indices that the closure says yes to.
+/// Takes all steps of the recovery. It frees the indices of the owner that the closure says yes to, and those
+/// without a value.
 fn free_all<T: Words, F: FnMut(T) -> bool>(
     seat: &mut Seat<T>,
     rt: &impl Wait,

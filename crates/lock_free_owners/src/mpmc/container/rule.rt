@@ -1,4 +1,4 @@
-//! The rule of a container's table: it is a machine of its kind, and one word more.
+//! The rule of a container's table. Its words are those of the machine, and one word more behind them.
 ghost use Rattle.model.specs.Coding.{coding_by};
 ghost use Rattle.model.specs.declared.turn.Kind.TheVariants as kinds;
 
@@ -9,7 +9,8 @@ use steps::words::Words;
 use threaded::driver::rule::Rule;
 use threaded::driver::seated::Seated;
 
-/// The rule, for the capacity that is the key.
+/// The rule of a container's table, whose key is the capacity. Its views are those of one
+/// history of the machine.
 pub struct ContainerRule<T> {
     of: PhantomData<T>,
 }

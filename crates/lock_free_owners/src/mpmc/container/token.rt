@@ -15,8 +15,8 @@ use history::view::View;
 use steps::words::Words;
 use threaded::driver::seated::Seated;
 
-/// A seat with no call under way, but for a find that rests. That one was ended by an answer to its question. Its rule
-/// is a parameter: only so can its size be told by `T::WORDS`.
+/// A seat at a container's table, with no call under way, unless a find rests. An answer to its question has
+/// ended that find. The rule Q is a parameter, since else `sized` could not name `T::WORDS`.
 #[derive(Drop)]
 pub struct Held<T: Words, Q: TableRule<(), View<T>, u64>> {
     pub seated: Seated<View<T>, u64, Q>,

@@ -1,7 +1,7 @@
-//! The call that comes to the values of an owner. If an answer ends it, a `Stop` or the one at the last index, it
-//! rests: its end is an event of the history before anything else that the pass does, with the first step of its next
-//! call or of a join. Each copy is whole in a well-formed faithful history of few turns (`laws`), and of an earlier
-//! owner if his remove stopped before it hid the value.
+//! The find of a container, which visits the values of an owner. If an answer ends it, a `Stop` or the one at
+//! the last index, it rests: its end enters the history with the first step of the pass's next call or of a
+//! join, before that step. Each copy is whole in a well-formed faithful history of few turns (`laws`), and of
+//! an earlier owner if his remove stopped before it hid the value.
 ghost use Rattle.std.specs.Prelude.{◌≡◌, ◌+◌, ◌<◌, ℕ, List, []};
 ghost use Rattle.steps.specs.Container.Find.{first_find};
 ghost use Rattle.steps.specs.Copied.{value_in};
@@ -35,7 +35,7 @@ use steps::routine::Routine;
 use steps::words::Words;
 use threaded::driver::rule::Tells;
 
-/// Takes one step of the call on the table.
+/// Takes one step of the find on the words of the table.
 #[inline(always)]
 fn step_find<T: Words>(
     seat: &mut Seat<T>,
@@ -53,8 +53,8 @@ fn step_find<T: Words>(
     seat.step_telling::<Brand, Find<T, Copied>>(call, &owner, room)
 }
 
-/// Loads a cell, for a call that has come to it. What that tells is picked where it is called. The parameters with `_`
-/// are there for the proof alone.
+/// Loads the cell of an index. The caller picks by M what the load tells. The parameters with `_`
+/// are for the proof alone.
 #[inline(always)]
 fn load_for<T: Words, M: Tells<View<T>>>(
     seat: &mut Seat<T>,
@@ -75,8 +75,8 @@ fn load_for<T: Words, M: Tells<View<T>>>(
     seat.look::<M>(FIRST_CELL + cell)
 }
 
-/// Takes the step of a call that has come to this cell, but for what the call makes of it. An index is a `usize` here,
-/// so that no turn of a loop has to widen it.
+/// Takes the step of a find that stands at this cell, and returns the cell's word. The caller changes the
+/// stage. The index is a `usize`, so that no iteration of a loop has to widen it.
 #[inline(always)]
 fn load_cell<T: Words>(
     seat: &mut Seat<T>,
@@ -98,7 +98,7 @@ fn load_cell<T: Words>(
     load_for::<T, Brand>(seat, capacity, cell, found, owner, room)
 }
 
-/// A find at this stage.
+/// Returns a find that stands at this stage.
 #[inline(always)]
 fn at_stage<T: Words>(capacity: u32, stage: FindStage) -> Find<T, Copied>
     ensures { result ≡ record { capacity = capacity; stage = stage; of = record {} } }
@@ -110,8 +110,8 @@ fn at_stage<T: Words>(capacity: u32, stage: FindStage) -> Find<T, Copied>
     }
 }
 
-/// Takes the steps of a call from this cell on, up to one of the owner or past the last. The loop keeps the index
-/// alone; a `Find` is made of it only where it ends.
+/// Takes the steps of a find over cells that are not the owner's, from the cell `first` on. The loop carries
+/// only the index; a `Find` is made where it ends.
 #[inline(always)]
 fn pass_over<T: Words>(
     seat: &mut Seat<T>,
@@ -150,7 +150,8 @@ fn pass_over<T: Words>(
     }
 }
 
-/// Takes the steps of a call over cells that are not the owner's, if it has come to a cell.
+/// Takes the steps over cells that are not the owner's if the find stands at a cell. At any other stage it
+/// returns the find unchanged.
 #[inline(always)]
 fn pass_others<T: Words>(
     seat: &mut Seat<T>,
@@ -174,7 +175,7 @@ fn pass_others<T: Words>(
     }
 }
 
-/// Takes one step of the call, or asks the closure about the value that it has copied.
+/// Takes one step of the find, or calls the closure with the copied value where it stands at its question.
 #[inline(always)]
 fn find_next<T: Words, F: FnMut(T, ContainerHandle) -> CallbackProgression>(
     seat: &mut Seat<T>,
@@ -213,7 +214,7 @@ fn find_next<T: Words, F: FnMut(T, ContainerHandle) -> CallbackProgression>(
     }
 }
 
-/// Comes to the indices of the owner, and answers how many these were.
+/// Takes all steps of the find, and returns how many indices of the owner it came to.
 fn find_all<T: Words, F: FnMut(T, ContainerHandle) -> CallbackProgression>(
     seat: &mut Seat<T>,
     capacity: u32,

@@ -1,4 +1,5 @@
-//! The acquire at a seat. The exchanges of cells have a loop of their own.
+//! The acquire of a robust set, at a seat. The steps that try one cell after another have a loop of
+//! their own (`fill_cells`).
 ghost use Rattle.std.specs.Prelude.{◌≡◌, ℕ};
 ghost use Rattle.steps.specs.Indices.Robust.Acquire.{first_acquire, acquire_after};
 ghost use Rattle.steps.specs.declared.indices.robust.acquire.AcquireStage.TheVariants as stages;
@@ -16,7 +17,7 @@ use steps::routine::Routine;
 
 type Acquired = Result<u32, UniqueIndexSetAcquireFailure>;
 
-/// Takes one step of the call.
+/// Takes one step of the acquire.
 #[inline(always)]
 fn step_acquire(seat: &mut Seat, call: Acquire, owner: OwnerId) -> After<Acquire, Acquired>
     requires board { IsBoard seat.old }
@@ -28,8 +29,8 @@ fn step_acquire(seat: &mut Seat, call: Acquire, owner: OwnerId) -> After<Acquire
     seat.step::<Acquire, Takes>(call, &owner, &mut ())
 }
 
-/// Takes the steps of the call that exchange cells, from this one on, past those that have an owner. Their loop keeps the
-/// index alone.
+/// Takes the steps of the acquire that try cells, from the cell `first` on, past those that have an owner. It
+/// returns where the call has ended or has come to another stage. The loop carries only the index.
 #[inline(always)]
 fn fill_cells(
     seat: &mut Seat,
@@ -67,7 +68,7 @@ fn fill_cells(
     }
 }
 
-/// Takes steps of the call.
+/// Takes all further steps over cells if the acquire stands at a cell, else one step.
 #[inline(always)]
 fn acquire_next(seat: &mut Seat, call: Acquire, owner: OwnerId) -> After<Acquire, Acquired>
     requires board { IsBoard seat.old }
@@ -84,7 +85,7 @@ fn acquire_next(seat: &mut Seat, call: Acquire, owner: OwnerId) -> After<Acquire
     }
 }
 
-/// Takes all steps of the call.
+/// Takes all steps of the acquire, from its first one on.
 #[inline(always)]
 pub(crate) fn acquire_all(
     seat: &mut Seat,
@@ -97,7 +98,8 @@ pub(crate) fn acquire_all(
     ensures stays { StaysAtBoard seat.old seat.new }
     ensures ends { AcquireEnds owner (seen seat.old) result tt (seen seat.new) }
 {
-    // The first turns stand by themselves, so that a compiler sees at each of them the call's stage.
+    // The first step and the first cells stand before the loop, so that a compiler sees the
+    // call's stage there.
     let first = step_acquire(seat, Acquire::new(capacity), owner);
     let call = match first {
         After::GoOn(next) => next,

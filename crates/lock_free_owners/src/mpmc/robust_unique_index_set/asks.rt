@@ -1,4 +1,5 @@
-//! The loop of a recovery on a set over the cells. It loads them, and asks about the owners that it finds there.
+//! The loop of a recovery over the cells of a robust set. It loads one cell after another, and asks the first
+//! closure about each owner that it finds.
 ghost use Rattle.std.specs.Prelude.{◌≡◌, ◌+◌, ◌<◌, ◌≤◌, ℕ, Bool};
 ghost use Rattle.steps.specs.Indices.Robust.Parts.{empty};
 ghost use Rattle.steps.specs.Indices.Robust.Recover.{recover_after, recover_comes_to};
@@ -27,8 +28,8 @@ use steps::indices::robust::recover::{Recover, RecoverStage};
 use steps::routine::Routine;
 use threaded::driver::rule::Tells;
 
-/// Loads a cell, for a call that has come to it. What that tells is picked where it is called. The parameters with `_`
-/// are there for the proof alone.
+/// Loads the cell of an index. The caller picks by M what the load tells. The parameters with `_`
+/// are for the proof alone.
 #[inline(always)]
 fn load_for<M: Tells<View<u64>>>(
     seat: &mut Seat,
@@ -46,8 +47,8 @@ fn load_for<M: Tells<View<u64>>>(
     seat.look::<M>(FIRST_CELL + cell)
 }
 
-/// Takes the step of a call that has come to this cell, but for what the call makes of it. An index is a `usize` here,
-/// so that no turn of a loop has to widen it.
+/// Takes the step of a recovery that stands at this cell, and returns the cell's word. The caller changes the
+/// stage. The index is a `usize`, so that no iteration of a loop has to widen it.
 #[inline(always)]
 fn load_cell(seat: &mut Seat, capacity: u32, cell: usize, mode: ReleaseMode) -> u64
     requires board { IsBoard seat.old }
@@ -61,9 +62,9 @@ fn load_cell(seat: &mut Seat, capacity: u32, cell: usize, mode: ReleaseMode) -> 
     load_for::<Brand>(seat, capacity, cell, mode)
 }
 
-/// Takes the steps of the call from this cell on. It passes cells without an owner, and those about whose owner the
-/// first closure says no. The loop carries the index alone; a `Recover` is made of it only where the loop ends. S is the
-/// type of the second closure, for what is told of the call.
+/// Takes the steps of a recovery over cells, from the cell `first` on. It passes cells without an owner, and
+/// those about whose owner the first closure says no. The loop carries only the index; a `Recover` is made
+/// where it ends. S is the type of the second closure, which only the contract needs.
 #[inline(always)]
 fn ask_over<F: FnMut(OwnerId, usize) -> bool, S: FnMut(OwnerId, usize)>(
     seat: &mut Seat,
@@ -94,7 +95,7 @@ fn ask_over<F: FnMut(OwnerId, usize) -> bool, S: FnMut(OwnerId, usize)>(
     }
 }
 
-/// Takes the steps of a call that has come to its first cell, and leaves any other call.
+/// Takes the steps over cells if the recovery stands at a cell, and returns it unchanged at any other stage.
 #[inline(always)]
 pub(crate) fn ask_first<F: FnMut(OwnerId, usize) -> bool, S: FnMut(OwnerId, usize)>(
     seat: &mut Seat,
@@ -118,7 +119,7 @@ pub(crate) fn ask_first<F: FnMut(OwnerId, usize) -> bool, S: FnMut(OwnerId, usiz
     }
 }
 
-/// The cell behind this one, to which a recovery goes on if there is one.
+/// Returns the index behind this cell. If it is below the capacity, the recovery goes on to its cell.
 #[inline(always)]
 fn passed_next(capacity: u32, cell: usize) -> usize
     requires { cell < capacity }
@@ -130,7 +131,7 @@ fn passed_next(capacity: u32, cell: usize) -> usize
     cell + 1
 }
 
-/// How a recovery goes on behind its last cell.
+/// Returns the recovery behind its last cell: it loads the counter again.
 #[inline(always)]
 fn past_last(capacity: u32) -> After<Recover, ReleaseState>
     ensures { (cell next : ℕ) → capacity ≤ next
@@ -142,7 +143,7 @@ fn past_last(capacity: u32) -> After<Recover, ReleaseState>
     })
 }
 
-/// Returns how a call goes on that has found this at its cell, and has heard this answer about it.
+/// Returns the recovery after it has found `found` at its cell and has heard `answer` about it.
 #[inline(always)]
 fn answered(
     call: Recover,
@@ -160,7 +161,7 @@ fn answered(
     }
 }
 
-/// A recovery that comes to a cell.
+/// Returns a recovery that stands at the cell of this index.
 #[inline(always)]
 fn at_cell(capacity: u32, index: u32) -> Recover
     ensures { result ≡ record { capacity = capacity; stage = stages.LoadsCell index } }
@@ -171,7 +172,7 @@ fn at_cell(capacity: u32, index: u32) -> Recover
     }
 }
 
-/// Asks the closure about the owner and the index: its answer, as the call takes it.
+/// Asks the closure about the owner and the index, and returns 1 for yes and 0 for no.
 #[inline(always)]
 fn ask<F: FnMut(OwnerId, usize) -> bool>(predicate: &mut F, owner: OwnerId, index: usize) -> u64
     requires { F.pre predicate.old owner index }
@@ -181,7 +182,8 @@ fn ask<F: FnMut(OwnerId, usize) -> bool>(predicate: &mut F, owner: OwnerId, inde
     if yes { 1 } else { 0 }
 }
 
-/// Asks the closure about the owner found in the cell of this index. Where there is none the answer is a no.
+/// Asks the closure about the owner that was found in the cell of this index. If the cell has no owner, it
+/// asks nothing and returns 0, which is a no.
 #[inline(always)]
 fn ask_found<F: FnMut(OwnerId, usize) -> bool>(predicate: &mut F, found: u64, index: usize) -> u64
     requires { found < empty → F.pre predicate.old found index }

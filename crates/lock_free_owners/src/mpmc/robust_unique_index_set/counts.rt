@@ -1,4 +1,5 @@
-//! The count of the borrowed indices at a seat. The loads of cells have a loop of their own.
+//! The call `borrowed_indices` of a robust set, at a seat. The steps that load cells have a loop of
+//! their own (`count_cells`).
 ghost use Rattle.std.specs.Prelude.{◌≡◌, ℕ};
 ghost use Rattle.steps.specs.Indices.Robust.Looks.{first_borrowed, borrowed_after};
 ghost use Rattle.steps.specs.declared.indices.robust.parts.Count.TheVariants as stages;
@@ -13,7 +14,7 @@ use steps::indices::robust::looks::BorrowedIndices;
 use steps::indices::robust::parts::Count;
 use steps::routine::Routine;
 
-/// Takes one step of the call.
+/// Takes one step of the count.
 #[inline(always)]
 fn step_count(seat: &mut Seat, call: BorrowedIndices) -> After<BorrowedIndices, usize>
     requires board { IsBoard seat.old }
@@ -25,7 +26,8 @@ fn step_count(seat: &mut Seat, call: BorrowedIndices) -> After<BorrowedIndices, 
     seat.step::<BorrowedIndices, CountsOwned>(call, &(), &mut ())
 }
 
-/// Takes the steps of the call that load cells, from this one on. Their loop keeps no more than their stage does.
+/// Takes the steps of the count that load cells, from the cell `first` on. It returns where the call has
+/// ended or has come to another stage. The loop carries the index and the number of cells with an owner.
 #[inline(always)]
 fn count_cells(
     seat: &mut Seat,
@@ -68,7 +70,7 @@ fn count_cells(
     }
 }
 
-/// Takes steps of the call.
+/// Takes all further steps over cells if the count stands at a cell, else one step.
 #[inline(always)]
 fn count_next(seat: &mut Seat, call: BorrowedIndices) -> After<BorrowedIndices, usize>
     requires board { IsBoard seat.old }
@@ -87,7 +89,7 @@ fn count_next(seat: &mut Seat, call: BorrowedIndices) -> After<BorrowedIndices, 
     }
 }
 
-/// Takes all steps of the call.
+/// Takes all steps of the count, from its first one on.
 #[inline(always)]
 pub(crate) fn count_all(seat: &mut Seat, rt: &impl Wait, capacity: u32) -> usize
     requires board { IsBoard seat.old }
@@ -95,7 +97,8 @@ pub(crate) fn count_all(seat: &mut Seat, rt: &impl Wait, capacity: u32) -> usize
     ensures stays { StaysAtBoard seat.old seat.new }
     ensures ends { CountEnds (seen seat.old) result tt (seen seat.new) }
 {
-    // The first turns stand by themselves, so that a compiler sees at each of them the call's stage.
+    // The first step and the first cells stand before the loop, so that a compiler sees the
+    // call's stage there.
     let first = step_count(seat, BorrowedIndices::new(capacity));
     let call = match first {
         After::GoOn(next) => next,

@@ -1,6 +1,7 @@
-//! The find on a set: it comes to the indices of an owner. The loads of cells have a loop of their own. It begins with
-//! a look at the lock, which is a call of the history and marks there where the find begins; the rest of it is none. It
-//! finds also the indices whose acquire met the lock, since they keep their owner.
+//! The find on a set: it comes to the indices of an owner. The loads of cells have a loop of their own.
+//! It begins with a look at the lock, a call of the history, which marks where the find begins. The
+//! loads of its cells are no calls of the history. It finds also the indices whose acquire met the lock,
+//! since they keep their owner.
 ghost use Rattle.std.specs.Prelude.{◌≡◌, ◌+◌, ◌<◌, ◌≢◌, ℕ};
 ghost use Rattle.steps.specs.Indices.Robust.Find.{find_after, find_left};
 ghost use Rattle.steps.specs.Indices.Robust.Parts.{cell_word};
@@ -28,8 +29,8 @@ use steps::indices::robust::find::{Find, FindStage};
 use steps::indices::robust::parts::FIRST_CELL;
 use steps::routine::Routine;
 
-/// What stands in the cell of an index: one step, a look at the history too. An index is a `usize` here, so that no turn
-/// of a loop has to widen it.
+/// Returns the word in the cell of an index, by one load. The seat then knows the history up to this load.
+/// The index is a `usize`, so that no iteration of a loop has to widen it.
 #[inline(always)]
 fn look_at(seat: &mut Seat, _capacity: u32, cell: usize) -> u64
     requires ready { IsReady _capacity seat.old }
@@ -41,8 +42,9 @@ fn look_at(seat: &mut Seat, _capacity: u32, cell: usize) -> u64
     seat.look::<Brand>(FIRST_CELL + cell)
 }
 
-/// Takes the steps of the call that load cells, from this one on, past those without the owner. Their loop keeps the
-/// index alone, and makes a call of it where it ends. What that tells is for a closure of the type F.
+/// Takes the steps of a find over cells that are not the owner's, from the cell `first` on. The
+/// loop carries only the index; a `Find` is made where it ends. F is the type of the closure, which
+/// only the contract needs.
 #[inline(always)]
 fn pass_over<F: FnMut(usize) -> CallbackProgression>(
     seat: &mut Seat,
@@ -73,7 +75,8 @@ fn pass_over<F: FnMut(usize) -> CallbackProgression>(
     }
 }
 
-/// The cell behind one of another owner, or of none, to which a find goes on if there is one.
+/// Returns the index behind a cell that is not the owner's. If it is below the capacity, the
+/// find goes on to its cell.
 #[inline(always)]
 fn next_cell(capacity: u32, cell: usize) -> usize
     requires { cell < capacity }
@@ -85,7 +88,7 @@ fn next_cell(capacity: u32, cell: usize) -> usize
     cell + 1
 }
 
-/// A find that comes to a cell, and has come to so many indices.
+/// Returns a find that stands at the cell of this index and has visited `so_many` indices.
 #[inline(always)]
 fn at_cell(capacity: u32, index: u32, so_many: usize) -> Find
     ensures { result ≡ record { capacity = capacity; stage = stages.LoadsCell index so_many } }
@@ -99,7 +102,7 @@ fn at_cell(capacity: u32, index: u32, so_many: usize) -> Find
     }
 }
 
-/// Calls the closure with the index: its answer, as the call takes it.
+/// Calls the closure with the index, and returns 1 for `Continue` and 0 for `Stop`.
 #[inline(always)]
 fn hear<F: FnMut(usize) -> CallbackProgression>(visit: &mut F, index: u32) -> u64
     requires { F.pre visit.old index }
@@ -111,7 +114,8 @@ fn hear<F: FnMut(usize) -> CallbackProgression>(visit: &mut F, index: u32) -> u6
     }
 }
 
-/// Takes steps of the call, or asks the closure about the index that it has come to.
+/// Takes all further steps over cells if the find stands at a cell. Else it calls the closure with the index
+/// that it has found.
 #[inline(always)]
 fn find_next<F: FnMut(usize) -> CallbackProgression>(
     seat: &mut Seat,
@@ -138,7 +142,7 @@ fn find_next<F: FnMut(usize) -> CallbackProgression>(
     }
 }
 
-/// Comes to the indices of the owner: how many it came to.
+/// Calls the closure with indices of the owner, and returns how many it visited.
 fn find_all<F: FnMut(usize) -> CallbackProgression>(
     seat: &mut Seat,
     capacity: u32,

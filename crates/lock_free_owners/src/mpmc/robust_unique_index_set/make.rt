@@ -1,4 +1,4 @@
-//! How a set is made.
+//! How a robust unique index set is made, with its first pass.
 ghost use Rattle.std.specs.Prelude.{◌≡◌, ◌⊎◌, ◌<◌, None, Some, [], IfOk, IfErr, OnOk};
 ghost use Rattle.steps.specs.declared.enums.UniqueIndexCreationError.TheVariants.{NoMemory};
 ghost use Rattle.threaded.specs.Shares.{all_shares};
@@ -12,7 +12,7 @@ use steps::enums::{UniqueIndexCreationError, capacity_refusal};
 use steps::indices::robust::parts::{EMPTY, FIRST_CELL};
 use threaded::driver::seated::Seated;
 
-/// A set of which no index is out, and its first pass.
+/// Makes a set no index of which has an owner, and its first pass.
 fn open(alloc: Global, capacity: u32) -> Result<(RobustUniqueIndexSet, Pass), AllocError>
     requires { 0 < capacity }
     ensures pass { IfOk result (λ r. IsPassOf r.0 r.1) }

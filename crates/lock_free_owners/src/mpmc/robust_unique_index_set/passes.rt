@@ -1,4 +1,4 @@
-//! How passes are made of one another.
+//! How a pass of a robust set is split off another one, or joined to it.
 ghost use Rattle.std.specs.Prelude.{◌≡◌, IfSome, IfNone};
 ghost use Rattle.model.specs.declared.turn.Kind.TheVariants as kinds;
 ghost use Rattle.model.specs.Coding.{one_word};

@@ -24,7 +24,7 @@ use steps::indices::enums::{ReleaseMode, ReleaseState};
 use steps::indices::robust::recover::{Recover, RecoverStage};
 use steps::routine::Routine;
 
-/// Takes one step of the call on the table.
+/// Takes one step of the recovery on the words of the table.
 #[inline(always)]
 fn step_recover(seat: &mut Seat, call: Recover, mode: ReleaseMode) -> After<Recover, ReleaseState>
     requires board { IsBoard seat.old }
@@ -36,7 +36,8 @@ fn step_recover(seat: &mut Seat, call: Recover, mode: ReleaseMode) -> After<Reco
     seat.step_telling::<Brand, Recover>(call, &mode, &mut ())
 }
 
-/// Takes the last step of a call that has come past its last cell, and leaves any other call.
+/// Loads the counter again if the recovery is past its last cell. At any other stage it returns
+/// the recovery unchanged.
 #[inline(always)]
 fn look_again(seat: &mut Seat, call: Recover, mode: ReleaseMode) -> After<Recover, ReleaseState>
     requires board { IsBoard seat.old }
@@ -52,8 +53,8 @@ fn look_again(seat: &mut Seat, call: Recover, mode: ReleaseMode) -> After<Recove
     }
 }
 
-/// Takes steps of the call, or asks the first closure about what it has come to. After the step that frees an index it
-/// tells the second closure.
+/// Takes one step of the recovery, or asks the first closure where the recovery stands at its question. After
+/// the step that frees an index it tells the second closure.
 #[inline(always)]
 fn recover_next<F: FnMut(OwnerId, usize) -> bool, S: FnMut(OwnerId, usize)>(
     seat: &mut Seat,
@@ -89,7 +90,7 @@ fn recover_next<F: FnMut(OwnerId, usize) -> bool, S: FnMut(OwnerId, usize)>(
     }
 }
 
-/// Frees the indices that the first closure says yes to.
+/// Takes all steps of the recovery, which frees the indices that the first closure says yes to.
 fn recover_all<F: FnMut(OwnerId, usize) -> bool, S: FnMut(OwnerId, usize)>(
     seat: &mut Seat,
     rt: &impl Wait,
@@ -108,8 +109,8 @@ fn recover_all<F: FnMut(OwnerId, usize) -> bool, S: FnMut(OwnerId, usize)>(
         × HasVisited (λ p o i b q. F.step p o i b q) (λ s o i t. S.step s o i tt t)
         predicate.old recovered.old visits predicate.new recovered.new }
 {
-    // The first turns stand by themselves, so that a compiler sees at each of them the call's stage. A recovery that
-    // frees nothing has no others.
+    // The first steps stand before the loop, so that a compiler sees the call's stage there. A recovery that
+    // frees nothing ends by them.
     let call = match step_recover(seat, Recover::new(capacity), mode) {
         After::GoOn(next) => next,
         After::Done(state) => return state,
@@ -138,7 +139,7 @@ fn recover_all<F: FnMut(OwnerId, usize) -> bool, S: FnMut(OwnerId, usize)>(
     unreachable!()
 }
 
-/// Whether a step has emptied the cell that it came to.
+/// Returns whether a step at `EmptiesCell` has emptied the cell: the recovery then raises the counter.
 #[inline(always)]
 fn has_freed(after: After<Recover, ReleaseState>) -> bool
     ensures { result ≡ has_freed after }
@@ -164,7 +165,7 @@ fn ask<F: FnMut(OwnerId, usize) -> bool>(predicate: &mut F, owner: OwnerId, inde
     predicate(owner, index as usize)
 }
 
-/// Calls the closure with the owner and the index where it was freed.
+/// Calls the closure with the owner and the index if the index was freed.
 #[inline(always)]
 fn tell_where<S: FnMut(OwnerId, usize)>(recovered: &mut S, freed: bool, owner: OwnerId, index: u32)
     requires { IsTrue freed → S.pre recovered.old owner index }

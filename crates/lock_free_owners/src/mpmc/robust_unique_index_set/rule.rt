@@ -1,4 +1,5 @@
-//! The rule of a robust unique index set's table: it is a machine of its kind, and one word more.
+//! The rule of the table of a robust unique index set. Its words are those of the machine, and one
+//! word more behind them.
 ghost use Rattle.model.specs.Coding.{one_word};
 ghost use Rattle.model.specs.declared.turn.Kind.TheVariants as kinds;
 
@@ -7,7 +8,8 @@ use history::view::View;
 use threaded::driver::rule::Rule;
 use threaded::driver::seated::Seated;
 
-/// The rule, for the capacity that is the key.
+/// The rule of a robust set's table, whose key is the capacity. Its views are those of one
+/// history of the machine.
 pub struct RobustRule;
 
 impl TableRule<(), View<u64>, u64> for RobustRule {

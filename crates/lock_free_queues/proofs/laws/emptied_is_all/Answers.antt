@@ -1,5 +1,5 @@
--- The law `emptied_is_all` (src/laws.rt): who has the whole share and finds nothing has all that was published taken out: the two lists
--- are equal.
+-- The law `emptied_is_all` (src/laws.rt): where a pop with the whole share finds nothing, all that was
+-- published has been taken out, so the two lists are equal.
 use Rattle.lock_free_queues.proofs.Queues.Whole.{all_taken}
 use Rattle.lock_free_queues.proofs.laws.emptied_is_all.Goals as goal
 

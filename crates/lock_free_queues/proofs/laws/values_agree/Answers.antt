@@ -1,4 +1,5 @@
--- The law `values_agree` (src/laws.rt): equal positions have equal values.
+-- The law `values_agree` (src/laws.rt): what is published and what is taken at equal
+-- positions are equal values.
 use Rattle.lock_free_queues.proofs.Queues.Promised.{agree}
 use Rattle.lock_free_queues.proofs.laws.values_agree.Goals as goal
 

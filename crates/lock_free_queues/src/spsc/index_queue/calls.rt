@@ -1,4 +1,4 @@
-//! The push, the pop and the peek of `steps`, which a seat drives.
+//! The push, the pop and the peek of `steps`, driven at a seat of a queue of numbers.
 ghost use Rattle.std.specs.Prelude.{◌≡◌, ◌⊎◌, false, IsTrue, IsFalse, IfSome, IfNone};
 ghost use Rattle.std.specs.Option.{option_map};
 ghost use Rattle.steps.specs.declared.queues.roles.Role.{Role};

@@ -1,7 +1,7 @@
-//! How a queue ends. What waits in it goes on as the queue of one caller, which `close` returns: at one moment of the
-//! call it had just these numbers, whoever pushed them, and before them lies what was popped until then. So each number
-//! that the pass has seen published waits in the list at its place or was popped, and who has the whole share knows
-//! that nothing came after what the pass had seen.
+//! How a queue of numbers ends. `close` returns the numbers that waited at one moment of the call, whoever
+//! pushed them, as a queue of one caller. What was published before them was popped until then. So each
+//! number that the pass has seen published stands in this list or was popped, and with the whole share
+//! nothing was published after what the pass had seen.
 ghost use Rattle.std.specs.Prelude.{◌≡◌, IfOk, IfErr};
 ghost use Rattle.steps.specs.declared.enums.UniqueIndexCreationError.TheVariants.{NoMemory};
 ghost use Rattle.model.specs.declared.event.Item.TheVariants.{Index};

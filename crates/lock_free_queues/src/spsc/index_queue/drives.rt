@@ -1,4 +1,5 @@
-//! What a push, a pop and a peek say of the views at their steps. These types are for the proofs alone.
+//! A type for each of push, pop and peek. It says what the seat's view knows while the call is under way and
+//! once it has ended. These types are for the proofs alone.
 ghost use Rattle.model.specs.Coding.{one_word};
 ghost use Rattle.model.specs.declared.turn.Kind.TheVariants as kinds;
 
@@ -8,7 +9,7 @@ use steps::queues::peek::Peek;
 use steps::queues::ring::{Pop, Push};
 use threaded::driver::rule::Drives;
 
-/// Pushing.
+/// Pushing a number.
 pub struct Pushes;
 
 impl Drives<View<u64>, Push<u64>> for Pushes {
@@ -20,7 +21,7 @@ impl Drives<View<u64>, Push<u64>> for Pushes {
     ghost ends = { λ v. Over one_word kinds.IndexQueue (pushes_index v) };
 }
 
-/// Popping.
+/// Popping a number.
 pub struct Pops;
 
 impl Drives<View<u64>, Pop<u64, OneWord>> for Pops {
@@ -32,7 +33,7 @@ impl Drives<View<u64>, Pop<u64, OneWord>> for Pops {
     ghost ends = { λ given. Ends one_word kinds.IndexQueue pops_index };
 }
 
-/// Peeking.
+/// Peeking at the oldest number.
 pub struct Peeks;
 
 impl Drives<View<u64>, Peek<u64, OneWord>> for Peeks {

@@ -1,4 +1,4 @@
-//! The push of `steps`, which a seat drives.
+//! The push of a value at a seat: the call `Push` of `steps`, driven.
 ghost use Rattle.std.specs.Prelude.{◌≡◌, ◌⊎◌, ◌+◌, false, IsTrue, IsFalse};
 ghost use Rattle.steps.specs.declared.queues.roles.Role.{Role};
 ghost use Rattle.steps.specs.declared.queues.roles.Role.TheVariants as roles;

@@ -1,4 +1,5 @@
-//! What a push, a pop and a peek say of the views at their steps. These types are for the proofs alone.
+//! A type for each of push, pop and peek. It says what the seat's view knows while the call is under way and
+//! once it has ended. These types are for the proofs alone.
 ghost use Rattle.model.specs.Coding.{coding_by};
 ghost use Rattle.model.specs.declared.turn.Kind.TheVariants as kinds;
 
@@ -26,7 +27,7 @@ impl<T: Words + Drop> Drives<View<T>, Push<T>> for Pushes<T> {
         (pushes_value (coding_by T.Words) value) };
 }
 
-/// Popping a value by way of a room R.
+/// Popping a value into a room of the type R.
 pub struct Pops<T, R> {
     of: PhantomData<(T, R)>,
 }
@@ -42,7 +43,7 @@ impl<T: Words, R: Room<T> + Drop> Drives<View<T>, Pop<T, R>> for Pops<T, R> {
         (pops_value (coding_by T.Words) R.words_in) };
 }
 
-/// Peeking at a value by way of a room R.
+/// Peeking at a value, whose words go into a room of the type R.
 pub struct Peeks<T, R> {
     of: PhantomData<(T, R)>,
 }

@@ -1,4 +1,4 @@
-//! The calls of those that have a role.
+//! The calls of the guards of a queue of values: `push`, `pop` and `peek`.
 ghost use Rattle.std.specs.Prelude.{◌+◌, IsTrue, IsFalse, IfSome, IfNone};
 ghost use Rattle.std.specs.Option.{option_map};
 ghost use Rattle.model.specs.declared.event.Item.TheVariants.{Value};

@@ -1,4 +1,4 @@
-//! How a queue is made.
+//! How a queue of values is made, with its first pass.
 ghost use Rattle.std.specs.Prelude.{◌≡◌, ◌⊎◌, ◌-◌, ◌^◌, None, Some, IfOk, IfErr, OnOk, replicate};
 ghost use Rattle.steps.specs.Enums.{capacity_refusal};
 ghost use Rattle.steps.specs.declared.enums.UniqueIndexCreationError.TheVariants.{NoMemory};
@@ -16,7 +16,7 @@ use steps::enums::{UniqueIndexCreationError, capacity_refusal};
 use steps::queues::ring::FIRST_CELL;
 use steps::words::Words;
 
-/// The value that words of zeros make.
+/// Returns the value whose words are zeros.
 fn of_zeros<T: Words>() -> T
     ensures { result ≡ T.value_of (replicate T.WORDS 0) }
 {
@@ -24,8 +24,8 @@ fn of_zeros<T: Words>() -> T
 }
 
 impl<T: Words> Ring<T> {
-    /// An empty queue with both positions here, and its first pass. The cells that so many pushes have used have the
-    /// words of what they pushed.
+    /// Makes an empty queue with both positions at `position`, and its first pass. The cells that the pushes
+    /// so far have used have the words of the value that was pushed.
     fn of(alloc: Global, capacity: u32, position: u64) -> Result<(Ring<T>, Pass<T>), AllocError>
         ensures pass { IfOk result (λ r. IsPassOf r.0 r.1
             × (view r.1 ≡ opened_view T.WORDS (Value (T.value_of (replicate T.WORDS 0))) capacity position)) }
@@ -43,7 +43,8 @@ impl<T: Words> Ring<T> {
         Ring::<T>::of_words(alloc, words, capacity, position)
     }
 
-    /// An empty queue with both positions here, and its first pass.
+    /// Makes an empty queue with both positions at `position`, and its first pass, unless the
+    /// capacity is refused.
     fn open(
         alloc: Global,
         capacity: usize,
@@ -80,9 +81,9 @@ impl<T: Words, const CAPACITY: usize> Queue<T, CAPACITY> {
         Queue::<T, CAPACITY>::new_at(alloc, 0)
     }
 
-    /// Makes an empty queue with both positions at `position`, and its first pass. Its history begins with so many
-    /// pushes and pops of the value that words of zeros make; without capacity there are none. Refused as `new`. This
-    /// project's own.
+    /// Makes an empty queue with both positions at `position`, and its first pass. Its history begins with
+    /// `position` pushes and pops of the value whose words are zeros; without capacity there are none.
+    /// Refused as `new`. This project's own.
     pub fn new_at(
         alloc: Global,
         position: u64,

@@ -1,4 +1,4 @@
-//! The peek at a seat, by way of a room.
+//! The peek at a value at a seat. The value's words are read into a room, a buffer of the call.
 ghost use Rattle.std.specs.Prelude.{◌≡◌, ◌≤◌, ◌+◌, ℕ, replicate};
 ghost use Rattle.std.specs.Option.{option_map};
 ghost use Rattle.steps.specs.declared.queues.roles.Role.{Role};
@@ -27,7 +27,7 @@ impl<T: Words> Held<Values, T, RingRule<Values, T>> {
         ensures roles { (r : Role) → Moved r 0 0 (token_view self.old).made (token_view self.new).made }
         ensures steps { TakesAtMost (2 + T.WORDS) (token_view self.old) (token_view self.new) }
     {
-        // a room is filled with zeros: the smallest that the words fit in
+        // the room is the smallest of three buffers that the words fit in, filled with zeros
         if T::WORDS <= 2 {
             self.peek_by(Buffer::<2> { words: [0; 2] })
         } else if T::WORDS <= 16 {
@@ -37,7 +37,7 @@ impl<T: Words> Held<Values, T, RingRule<Values, T>> {
         }
     }
 
-    /// Peeks by way of this room.
+    /// Copies the oldest value into this room, which is all zeros.
     #[inline(always)]
     pub fn peek_by<R: Room<T> + Drop>(&mut self, room: R) -> Option<T>
         requires role { HasRole roles.Consumer (token_view self.old).made }

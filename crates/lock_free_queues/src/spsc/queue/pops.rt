@@ -1,4 +1,4 @@
-//! The pop at a seat, by way of a room.
+//! The pop of a value at a seat. The value's words are read into a room, a buffer of the call.
 ghost use Rattle.std.specs.Prelude.{◌≡◌, ◌≤◌, ◌+◌, ℕ, replicate, IfSome, IfNone};
 ghost use Rattle.std.specs.Option.{option_map};
 ghost use Rattle.steps.specs.declared.queues.roles.Role.{Role};
@@ -29,7 +29,7 @@ impl<T: Words> Held<Values, T, RingRule<Values, T>> {
         ensures roles { (r : Role) → Moved r 0 0 (token_view self.old).made (token_view self.new).made }
         ensures steps { TakesAtMost (3 + T.WORDS) (token_view self.old) (token_view self.new) }
     {
-        // a room is filled with zeros: the smallest that the words fit in
+        // the room is the smallest of three buffers that the words fit in, filled with zeros
         if T::WORDS <= 2 {
             self.pop_by(Buffer::<2> { words: [0; 2] })
         } else if T::WORDS <= 16 {
@@ -39,7 +39,7 @@ impl<T: Words> Held<Values, T, RingRule<Values, T>> {
         }
     }
 
-    /// Pops by way of this room.
+    /// Pops a value into this room, which is all zeros.
     #[inline(always)]
     pub fn pop_by<R: Room<T> + Drop>(&mut self, room: R) -> Option<T>
         requires role { HasRole roles.Consumer (token_view self.old).made }

@@ -1,4 +1,4 @@
-//! The calls of `steps` on roles, which a seat drives.
+//! The calls on a role at a seat: it is taken, given back, or looked at.
 ghost use Rattle.std.specs.Prelude.{IsTrue, IsFalse};
 ghost use Rattle.steps.specs.declared.queues.roles.Role.{Role};
 ghost use Rattle.history.specs.Roles.{HasRole};

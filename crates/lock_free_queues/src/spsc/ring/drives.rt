@@ -1,4 +1,5 @@
-//! What the calls that all queues have say of the views at their steps. These types are for the proofs alone.
+//! A type for each call that all queues have. It says what the seat's view knows while the call is under way
+//! and once it has ended. These types are for the proofs alone.
 ghost use Rattle.std.specs.Prelude.{◌≡◌, ℕ, ◌+◌, [], refl};
 ghost use Rattle.model.specs.Coding.{coding_by};
 ghost use Rattle.steps.specs.declared.queues.roles.Role.{Role};
@@ -29,7 +30,7 @@ pub trait Side {
     ghost there: { WORD ≡ role_word ROLE };
 }
 
-/// The producer's.
+/// The side of the producer.
 pub struct Pushing;
 
 impl Side for Pushing {
@@ -42,7 +43,7 @@ impl Side for Pushing {
     ghost there = { refl };
 }
 
-/// The consumer's.
+/// The side of the consumer.
 pub struct Popping;
 
 impl Side for Popping {
@@ -97,33 +98,33 @@ impl<E: Kind, R: Side, T: Words> Drives<View<T>, LookRole> for Looks<E, R> {
     ghost ends = { λ given. Ends (coding_by T.Words) (machine_kind E.KIND) (looks_role R.ROLE) };
 }
 
-/// What is asked of how many values wait, as a type.
+/// A type for each question about how many values wait.
 pub trait Measure {
     ghost WHICH: { LengthOf };
 }
 
-/// How many wait.
+/// The question of `len`: how many values wait.
 pub struct Length;
 
 impl Measure for Length {
     ghost WHICH = { measures.Len };
 }
 
-/// Whether none waits.
+/// The question of `is_empty`: whether no value waits.
 pub struct Emptiness;
 
 impl Measure for Emptiness {
     ghost WHICH = { measures.IsEmpty };
 }
 
-/// Whether as many wait as there is room for.
+/// The question of `is_full`: whether as many values as the capacity wait.
 pub struct Fullness;
 
 impl Measure for Fullness {
     ghost WHICH = { measures.IsFull };
 }
 
-/// Asking so.
+/// Asking the question W.
 pub struct Measures<E, W> {
     of: PhantomData<(E, W)>,
 }

@@ -6,7 +6,7 @@ use super::{FixedSize, Ring};
 use std::ops::Deref;
 use steps::words::Words;
 
-/// The calls are those of the queue that it has.
+/// The calls of a queue with a fixed capacity are those of the queue that it has.
 impl<E: Kind, T: Words, const CAPACITY: usize> Deref for FixedSize<E, T, CAPACITY> {
     ghost use Rattle.lock_free_queues.specs.Queues.Rings.{inner, capacity_of};
 

@@ -1,4 +1,4 @@
-//! How many values wait in a queue.
+//! The calls `len`, `is_empty`, `is_full` and `capacity` of a queue, its handles and its guards.
 ghost use Rattle.std.specs.Prelude.{◌≡◌, ◌≤◌};
 ghost use Rattle.steps.specs.declared.queues.roles.Role.{Role};
 ghost use Rattle.model.specs.declared.event.Answer.TheVariants.{Number, Truth};
@@ -27,7 +27,7 @@ use threaded::driver::seated::Seated;
 
 type Seat<E, T> = Seated<View<T>, Origin, RingRule<E, T>>;
 
-/// Takes one step of the call.
+/// Takes one step of a call that counts what waits.
 #[inline(always)]
 fn step_count<E: Kind, T: Words, W: Measure>(seat: &mut Seat<E, T>, call: Len) -> After<Len, u64>
     requires board { IsBoard T.WORDS E.KIND seat.old }
@@ -40,7 +40,8 @@ fn step_count<E: Kind, T: Words, W: Measure>(seat: &mut Seat<E, T>, call: Len) -
     seat.step::<Len, Measures<E, W>>(call, &(), &mut ())
 }
 
-/// Takes the four steps that the call has if no position moves. Here nothing can wait.
+/// Takes the first four steps of the call, without a loop. If no position moves meanwhile, the
+/// call ends by the fourth.
 #[inline(always)]
 fn count_once<E: Kind, T: Words, W: Measure>(seat: &mut Seat<E, T>, first: Len) -> After<Len, u64>
     requires board { IsBoard T.WORDS E.KIND seat.old }
@@ -67,7 +68,7 @@ fn count_once<E: Kind, T: Words, W: Measure>(seat: &mut Seat<E, T>, first: Len) 
     step_count::<E, T, W>(seat, fourth)
 }
 
-/// Takes the other steps of a call that has gone on.
+/// Takes the further steps of a call that did not end by its fourth step, since a position moved.
 #[inline(never)]
 fn count_on<E: Kind, T: Words, W: Measure>(seat: &mut Seat<E, T>, rt: &impl Wait, first: Len) -> u64
     requires board { IsBoard T.WORDS E.KIND seat.old }
@@ -87,7 +88,7 @@ fn count_on<E: Kind, T: Words, W: Measure>(seat: &mut Seat<E, T>, rt: &impl Wait
     unreachable!()
 }
 
-/// Takes all steps of the call.
+/// Takes all steps of the call, from its first one on.
 #[inline(always)]
 fn count_all<E: Kind, T: Words, W: Measure>(
     seat: &mut Seat<E, T>,
@@ -108,7 +109,7 @@ fn count_all<E: Kind, T: Words, W: Measure>(
 }
 
 impl<E: Kind, T: Words> Held<E, T, RingRule<E, T>> {
-    /// How many values waited at one moment of the call, as is asked of them.
+    /// Returns how many values waited at one moment of the call. W says which of the three calls it is for.
     fn measure<W: Measure>(&mut self, rt: &impl Wait) -> u64
         ensures same { IsSameQueue self.old self.new }
         ensures measured { HasMeasured W.WHICH (token_queue self.old).capacity

@@ -1,4 +1,4 @@
-//! How a queue is made of its words.
+//! How a queue of any kind is made of its words, and one of numbers of its capacity.
 ghost use Rattle.std.specs.Prelude.{◌≡◌, ◌⊎◌, ◌+◌, ◌-◌, ◌^◌, ◌≤◌, [], None, Some, length, IfOk, IfErr, OnOk};
 ghost use Rattle.atomic_table.specs.Table.{opening};
 ghost use Rattle.steps.specs.Enums.{capacity_refusal};
@@ -21,7 +21,7 @@ use steps::words::Words;
 use threaded::driver::seated::Seated;
 
 impl<E: Kind, T: Words> Ring<E, T> {
-    /// A queue with these words, as it opens at this position, and its first pass.
+    /// Makes a queue with these words, which are those of an opening at `position`, and its first pass.
     pub(crate) fn of_words(
         alloc: Global,
         words: Vec<u64>,
@@ -61,8 +61,8 @@ impl<E: Kind, T: Words> Ring<E, T> {
 }
 
 impl<E: Kind> Ring<E, u64> {
-    /// An empty queue of numbers with both positions here, and its first pass. It has so many cells beyond its
-    /// capacity.
+    /// Makes an empty queue of numbers with both positions at `position`, and its first pass. It has `spare`
+    /// cells more than its capacity.
     pub(crate) fn of_numbers(
         alloc: Global,
         capacity: usize,

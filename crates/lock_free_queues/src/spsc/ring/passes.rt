@@ -1,4 +1,4 @@
-//! How passes are made of one another.
+//! How a pass of a queue is split off another one, joined to it, and looks at the history.
 ghost use Rattle.std.specs.Prelude.{◌≡◌, IfSome, IfNone};
 ghost use Rattle.history.specs.History.{Knows};
 ghost use Rattle.history.specs.Steps.{TakesAtMost, JoinsWithin};
@@ -35,7 +35,7 @@ impl<E: Kind, T: Words> Held<E, T, RingRule<E, T>> {
         })
     }
 
-    /// Takes in the other seat of the queue.
+    /// Takes in another seat of the queue, and then looks at the whole history.
     pub fn join(&mut self, other: Token<E, T>)
         requires { token_queue other ≡ token_queue self.old }
         ensures same { Joins self.old other self.new }
@@ -61,9 +61,9 @@ impl<E: Kind, T: Words> Held<E, T, RingRule<E, T>> {
 }
 
 impl<E: Kind, T: Words> Pass<E, T> {
-    /// What the pass has seen is the history of a run of the machine, whose turns it knows (`run`, `history`). So it is of
-    /// each pass of such queues, and of a pass as it stood before (`each`), of which `close` tells. It does nothing. This
-    /// project's own.
+    /// What the pass has seen is the history of a run of the machine, whose turns it knows (`run`,
+    /// `history`). Clause `each` says this of every pass of such queues, so also of the pass as it stood at
+    /// the moment of which `close` tells. It does nothing. This project's own.
     pub fn history(&self)
         ensures each { EachKnows self.now }
         ensures run { Knows (code_of self.now.token) (machine_kind E.KIND) (queue_of self.now).capacity (view self.now) }
@@ -109,7 +109,8 @@ impl<E: Kind, T: Words> Pass<E, T> {
 }
 
 impl<'a, E: Kind, T: Words> Producer<'a, E, T> {
-    /// The same of the guard's pass. It does nothing. This project's own.
+    /// What the guard's pass has seen is the history of a run of the machine, whose turns it knows. It does
+    /// nothing. This project's own.
     pub fn history(&self)
         ensures run { Knows (code_of self.now.token) (machine_kind E.KIND) (producer_queue self.now).capacity (producer_view self.now) }
         ensures history { HasHistory (code_of self.now.token) E.KIND (producer_queue self.now).capacity (producer_view self.now) }
@@ -117,7 +118,7 @@ impl<'a, E: Kind, T: Words> Producer<'a, E, T> {
         let _ = &self.token;
     }
 
-    /// Takes in a pass of the queue, as a pass does. At most two steps. This project's own.
+    /// Takes in a pass of the queue, as `join` of a pass does. At most two steps. This project's own.
     pub fn join(&mut self, other: Pass<E, T>)
         requires { queue_of other ≡ producer_queue self.old }
         ensures same { ProducerJoins self.old other self.new }
@@ -129,7 +130,8 @@ impl<'a, E: Kind, T: Words> Producer<'a, E, T> {
 }
 
 impl<'a, E: Kind, T: Words> Consumer<'a, E, T> {
-    /// The same of the guard's pass. It does nothing. This project's own.
+    /// What the guard's pass has seen is the history of a run of the machine, whose turns it knows. It does
+    /// nothing. This project's own.
     pub fn history(&self)
         ensures run { Knows (code_of self.now.token) (machine_kind E.KIND) (consumer_queue self.now).capacity (consumer_view self.now) }
         ensures history { HasHistory (code_of self.now.token) E.KIND (consumer_queue self.now).capacity (consumer_view self.now) }
@@ -137,7 +139,7 @@ impl<'a, E: Kind, T: Words> Consumer<'a, E, T> {
         let _ = &self.token;
     }
 
-    /// Takes in a pass of the queue, as a pass does. At most two steps. This project's own.
+    /// Takes in a pass of the queue, as `join` of a pass does. At most two steps. This project's own.
     pub fn join(&mut self, other: Pass<E, T>)
         requires { queue_of other ≡ consumer_queue self.old }
         ensures same { ConsumerJoins self.old other self.new }

@@ -1,4 +1,4 @@
-//! How all words of a queue are read, while others may still step.
+//! How a `close` reads all words of a queue while others may still step.
 ghost use Rattle.std.specs.Prelude.{◌≡◌, ◌+◌, ◌<◌, ◌^◌, length, IfOk, IfErr};
 ghost use Rattle.steps.specs.declared.enums.UniqueIndexCreationError.TheVariants.{NoMemory};
 ghost use Rattle.model.specs.Coding.{coding_by};
@@ -16,7 +16,7 @@ use steps::queues::ring::{CONSUMER, FIRST_CELL, PRODUCER, READ, WRITE};
 use steps::words::Words;
 
 impl<E: Kind, T: Words> Held<E, T, RingRule<E, T>> {
-    /// Loads one word, which shows the whole history as it stands there.
+    /// Loads one word. From then on the seat knows the history up to this load.
     pub(crate) fn read(&mut self, word: usize) -> u64
         requires { word < 4 + words_in_cells T.WORDS E.KIND (token_queue self.old).capacity }
         ensures queue { token_queue self.new ≡ token_queue self.old }
@@ -32,7 +32,7 @@ impl<E: Kind, T: Words> Held<E, T, RingRule<E, T>> {
         self.seated.look::<Brand>(word)
     }
 
-    /// Loads each word of the cells into its place: one load for each.
+    /// Loads each word of the cells, and writes it into `words` at the same place. One load for each.
     pub(crate) fn read_cells(&mut self, words: &mut Vec<u64>)
         requires long { length words.old.items ≡ 4 + words_in_cells T.WORDS E.KIND (token_queue self.old).capacity }
         requires all { MissesNothing (token_view self.old) }
@@ -49,9 +49,9 @@ impl<E: Kind, T: Words> Held<E, T, RingRule<E, T>> {
         }
     }
 
-    /// Returns the words, `count` of them, of the list that the queue is in the end. It takes three loads, and one for
-    /// each word of the cells. If something was published between the first load and the last, it loads all but the
-    /// first again.
+    /// Returns the `count` words of the list that the queue is at one moment of the call. It takes three
+    /// loads, and one for each word of the cells. If something was published between the first load and the
+    /// last, it loads all but the first again.
     pub(crate) fn last_words(&mut self, alloc: Global, count: usize) -> Result<Vec<u64>, AllocError>
         requires { count ≡ 4 + words_in_cells T.WORDS E.KIND (token_queue self.old).capacity }
         ensures { IfOk result (λ words. LastSeen (token_queue self.old).capacity self.old words.items) }
@@ -75,7 +75,7 @@ impl<E: Kind, T: Words> Held<E, T, RingRule<E, T>> {
 }
 
 impl<E: Kind, T: Words> Ring<E, T> {
-    /// Those words, as a queue ends with this pass.
+    /// Returns the words that `last_words` of this pass's seat returns, where a queue ends.
     pub(crate) fn last_words(
         &self,
         pass: Pass<E, T>,

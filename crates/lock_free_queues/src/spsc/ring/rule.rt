@@ -1,4 +1,5 @@
-//! The rule of a queue's table: it is a machine of its kind, and one word more.
+//! The rule of a queue's table. Its words are those of the machine of its kind, and one
+//! word more behind them.
 ghost use Rattle.model.specs.Coding.{coding_by};
 ghost use Rattle.model.specs.declared.families.queues.QueueKind.{QueueKind};
 ghost use Rattle.model.specs.declared.families.queues.QueueKind.TheVariants as queues;
@@ -9,7 +10,7 @@ use std::marker::PhantomData;
 use steps::words::Words;
 use threaded::driver::rule::Rule;
 
-/// Which queue of the model it is, as a type.
+/// A type for each kind of queue of the model.
 pub trait Kind {
     ghost KIND: { QueueKind };
 }
@@ -35,14 +36,14 @@ impl Kind for Overflowing {
     ghost KIND = { queues.Overflow };
 }
 
-/// What a queue is made with, and so its key. It has its capacity, and after how many pushes and pops it opens.
+/// The key of a queue's table: its capacity, and the number of pushes and pops after which it opens.
 #[derive(Clone, Copy)]
 pub struct Origin {
     pub capacity: u64,
     pub position: u64,
 }
 
-/// The rule.
+/// The rule of a queue's table: its views are those of one history of the machine of the kind E.
 pub struct RingRule<E, T> {
     of: PhantomData<(E, T)>,
 }

@@ -1,4 +1,4 @@
-//! The push and the pop of `steps`, which a seat drives at a queue that has a capacity.
+//! The push and the pop of `steps`, driven at a seat of an overflowing queue with a capacity above 0.
 ghost use Rattle.std.specs.Prelude.{◌≡◌, ◌⊎◌, ◌<◌, IfSome, IfNone};
 ghost use Rattle.steps.specs.declared.queues.roles.Role.{Role};
 ghost use Rattle.steps.specs.declared.queues.roles.Role.TheVariants as roles;

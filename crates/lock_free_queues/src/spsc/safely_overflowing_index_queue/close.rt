@@ -1,7 +1,7 @@
-//! How a queue ends: `close` returns the queue of one caller that it is at one moment. Each number that the pass has
-//! seen published waits there at its place, or lies before with what was taken out. If one more than the capacity
-//! waits, as in the middle of a push, the oldest is left out. With the whole share nothing came after what the pass had
-//! seen, and none is left out.
+//! How an overflowing queue ends. `close` returns the numbers that waited at one moment of the call, as a
+//! queue of one caller. If one more than the capacity waits, in the middle of a push, the oldest is left out.
+//! Each number that the pass has seen published stands in this list, was left out or was taken out. With the
+//! whole share nothing was published after what the pass had seen, and none is left out.
 ghost use Rattle.std.specs.Prelude.{◌≡◌, IfOk, IfErr};
 ghost use Rattle.steps.specs.declared.enums.UniqueIndexCreationError.TheVariants.{NoMemory};
 ghost use Rattle.model.specs.declared.event.Item.TheVariants.{Index};
@@ -29,7 +29,8 @@ impl SafelyOverflowingIndexQueue {
     {
         let capacity = self.capacity;
         let mut words = self.last_words(pass, FIRST_CELL + (capacity as usize + 1))?;
-        // While a push is under way one number more than the capacity can wait. The oldest is on its way out then.
+        // While a push is under way one number more than the capacity can wait. Then the list
+        // leaves the oldest out.
         let write = words.as_slice()[WRITE];
         let read = words.as_slice()[READ];
         let oldest = write.saturating_sub(capacity as u64);

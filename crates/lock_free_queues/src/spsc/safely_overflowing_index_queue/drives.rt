@@ -1,4 +1,5 @@
-//! What a push and a pop say of the views at their steps. These types are for the proofs alone.
+//! A type for the push and one for the pop. It says what the seat's view knows while the call is under way
+//! and once it has ended. These types are for the proofs alone.
 ghost use Rattle.model.specs.Coding.{one_word};
 ghost use Rattle.model.specs.declared.turn.Kind.TheVariants as kinds;
 
@@ -6,7 +7,7 @@ use history::view::View;
 use steps::queues::overflow::{Pop, Push};
 use threaded::driver::rule::Drives;
 
-/// Pushing.
+/// Pushing a number into an overflowing queue.
 pub struct Pushes;
 
 impl Drives<View<u64>, Push> for Pushes {
@@ -18,7 +19,7 @@ impl Drives<View<u64>, Push> for Pushes {
     ghost ends = { λ v. Over one_word kinds.Overflow (pushes_over v) };
 }
 
-/// Popping.
+/// Popping a number from an overflowing queue.
 pub struct Pops;
 
 impl Drives<View<u64>, Pop> for Pops {

@@ -1,4 +1,5 @@
-//! The calls of those that have a role. Without capacity no step is taken, and nothing changes.
+//! The push and the pop of the guards of an overflowing queue. At capacity 0 they take no
+//! step, and nothing changes.
 ghost use Rattle.std.specs.Prelude.{◌≡◌, ◌+◌, ◌<◌, ◌≤◌, Some, None, IfSome, IfNone};
 ghost use Rattle.model.specs.declared.event.Item.TheVariants.{Index};
 ghost use Rattle.history.specs.Steps.{TakesAtMost, TakesAlone};
@@ -10,9 +11,10 @@ use super::{Consumer, Producer};
 use std::sync::Wait;
 
 impl<'a> Producer<'a> {
-    /// Appends a number, and returns the oldest one if the queue is full, else None. So at most the capacity waits once it
-    /// has returned. The number itself comes back, and nothing is published, without capacity or where the write position
-    /// is u64::MAX. At most 6 atomic steps. After `Producer::push` of the Rust crate.
+    /// Appends a number, and returns the oldest one if the queue is full, else None. At most the
+    /// capacity waits once it has returned. The number itself comes back, and nothing is published,
+    /// without capacity or where the write position is u64::MAX. At most 6 atomic steps. After
+    /// `Producer::push` of the Rust crate.
     pub fn push(&mut self, value: u64) -> Option<u64>
         ensures same { SameProducerByCapacity self.old self.new }
         ensures aside { (producer_view self.new).aside ≤ (producer_view self.old).aside + 1 }

@@ -30,8 +30,9 @@ impl SafelyOverflowingIndexQueue {
         SafelyOverflowingIndexQueue::of_numbers(alloc, capacity, 1, 0)
     }
 
-    /// Makes an empty queue with both positions at `position`, and its first pass. Its history begins with so many
-    /// pushes and pops of the number 0; without capacity there are none. Refused as `new`. This project's own.
+    /// Makes an empty queue with both positions at `position`, and its first pass. Its history begins
+    /// with `position` pushes and pops of the number 0; without capacity there are none. Refused as
+    /// `new`. This project's own.
     pub fn new_at(
         alloc: Global,
         capacity: usize,

@@ -1,7 +1,7 @@
-//! The calls on a bit set: the calls of `steps`, driven. `reset_next` looks from the reset position to the greatest
-//! place, and then from 0 on. The position is 0 at first, and a call that resets a place stores the one after it, as
-//! its last step: if two calls overlap, the later store stands, whichever place it is of. A call that returns None
-//! leaves the position.
+//! The calls on the places of a bit set. `reset_next` looks from the reset position to the greatest place,
+//! and then from 0 on. The position is 0 at first, and a call that resets a place stores the one after it, as
+//! its last step: if two calls overlap, the later store stands, whichever place it is of. A call that returns
+//! None leaves the position.
 ghost use Rattle.std.specs.Prelude.{◌≡◌, ◌+◌, ◌<◌, ◌^◌, ℕ, IfSome, IfNone, IsTrue, IsFalse};
 ghost use Rattle.steps.specs.Bits.Words.{elements, has_flag as flag_of};
 ghost use Rattle.model.specs.declared.turn.Kind.TheVariants as kinds;
@@ -31,7 +31,7 @@ use steps::copied::OneWord;
 use steps::routine::Routine;
 use threaded::driver::seated::Seated;
 
-/// Calls the closure with the place where it stood.
+/// Calls the closure with the place if its flag was set (`stood`).
 #[inline(always)]
 fn call_where<F: FnMut(usize)>(visit: &mut F, stood: bool, place: u64)
     requires { IsTrue stood → F.pre visit.old place }
@@ -43,7 +43,8 @@ fn call_where<F: FnMut(usize)>(visit: &mut F, stood: bool, place: u64)
     }
 }
 
-/// Calls the closure with each of 64 places from `first` on whose flag was found, ascending.
+/// Calls the closure with each place whose flag is set in the word `found`, ascending. The places are the 64
+/// from `first` on.
 #[inline(always)]
 fn visit_word<F: FnMut(usize)>(visit: &mut F, found: u64, first: u64)
     requires small { first + 64 < 2 ^ 64 }
@@ -53,7 +54,7 @@ fn visit_word<F: FnMut(usize)>(visit: &mut F, found: u64, first: u64)
 {
     let mut left = found;
     for bit in 0..64u64 {
-        // It ends at the last flag.
+        // behind the last flag that is set nothing is left to do
         if left == 0 {
             return;
         }
@@ -63,7 +64,8 @@ fn visit_word<F: FnMut(usize)>(visit: &mut F, found: u64, first: u64)
     }
 }
 
-/// Resets all places, and calls the closure with each one that stood, after the step that reset it.
+/// Clears all flags, and calls the closure with each place whose flag was set, after the
+/// step that cleared it.
 fn clear_all<F: FnMut(usize)>(
     seated: &mut Seated<View<u64>, u32, SetRule<Flags>>,
     capacity: u32,

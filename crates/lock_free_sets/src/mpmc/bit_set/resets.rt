@@ -1,4 +1,5 @@
-//! The reset of the next place at a seat. The loads of flags have a loop of their own.
+//! The call `reset_next` at a seat. Its steps that look for a flag that is set have a loop of
+//! their own (`pass_clear`).
 ghost use Rattle.std.specs.Prelude.{◌≡◌, ℕ};
 ghost use Rattle.steps.specs.Bits.BitSet.{reset_after};
 ghost use Rattle.steps.specs.declared.bits.bit_set.ResetNextStage.TheVariants as stages;
@@ -29,8 +30,8 @@ fn step_reset(seat: &mut Seat, call: ResetNext) -> After<ResetNext, Option<u64>>
     seat.step::<ResetNext, ResetsNext>(call, &(), &mut ())
 }
 
-/// Takes the steps of the call that load elements, from this place on, past those that are clear. Their loop keeps the
-/// number of places passed alone.
+/// Takes the steps of the call that look at flags, once `first` places are passed. It returns where a flag is
+/// set, or the call has ended. The loop carries only the number of places passed.
 #[inline(always)]
 fn pass_clear(
     seat: &mut Seat,
@@ -67,7 +68,7 @@ fn pass_clear(
     }
 }
 
-/// Takes steps of the call.
+/// Takes all further steps past clear flags if the call stands at one of them, else one step.
 #[inline(always)]
 fn reset_turn(seat: &mut Seat, call: ResetNext) -> After<ResetNext, Option<u64>>
     requires board { IsBoard seat.old }
@@ -85,7 +86,8 @@ fn reset_turn(seat: &mut Seat, call: ResetNext) -> After<ResetNext, Option<u64>>
     }
 }
 
-/// Takes the steps of the call that it has if nobody else changes a flag. Here nothing can wait.
+/// Takes the steps of the call up to its end if nobody else changes a flag meanwhile. Its only loop passes
+/// clear flags, each place once.
 #[inline(always)]
 fn reset_once(seat: &mut Seat, first: ResetNext) -> After<ResetNext, Option<u64>>
     requires board { IsBoard seat.old }
@@ -112,7 +114,7 @@ fn reset_once(seat: &mut Seat, first: ResetNext) -> After<ResetNext, Option<u64>
     step_reset(seat, behind)
 }
 
-/// Takes the other steps of a call that has gone on.
+/// Takes the further steps of a call that did not end in `reset_once`, since another thread changed a flag.
 fn reset_on(seat: &mut Seat, rt: &impl Wait, first: ResetNext) -> Option<u64>
     requires board { IsBoard seat.old }
     requires at { ResetMay (seen seat.old) first }
@@ -131,7 +133,7 @@ fn reset_on(seat: &mut Seat, rt: &impl Wait, first: ResetNext) -> Option<u64>
     unreachable!()
 }
 
-/// Takes all steps of the call.
+/// Takes all steps of the call, from its first one on.
 #[inline(always)]
 pub(super) fn reset_all(seat: &mut Seat, rt: &impl Wait, first: ResetNext) -> Option<u64>
     requires board { IsBoard seat.old }

@@ -1,4 +1,4 @@
-//! The calls on a counting bit set: the calls of `steps`, driven.
+//! The calls on the places of a counting bit set: `set`, `count` and `reset_all`.
 ghost use Rattle.std.specs.Prelude.{◌≡◌, ◌+◌, ◌-◌, ◌^◌, ◌<◌, ℕ};
 ghost use Rattle.model.specs.declared.turn.Kind.TheVariants as kinds;
 ghost use Rattle.threaded.specs.Seats.{seen, IsSame, IsAt};
@@ -24,7 +24,7 @@ use steps::copied::OneWord;
 use steps::routine::Routine;
 use threaded::driver::seated::Seated;
 
-/// Calls the closure with a place and its count, where that is above 0.
+/// Calls the closure with a place and its count if the count is above 0.
 fn call_where<F: FnMut(BitState)>(visit: &mut F, place: u32, count: u64)
     requires { 0 < count → count < 2 ^ 64 → F.pre visit.old (record { bit = place; count = count }) }
     ensures small { count < 2 ^ 64 }

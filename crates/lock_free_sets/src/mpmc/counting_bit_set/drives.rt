@@ -1,4 +1,5 @@
-//! What the calls on one count say of the views at their step. These types are for the proofs alone.
+//! A type for each call on one count. It says what the seat's view knows while the call is under way and once
+//! it has ended. These types are for the proofs alone.
 ghost use Rattle.model.specs.Coding.{one_word};
 ghost use Rattle.model.specs.declared.turn.Kind.TheVariants as kinds;
 

@@ -14,7 +14,7 @@ use super::rule::{Kind, SetRule};
 use history::view::View;
 use threaded::driver::seated::Seated;
 
-/// One look at a word.
+/// Empties a set of no place: it takes one look at a word, and the call stands in the history.
 pub(crate) fn empty_none<E: Kind>(seated: &mut Seated<View<u64>, u32, SetRule<E>>, capacity: u32)
     requires table { IsAt (λ (key : ℕ). words_of E.KIND key + 1) (λ (key : ℕ). key) (λ (v : Views ℕ). v.capacity) seated.old }
     requires idle { IsIdle capacity (seen seated.old) }

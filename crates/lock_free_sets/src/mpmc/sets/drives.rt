@@ -1,4 +1,5 @@
-//! What the calls that both sets have say of the views at their steps. These types are for the proofs alone.
+//! A type for each call that both sets have. It says what the seat's view knows while the call is under way
+//! and once it has ended. These types are for the proofs alone.
 ghost use Rattle.model.specs.Coding.{one_word};
 ghost use Rattle.lock_free_sets.specs.Sets.Kinds.{machine_kind};
 
@@ -8,7 +9,7 @@ use std::marker::PhantomData;
 use steps::bits::reset_all::ResetAll;
 use threaded::driver::rule::{Drives, Tells};
 
-/// Emptying the words.
+/// Emptying the words, which is `reset_all` of a set with a place.
 pub struct Empties<E> {
     of: PhantomData<E>,
 }

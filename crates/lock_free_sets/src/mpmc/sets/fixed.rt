@@ -5,7 +5,7 @@ use super::rule::Kind;
 use super::{FixedSize, Set};
 use std::ops::Deref;
 
-/// The calls are those of the set that it has.
+/// The calls of a set whose type names its capacity are those of the set that it has.
 impl<E: Kind, const CAPACITY: usize> Deref for FixedSize<E, CAPACITY> {
     ghost use Rattle.lock_free_sets.specs.Sets.Calls.{inner, capacity_of};
 

@@ -1,4 +1,4 @@
-//! How a set is made.
+//! How a bit set or a counting bit set is made, with its first pass.
 ghost use Rattle.std.specs.Prelude.{◌≡◌, ◌⊎◌, ◌-◌, ◌^◌, None, Some, [], IfOk, IfErr, OnOk};
 ghost use Rattle.steps.specs.Enums.{capacity_refusal};
 ghost use Rattle.steps.specs.declared.enums.UniqueIndexCreationError.TheVariants.{NoMemory};
@@ -14,7 +14,7 @@ use steps::enums::{UniqueIndexCreationError, capacity_refusal};
 use threaded::driver::seated::Seated;
 
 impl<E: Kind> Set<E> {
-    /// A set with all words 0, and its first pass.
+    /// Makes a set all of whose words are 0, and its first pass.
     fn of(alloc: Global, capacity: u32) -> Result<(Set<E>, Pass<E>), AllocError>
         ensures pass { IfOk result (λ r. IsPassOf r.0 r.1) }
         ensures capacity { IfOk result (λ r. capacity_of r.0 ≡ capacity) }

@@ -1,4 +1,4 @@
-//! How passes are made of one another.
+//! How a pass of a set of either kind is split off another one, or joined to it.
 ghost use Rattle.std.specs.Prelude.{◌≡◌, IfSome, IfNone};
 ghost use Rattle.model.specs.Coding.{one_word};
 ghost use Rattle.history.specs.History.{Knows};

@@ -1,5 +1,5 @@
-//! The rule of a set's table: it is a machine of its kind. The words are those of `steps::bits`, and one more, since a pass
-//! is split at a word, and counts of no place have none.
+//! The rule of the table of a bit set or a counting bit set. Its words are those of the machine of its kind,
+//! and one word more: a split of a pass loads a word, and counts of no place have none.
 ghost use Rattle.std.specs.Prelude.{◌≡◌, ◌+◌, ◌≤◌};
 ghost use Rattle.lock_free_sets.specs.Sets.Kinds as kinds;
 ghost use Rattle.lock_free_sets.specs.Sets.Kinds.{SetKind, words_of};
@@ -10,17 +10,17 @@ use std::marker::PhantomData;
 use steps::bits::flags::{FIRST_ELEMENT, elements};
 use threaded::driver::rule::Rule;
 
-/// Which of the two sets it is, as a type.
+/// A type for each of the two kinds, bit sets and counting bit sets.
 pub trait Kind {
     ghost KIND: { SetKind };
 
-    /// How many words it has, without the one more.
+    /// How many words the machine of a set of this kind has, one less than its table.
     fn words(capacity: u32) -> usize
         ensures number { result ≡ words_of KIND capacity }
         ensures few { result ≤ capacity + 1 };
 }
 
-/// The set of flags, which stand 64 to a word.
+/// The kind of a bit set, whose flags stand 64 to a word.
 pub struct Flags;
 
 impl Kind for Flags {
@@ -31,7 +31,7 @@ impl Kind for Flags {
     }
 }
 
-/// The set of counts.
+/// The kind of a counting bit set, which has a word for each count.
 pub struct Counts;
 
 impl Kind for Counts {
@@ -42,7 +42,7 @@ impl Kind for Counts {
     }
 }
 
-/// The rule, for the capacity that is the key.
+/// The rule of a set's table, whose key is the capacity. Its views are those of one history of the machine.
 pub struct SetRule<E> {
     of: PhantomData<E>,
 }

@@ -1,4 +1,4 @@
-//! The calls on a set by a pass: the calls of `steps`, driven.
+//! The calls on a unique index set by a pass.
 ghost use Rattle.std.specs.Prelude.{◌≡◌, ◌+◌, max, IfOk, IfErr};
 ghost use Rattle.history.specs.Held.{Holds};
 ghost use Rattle.lock_free_sets.specs.Unique.Calls.{AcquireDone, ReleaseDone, ReleaseOrLockDone, BorrowedDone, IsLockedDone};

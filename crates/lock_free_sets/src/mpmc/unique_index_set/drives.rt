@@ -1,4 +1,5 @@
-//! What the calls say of the views at their steps.
+//! A type for each call of a unique index set. It says what the seat's view knows while the call is under way
+//! and once it has ended.
 ghost use Rattle.model.specs.Coding.{one_word};
 ghost use Rattle.model.specs.declared.turn.Kind.TheVariants as kinds;
 

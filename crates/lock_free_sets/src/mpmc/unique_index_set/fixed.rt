@@ -11,7 +11,7 @@ use std::alloc::Global;
 use std::ops::Deref;
 use steps::enums::UniqueIndexCreationError;
 
-/// The calls are those of the set that it has.
+/// The calls of a set whose type names its greatest capacity are those of the set that it has.
 impl<const CAPACITY: usize> Deref for FixedSizeUniqueIndexSet<CAPACITY> {
     ghost use Rattle.lock_free_sets.specs.UniqueIndexSet.{set_in};
 

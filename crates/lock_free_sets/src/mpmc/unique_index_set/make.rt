@@ -1,4 +1,4 @@
-//! How a set is made.
+//! How a unique index set is made, with its first pass.
 ghost use Rattle.std.specs.Prelude.{◌≡◌, ◌⊎◌, ◌-◌, ◌^◌, ◌<◌, None, Some, [], IfOk, IfErr, OnOk};
 ghost use Rattle.steps.specs.declared.enums.UniqueIndexCreationError.TheVariants.{NoMemory};
 ghost use Rattle.threaded.specs.Shares.{all_shares};
@@ -12,11 +12,11 @@ use std::alloc::{AllocError, Global};
 use steps::enums::{UniqueIndexCreationError, capacity_refusal};
 use threaded::driver::seated::Seated;
 
-/// The greatest capacity of a set.
+/// The greatest capacity of a set, 2^24 - 2.
 pub(crate) const GREATEST: u64 = 0xff_fffe;
 
 impl UniqueIndexSet {
-    /// A set of which no index is out, and its first pass.
+    /// Makes a set all of whose indices are free, and its first pass.
     fn of(alloc: Global, capacity: u32) -> Result<(UniqueIndexSet, Pass), AllocError>
         requires some { 0 < capacity }
         requires few { capacity < 2 ^ 24 - 1 }

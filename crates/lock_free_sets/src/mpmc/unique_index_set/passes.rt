@@ -1,4 +1,4 @@
-//! How passes are made of one another.
+//! How a pass of a unique index set is split off another one, or joined to it.
 ghost use Rattle.std.specs.Prelude.{◌≡◌, ℕ, IfSome, IfNone};
 ghost use Rattle.lock_free_sets.specs.Unique.Held.{HoldsNothing};
 ghost use Rattle.history.specs.Held.{Holds};

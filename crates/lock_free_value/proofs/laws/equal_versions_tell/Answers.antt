@@ -1,4 +1,5 @@
--- The law `equal_versions_tell` (src/laws.rt): where two looks at the version answer the same, nothing was stored between their ends.
+-- The law `equal_versions_tell` (src/laws.rt): where two calls of `version` answer the same, nothing
+-- was stored between their ends.
 use Rattle.lock_free_value.proofs.Versions.{equal_tell}
 use Rattle.lock_free_value.proofs.laws.equal_versions_tell.Goals as goal
 

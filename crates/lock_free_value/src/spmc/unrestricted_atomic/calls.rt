@@ -1,4 +1,5 @@
-//! The calls that are driven at a seat.
+//! The calls of a value at a seat, but the load. They take the role, give it back, store, and look at the
+//! role and the version.
 ghost use Rattle.std.specs.Prelude.{◌≡◌, ◌+◌, IsTrue, IsFalse};
 ghost use Rattle.history.specs.Steps.{TakesAtMost};
 ghost use Rattle.history.specs.Value.{HasProducer};
@@ -69,7 +70,7 @@ impl<T: Words> Held<T, ValueRule<T>> {
             .drive::<LookRole, LooksAtProducer>(call, &(), &mut ())
     }
 
-    /// Returns the version.
+    /// Returns the version, by one load.
     pub fn see_version(&mut self) -> u64
         ensures same { IsSame self.old self.new }
         ensures answer { HasSeenVersion result (seen self.old) (seen self.new) }

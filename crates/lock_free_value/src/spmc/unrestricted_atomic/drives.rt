@@ -1,4 +1,5 @@
-//! What the calls say of the views at their steps. These types are for the proofs alone.
+//! A type for each call of a value. It says what the seat's view knows while the call is under way and once
+//! it has ended. These types are for the proofs alone.
 ghost use Rattle.model.specs.Coding.{coding_by};
 ghost use Rattle.model.specs.declared.turn.Kind.TheVariants as kinds;
 
@@ -51,7 +52,7 @@ impl<T: Words + Drop> Drives<View<T>, Store<T>> for Stores<T> {
         (stores_value (coding_by T.Words) value) };
 }
 
-/// Loading a value by way of a room R.
+/// Loading a value into a room of the type R.
 pub struct Loads<T, R> {
     of: PhantomData<(T, R)>,
 }

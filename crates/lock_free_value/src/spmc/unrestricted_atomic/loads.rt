@@ -1,4 +1,5 @@
-//! The load at a seat, by way of a room. The loads of a cell have a loop of their own.
+//! The load of a value at a seat. Its words are read into a room, a buffer of the call, and the steps that
+//! read them have a loop of their own (`copy_words`).
 ghost use Rattle.std.specs.Prelude.{◌≡◌, ◌≤◌, ◌+◌, ℕ, replicate};
 ghost use Rattle.history.specs.Steps.{TakesAlone};
 ghost use Rattle.steps.specs.Atomic.{at_load, first_load, load_after};
@@ -44,7 +45,9 @@ fn step_load<T: Words, R: Room<T> + Drop>(
     seat.step::<Load<T, R>, Loads<T, R>>(call, &(), room)
 }
 
-/// Takes the steps of the load that load the cell, from this place on. Their loop keeps no more than their stage does.
+/// Takes the steps that load words of a cell, from the place `first` on. It returns where the load has
+/// ended or has come to another stage. The loop carries what the stage `LoadsCell` has: the version,
+/// the cell and the place.
 #[inline(always)]
 fn copy_words<T: Words, R: Room<T> + Drop>(
     seat: &mut Seat<T>,
@@ -92,7 +95,7 @@ fn copy_words<T: Words, R: Room<T> + Drop>(
     }
 }
 
-/// Takes steps of the load.
+/// Takes all further steps of this cell if the load stands at a word of a cell, else one step.
 #[inline(always)]
 fn load_next<T: Words, R: Room<T> + Drop>(
     seat: &mut Seat<T>,
@@ -114,7 +117,7 @@ fn load_next<T: Words, R: Room<T> + Drop>(
     }
 }
 
-/// Takes the steps of the load, from its first one on.
+/// Takes all steps of the load. It may load a cell again for as long as others store.
 #[inline(always)]
 fn load_all<T: Words, R: Room<T> + Drop>(seat: &mut Seat<T>, rt: &impl Wait, room: &mut R) -> ()
     requires board { IsBoard T.WORDS seat.old }
@@ -142,7 +145,7 @@ impl<T: Words> Held<T, ValueRule<T>> {
         ensures role { Moved 0 0 (seen self.old).made (seen self.new).made }
         ensures steps { TakesAlone (2 + T.WORDS) (1 + T.WORDS) (seen self.old) (seen self.new) }
     {
-        // a room is filled with zeros: the smallest that the words fit in
+        // the room is the smallest of three buffers that the words fit in, filled with zeros
         if T::WORDS <= 2 {
             self.load_by(rt, Buffer::<2> { words: [0; 2] })
         } else if T::WORDS <= 16 {
@@ -152,7 +155,7 @@ impl<T: Words> Held<T, ValueRule<T>> {
         }
     }
 
-    /// Loads by way of this room.
+    /// Loads the value into this room, which is all zeros, and returns what its words stand for.
     #[inline(always)]
     pub fn load_by<R: Room<T> + Drop>(&mut self, rt: &impl Wait, room: R) -> T
         requires room { (n : ℕ) × (T.WORDS ≤ n) × (n ≤ 128) × (R.words_in room ≡ replicate n 0) }

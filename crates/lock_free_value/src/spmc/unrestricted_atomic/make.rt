@@ -1,4 +1,4 @@
-//! How a value is made.
+//! How an `UnrestrictedAtomic` is made, with its first pass.
 ghost use Rattle.std.specs.Prelude.{◌≡◌, IfOk, IfErr, if◌then◌else◌, nat_lt};
 ghost use Rattle.steps.specs.declared.enums.UniqueIndexCreationError.TheVariants.{NoMemory};
 ghost use Rattle.history.specs.ValueOpened.{opened_view};
@@ -13,14 +13,15 @@ use steps::enums::UniqueIndexCreationError;
 use steps::words::Words;
 use threaded::driver::seated::Seated;
 
-/// The version at which a table opens: there is one store at least.
+/// The version at which a table opens: at least 2, since a value opens with one store.
 fn opening_version(version: u64) -> u64
     ensures { result ≡ (if nat_lt version 2 then 2 else version) }
 {
     if version < 2 { 2 } else { version }
 }
 
-/// A word of the first cell: who has stored the value once has not written it.
+/// A word of the first cell as the table opens. It is 0 at version 2, since the first store
+/// writes the second cell.
 fn first_word(version: u64, word: u64) -> u64
     ensures { result ≡ (if nat_lt 2 version then word else 0) }
 {
@@ -28,7 +29,7 @@ fn first_word(version: u64, word: u64) -> u64
 }
 
 impl<T: Words> UnrestrictedAtomic<T> {
-    /// A value at this version, and its first pass.
+    /// Makes a value at this version, and its first pass, with the words that its stores have left.
     fn of(
         alloc: Global,
         value: T,
@@ -69,8 +70,8 @@ impl<T: Words> UnrestrictedAtomic<T> {
         UnrestrictedAtomic::new_at(alloc, value, 1)
     }
 
-    /// Makes a value at this version, and its first pass. Its history begins with so many stores of the value; a
-    /// version below 2 is 2, since there is one store at least. Refused as `new`. This project's own.
+    /// Makes a value at this version, and its first pass. Its history begins with `version` - 1 stores of the
+    /// value. A version below 2 is taken for 2, which is one store. Refused as `new`. This project's own.
     pub fn new_at(
         alloc: Global,
         value: T,

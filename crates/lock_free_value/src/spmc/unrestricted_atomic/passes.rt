@@ -1,4 +1,4 @@
-//! How passes are made of one another, and a look.
+//! How a pass of a value is split off another one, joined to it, and looks at the history.
 ghost use Rattle.std.specs.Prelude.{◌≡◌, IfSome, IfNone};
 ghost use Rattle.model.specs.declared.turn.Kind.TheVariants as kinds;
 ghost use Rattle.history.specs.History.{IsBeginning, Knows};
@@ -30,7 +30,7 @@ impl<T: Words> Held<T, ValueRule<T>> {
         Some(Held { seated })
     }
 
-    /// Takes in the other seat of the value.
+    /// Takes in another seat of the value, and then looks at the whole history.
     pub fn join(&mut self, other: Token<T>)
         requires { table_of other ≡ table_of self.old }
         ensures same { Joins self.old other self.new }
@@ -97,7 +97,8 @@ impl<T: Words> Pass<T> {
 }
 
 impl<'a, T: Words> Producer<'a, T> {
-    /// The same of the guard's pass. It does nothing. This project's own.
+    /// What the guard's pass has seen is the history of a run of the machine, whose turns it knows. It does
+    /// nothing. This project's own.
     pub fn history(&self)
         ensures run { Knows (code_of self.now.token) kinds.Atomic 1 (producer_view self.now) }
         ensures history { HasHistory (code_of self.now.token) (producer_view self.now) }

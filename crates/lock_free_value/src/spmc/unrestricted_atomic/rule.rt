@@ -1,4 +1,4 @@
-//! The rule of a value's table: it is a machine of its kind, and one word more.
+//! The rule of a value's table: its words are those of the machine `Atomic`, and one word more behind them.
 ghost use Rattle.model.specs.Coding.{coding_by};
 ghost use Rattle.model.specs.declared.turn.Kind.TheVariants as kinds;
 
@@ -8,14 +8,14 @@ use std::marker::PhantomData;
 use steps::words::Words;
 use threaded::driver::rule::Rule;
 
-/// What a table is made with, and so its key: the value that it opens with, and at which version.
+/// The key of a table: the value with which it opens, and the version at which it opens.
 #[derive(Clone, Copy)]
 pub struct Origin<T> {
     pub value: T,
     pub version: u64,
 }
 
-/// The rule.
+/// The rule of the table of an `UnrestrictedAtomic`: its views are those of one history of the machine.
 pub struct ValueRule<T> {
     of: PhantomData<T>,
 }
@@ -29,7 +29,7 @@ impl<T: Words> TableRule<(), View<T>, Origin<T>> for ValueRule<T> {
     ghost first = { λ origin. opened_view origin.value T.WORDS origin.version };
 }
 
-/// A value has no capacity: its machine has 1.
+/// A value has no capacity of its own: that of its machine is 1.
 impl<T: Words> Rule<View<T>, Origin<T>> for ValueRule<T> {
     ghost use Rattle.std.specs.Prelude.{◌+◌, ◌*◌};
 

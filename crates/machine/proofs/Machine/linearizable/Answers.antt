@@ -8,6 +8,7 @@ use Rattle.model.proofs.Orders.{reached_kept}
 use Rattle.machine.proofs.Laws.{laws_of}
 use Rattle.machine.proofs.Machine.linearizable.Goals as goal
 
+-- turns have reached the machine, so its run keeps its promises, and so it is linearizable
 pub returns : goal.returns
 returns g c =
     let code = coding_by g.T.Words in

@@ -1,3 +1,5 @@
+-- The invariant of the loop of `Machine::nexts`: the turns of the party that were taken so far were allowed,
+-- they lead from the machine at entry to the machine now, and the run keeps its promises.
 use Rattle.std.proofs.Common.{◌≡◌, replicate}
 use Rattle.model.specs.Coding.{coding_by}
 use Rattle.model.specs.declared.turn.Turn.TheVariants.{Next}

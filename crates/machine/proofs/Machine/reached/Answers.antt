@@ -5,6 +5,7 @@ use Rattle.model.specs.Turns.{IsReached}
 use Rattle.model.specs.World.{State, trace_in}
 use Rattle.machine.proofs.Machine.reached.Goals as goal
 
+-- the machine is one that turns have reached, as the invariant of its type says
 pub returns : goal.returns
 returns g c =
     let code = coding_by g.T.Words in

@@ -1,3 +1,5 @@
+-- The invariant of the loop of `Machine::run_all`: the turns taken so far were allowed, they lead from the
+-- machine at entry to the machine now, and the run keeps its promises.
 use Rattle.std.proofs.Common.{◌≡◌, take}
 use Rattle.model.specs.Coding.{coding_by}
 use Rattle.model.specs.Turns.{after_turns, AreAllowed}

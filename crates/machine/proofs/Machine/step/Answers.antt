@@ -24,9 +24,11 @@ invariant_of-self-2 g c =
     (reached_more (trace_of (coding_by g.T.Words) c.self.inside.parts)
     c.args.turn c.in_ok-step.ensures.allowed c.self.invariant)
 
+-- the turn that was taken is one that the machine does not refuse
 pub returns-clause-allowed : goal.returns-clause-allowed
 returns-clause-allowed g c = rw (← c.self.view_is) c.in_ok-step.ensures.allowed
 
+-- the machine after the turn is the one to which the turn leads in the model
 pub returns-clause-ok : goal.returns-clause-ok
 returns-clause-ok g c = rw (← c.self.view_is) c.in_ok-step.ensures.ok
 
@@ -102,6 +104,7 @@ returns-clause-kept g c =
     in
     subst IsKept (sym c.in_ok-step.ensures.ok) turn
 
+-- where the turn is refused, the machine is as before, and its run still keeps its promises
 pub returns-in_err-step-clause-kept : goal.returns-in_err-step-clause-kept
 returns-in_err-step-clause-kept g c =
     let inside = trace_of (coding_by g.T.Words) c.self.inside.parts in

@@ -1,5 +1,6 @@
--- The law `guaranteed` (src/theorems.rt): of each call of each kind, whether it is wait-free or obstruction-free, with its constants, as
--- the table `guarantee_of` says.
+-- The law `guaranteed` (src/theorems.rt): each entry of the table `guarantee_of`, which says whether a call
+-- is wait-free or obstruction-free and with which constants, follows from the bound of steps that the kind
+-- promises for the call.
 use Rattle.model.proofs.Progress as laws
 use Rattle.machine.proofs.theorems.guaranteed.Goals as goal
 

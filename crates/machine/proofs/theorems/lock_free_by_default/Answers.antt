@@ -1,7 +1,7 @@
--- The law `lock_free_by_default` (src/theorems.rt; clauses `one_ends`, `keep_ending`, `container_ends` and `container_keeps_ending`):
--- lock-freedom of robust index sets and of containers, in runs in which no release, no remove and no recovery is in the mode
--- `LockIfLastIndex`, with the bounds `default_bound` and `default_container_bound`: as `lock_free` says of the kinds there; the second
--- clause of each says that calls go on ending.
+-- The law `lock_free_by_default` (src/theorems.rt; clauses `one_ends`, `keep_ending`, `container_ends` and
+-- `container_keeps_ending`): robust index sets and containers are lock-free in runs in which no release, no
+-- remove and no recovery is in the mode `LockIfLastIndex`, with the bounds `default_bound` and
+-- `default_container_bound`. The second clause of each says that calls go on ending.
 use Rattle.machine.proofs.LockFree as laws
 use Rattle.machine.proofs.theorems.lock_free_by_default.Goals as goal
 

@@ -1,6 +1,7 @@
--- The law `lock_free_channel` (src/theorems.rt; clauses `one_ends` and `keep_ending`): lock-freedom of loan channels, of the machines as
--- they run, with the bound `channel_bound`: wherever turns have led, and whatever turns follow, in more steps than the bound a call
--- ends, and calls go on ending as often as the steps have that bound.
+-- The law `lock_free_channel` (src/theorems.rt; clauses `one_ends` and `keep_ending`): loan channels are
+-- lock-free, as their machines run, with the bound `channel_bound`. Wherever turns have led, and
+-- whatever turns follow, in more steps than the bound a call ends, and calls go on ending as often as
+-- the steps have that bound.
 use Rattle.machine.proofs.LockFree as laws
 use Rattle.machine.proofs.theorems.lock_free_channel.Goals as goal
 

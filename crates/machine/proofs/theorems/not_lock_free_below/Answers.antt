@@ -1,6 +1,7 @@
--- The law `not_lock_free_below` (src/theorems.rt; clauses `index_queue`, `overflow`, `queue`, `value`, `bits`, `counts`, `robust` and
--- `loan`): no such bound is less than these, at so many parties, this capacity and values of one word: there is a run of so many steps
--- in which no call ends.
+-- The law `not_lock_free_below` (src/theorems.rt; clauses `index_queue`, `overflow`, `queue`, `value`,
+-- `bits`, `counts`, `robust` and `loan`): no bound that makes a kind lock-free is below the number that its
+-- clause names, at the parties and the capacity given there and with values of one word, since there is a run
+-- of that many steps in which no call ends.
 use Rattle.laws_loan.proofs.WorkedLockFree as worked_loan
 use Rattle.model.proofs.WorkedLockFree as worked
 use Rattle.machine.proofs.Rounds as rounds

@@ -7,6 +7,7 @@ use Rattle.model.specs.Parties.{put}
 use Rattle.model.proofs.Parties.{set_is_put}
 use Rattle.machine_parts.proofs.parts.enter.Goals as goal
 
+-- where memory for the new call is refused, the party's old call still stands in its place
 pub returns-then-not-keep-clause-latest_stays : goal.returns-then-not-keep-clause-latest_stays
 returns-then-not-keep-clause-latest_stays g c stays =
     (c.get_mut.follows.holds c.in-Some.seat.now).0

@@ -1,4 +1,5 @@
--- So many steps were taken, one after another, and the counts stay small.
+-- The invariant of the loop of `take_steps`: `taken` steps of the party's call lead from the parts at entry
+-- to the parts now, and the counts are at most the turns.
 use Rattle.std.proofs.Common.{◌+◌, ◌≤◌}
 use Rattle.model.specs.Coding.{coding_by}
 use Rattle.model.specs.Small.{HasSmallCounts}

@@ -4,11 +4,13 @@ use Rattle.std.proofs.Common.{None, Err}
 use Rattle.schedule.proofs.Known.{run_known, run_unread, told_alone}
 use Rattle.schedule.proofs.explained.run_and_explain.Goals as goal
 
+-- where the input could not be read, nothing was written, and the errors' writer tells why
 pub returns-in-Err : goal.returns-in-Err
 returns-in-Err g c =
     (Err c.in-Err.e, None, None, run_unread _ c.in-Err.e c.in-Err.ensures.failed, c.status.ensures.exit, told_alone _ _ _ c.status.ensures.told)
 
--- its return meets what it ensures
+-- where the input was read, the run over its bytes is a run with this input, and what went wrong is told with
+-- the line behind it
 pub returns : goal.returns
 returns g c =
     let ran = c.run_and_tell-exit.ensures in (

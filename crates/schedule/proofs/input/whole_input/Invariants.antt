@@ -1,3 +1,4 @@
+-- The invariant of the loop of `whole_input`: what was read so far is what the reader has less than at entry.
 use Rattle.std.specs.Io.KnownBytes.{Consumes}
 use Rattle.schedule.proofs.input.whole_input.Given as given
 

@@ -1,3 +1,4 @@
+-- The invariant of the loop of `put`: the bytes written so far, and those that are left, are all the bytes.
 use Rattle.std.proofs.Common.{◌≡◌, ℕ, List, ◌++◌}
 use Rattle.std.specs.Io.KnownBytes.{Appends}
 use Rattle.schedule.proofs.output.put.Given as given

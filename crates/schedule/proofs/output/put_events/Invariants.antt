@@ -1,3 +1,5 @@
+-- The invariant of the loop of `put_events`: what was written so far, and the lines of the events that are
+-- left, are the lines of all the events.
 use Rattle.std.proofs.Common.{◌≡◌, ℕ, List, ◌++◌, drop}
 use Rattle.std.specs.Io.KnownBytes.{Appends}
 use Rattle.texts.specs.Print.{events_text}

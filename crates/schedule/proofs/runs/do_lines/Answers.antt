@@ -7,10 +7,11 @@ use Rattle.schedule.proofs.Lines.{some_of, none_of, done_command, done_empty, li
 use Rattle.schedule.proofs.runs.do_lines.Goals as goal
 use Rattle.schedule.proofs.runs.do_lines.Goals.{then-not-is_empty+in-Ok+in-Ok-do_command, else-not-is_empty}
 
+-- before the first line nothing is done and nothing is written
 pub loop-line-init : goal.loop-line-init
 loop-line-init g c = record { numbered = omega arith; written = ([], [], λ more. refl, Appends-nil _) }
 
--- where the answer is `Err`, its return meets what it ensures
+-- where a line is malformed, the output ends with its number and its cause
 pub returns-in-Err : goal.returns-in-Err
 returns-in-Err g c =
     let i = c.loop-line.invariant.written in
@@ -27,6 +28,7 @@ returns-in-Err-do_command g c =
     c.in-Err-do_command.e i.2 i.3 c.in-Some.ensures
     (some_of _ c.if-not-is_empty.ensures) c.in-Ok.ensures c.in-Err-do_command.ensures
 
+-- where no line is left, what was written is the whole output
 pub returns : goal.returns
 returns g c =
     let i = c.loop-line.invariant.written in

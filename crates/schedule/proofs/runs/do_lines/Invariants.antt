@@ -1,3 +1,6 @@
+-- The invariant of the loop of `do_lines`: the lines before this one led to the machine as it is and
+-- printed what was written, where memory was refused as a list says. The loop ends since the lines
+-- that are left become fewer.
 use Rattle.std.proofs.Common.{◌≡◌, ℕ, ◌+◌, ◌<◌, ◌^◌, ◌++◌, List, Bool, length}
 use Rattle.std.specs.Io.KnownBytes.{Appends}
 use Rattle.schedule.specs.Output.{world_of, lines_from, before}

@@ -5,17 +5,21 @@ use Rattle.schedule.proofs.Whole.{few_lines, text_missing, text_malformed, text_
 use Rattle.texts.specs.Text.{words}
 use Rattle.schedule.proofs.runs.do_text.Goals as goal
 
+-- where the text has no line, the output ends with a value missing in line 1
 pub returns-in_default : goal.returns-in_default
 returns-in_default g c = text_missing c.args.input.now _ (sym c.lines.ensures ∙ c.in_default.ensures)
 
+-- where the first line is malformed, the output ends with its cause
 pub returns-in-Err : goal.returns-in-Err
 returns-in-Err g c =
     text_malformed c.args.input.now c.in-Some.first.now _ _ c.in-Err.cause (sym c.lines.ensures ∙ c.in-Some.ensures)
     (first_malformed (words c.in-Some.first.now) c.in-Err.cause c.in-Err.ensures)
 
+-- the lines are at most one more than the bytes, so their numbers stay below 2^64
 pub do_lines-requires : goal.do_lines-requires
 do_lines-requires g c = omega (arith, few_lines c.args.input.now c.in-Some.first.now _ (sym c.lines.ensures ∙ c.in-Some.ensures))
 
+-- where the machine is not made, the output ends for want of memory or with the cause in the first line
 pub returns-in-Err-opened : goal.returns-in-Err-opened
 returns-in-Err-opened g c =
     text_unopened c.args.input.now c.in-Some.first.now _ _ c.in-Ok.setup c.in-Err-opened.e (sym c.lines.ensures ∙ c.in-Some.ensures)

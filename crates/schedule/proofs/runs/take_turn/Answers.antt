@@ -20,6 +20,7 @@ returns-in-Ok g c =
     (λ l. Writes (g.W.Write.contents c.args.writer.now) (g.W.Write.contents c.put_events.new.writer) c.put_events.result (events_text l))
     behind c.put_events.ensures)
 
+-- where the machine refuses the turn, it is as before, and the text of the refusal is written
 pub returns-in-Err : goal.returns-in-Err
 returns-in-Err g c =
     refused_told _ (world_of c.step.new.self) _ _ _ _ c.put_refusal.result c.in-Err.ensures.refused (ap world_of c.in-Err.ensures.err) c.put_refusal.ensures

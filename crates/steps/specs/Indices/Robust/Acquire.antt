@@ -1,4 +1,6 @@
--- The acquire of a robust set of indices, one step after another.
+-- The acquire of a robust set of indices, one step after another. `acquire_asks` says what the call asks for
+-- at each stage, and `acquire_takes` where the answer leads: to a next stage (`GoOn`) or to its end (`Done`).
+-- `acquire_goes_back` says whether it begins a loop again.
 use Rattle.std.specs.Prelude.{ℕ, ◌+◌, ◌==◌, Bool, false, not, Result, Ok, Err, if◌then◌else◌, nat_lt}
 use Rattle.steps.specs.Queues.Ring.{load}
 use Rattle.steps.specs.Indices.Robust.Parts.{cell_word, empty, locked, greatest, exchange, raise_want, raise_after, raise_goes_back}
@@ -24,7 +26,7 @@ abbrev pub first_acquire : ℕ → Acquire
 first_acquire capacity =
     record { capacity = capacity; stage = acquires.LoadsCounter }
 
--- the call at this stage
+-- the acquire, moved to this stage
 abbrev pub at_acquire : Acquire → AcquireStage → Acquire
 at_acquire call stage = record call { stage = stage }
 
@@ -37,7 +39,7 @@ acquire_asks (acquires.FillsCell counter index) owner =
 acquire_asks (acquires.ChecksCounter counter) owner = exchange 0 counter counter
 acquire_asks (acquires.Raises index raise) owner = raise_want raise
 
--- what the acquire waits for
+-- what the acquire asks for next, at the stage where it stands
 abbrev pub acquire_want : Acquire → ℕ → Want (Unit {0})
 acquire_want call owner = acquire_asks call.stage owner
 
@@ -84,7 +86,8 @@ acquire_takes call (acquires.Raises index raise) old =
 abbrev pub acquire_after : Acquire → ℕ → After Acquire Acquired
 acquire_after call old = acquire_takes call call.stage old
 
--- whether the acquire begins a loop again once it is handed this old value: another has moved the counter
+-- Whether an exchange of the counter by the acquire has failed with this old value: another has moved the counter. The acquire
+-- then begins a loop again, or ends if it finds the set locked.
 abbrev pub acquire_goes_back : AcquireStage → ℕ → Bool
 acquire_goes_back acquires.LoadsCounter old = false
 acquire_goes_back (acquires.FillsCell counter index) old = false

@@ -1,4 +1,6 @@
--- The find of a robust set of indices, one step after another.
+-- The find of a robust set of indices, one step after another. `find_asks` says what the call asks for at
+-- each stage, and `find_takes` where the answer leads: to a next stage (`GoOn`) or to its end (`Done`).
+-- `find_left` is a number that each step lowers.
 use Rattle.std.specs.Prelude.{ℕ, ◌+◌, ◌-◌, ◌*◌, ◌==◌, if◌then◌else◌, nat_lt}
 use Rattle.steps.specs.Queues.Ring.{load}
 use Rattle.steps.specs.Indices.Robust.Parts.{cell_word, one_more}
@@ -11,7 +13,7 @@ use Rattle.steps.specs.declared.indices.robust.find.Find.{Find}
 use Rattle.steps.specs.declared.indices.robust.find.FindStage.{FindStage}
 use Rattle.steps.specs.declared.indices.robust.find.FindStage.TheVariants as finds
 
--- the call at this stage
+-- the find, moved to this stage
 abbrev pub at_find : Find → FindStage → Find
 at_find call stage = record call { stage = stage }
 
@@ -25,7 +27,7 @@ find_asks (finds.LoadsCell index found) = load (cell_word index)
 find_asks (finds.Asks index found) =
     wants.Question (questions.Index index)
 
--- what the find waits for
+-- what the find asks for next, at the stage where it stands
 abbrev pub find_want : Find → Want (Unit {0})
 find_want call = find_asks call.stage
 

@@ -102,7 +102,7 @@ borrowed_tells c count room m n t = count_stores_not count t
 
 -- ---- find and is_locked end by themselves
 
--- one more than is left once it has gone on, nothing once it is done
+-- one more than `find_left` of the call, which each step lowers, and 0 once the call has ended
 abbrev find_then : After Find ℕ → ℕ
 find_then (GoOn d) = find_left d.capacity d.stage + 1
 find_then (Done e) = 0
@@ -129,7 +129,7 @@ find_stage_fewer c (finds.Asks index found) owner k =
     (find_comes_to c (index + 1) found)
     (λ e. omega arith) (λ e. next_nearer c index found)
 
--- a find that goes on has fewer steps left
+-- where a find goes on after a step, `find_left` is less
 pub find_fewer : (c d : Find) (owner n : ℕ) → find_after c owner n ≡ GoOn d
     → find_left d.capacity d.stage < find_left c.capacity c.stage
 find_fewer c d owner n goes =

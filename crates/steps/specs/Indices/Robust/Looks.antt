@@ -1,4 +1,6 @@
--- The number of borrowed indices of a robust set, and its lock, one step after another.
+-- The number of borrowed indices of a robust set, and its lock, one step after another. `.._want` says what a
+-- call asks for, and `.._after` where the answer leads: to a next stage (`GoOn`) or to its end (`Done`).
+-- `.._goes_back` says whether it begins a loop again.
 use Rattle.std.specs.Prelude.{ℕ, ◌==◌, Bool}
 use Rattle.steps.specs.Indices.Robust.Parts.{locked, count_want, count_after, count_goes_back}
 use Rattle.steps.specs.declared.ask.Want.{Want}
@@ -15,7 +17,7 @@ use Rattle.steps.specs.declared.indices.robust.looks.IsLocked.{IsLocked}
 abbrev pub first_borrowed : ℕ → BorrowedIndices
 first_borrowed capacity = record { capacity = capacity; count = counts.LoadsCounter }
 
--- what the count waits for
+-- what the count asks for next, at the stage where it stands
 abbrev pub borrowed_want : BorrowedIndices → Want (Unit {0})
 borrowed_want call = count_want call.count
 

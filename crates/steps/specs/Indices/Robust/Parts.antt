@@ -1,4 +1,6 @@
--- The words of a robust set of indices, and the parts that its calls are made of.
+-- The words of a robust set of indices, and the parts that its calls are made of. `.._want` says what a call
+-- asks for, and `.._after` where the answer leads: to a next stage (`GoOn`) or to its end (`Done`).
+-- `.._goes_back` says whether it begins a loop again.
 use Rattle.std.specs.Prelude.{ℕ, ◌+◌, ◌-◌, ◌%◌, ◌^◌, ◌==◌, ◌&&◌, Bool, false, not, if◌then◌else◌, nat_lt}
 use Rattle.steps.specs.Queues.Ring.{load}
 use Rattle.steps.specs.declared.ask.Op.TheVariants.{Exchange}
@@ -64,7 +66,8 @@ raise_after raises.LoadsCounter old = raise_sees old
 raise_after (raises.ExchangesCounter counter) old =
     if old == counter then Done Unlocked else raise_sees old
 
--- whether the raise begins its loop again once it is handed this old value: another has moved the counter
+-- Whether the exchange of the raise has failed with this old value: another has moved the counter. The raise then goes on
+-- from this value, or ends if the value is the lock or the greatest number.
 abbrev pub raise_goes_back : Raise → ℕ → Bool
 raise_goes_back raises.LoadsCounter old = false
 raise_goes_back (raises.ExchangesCounter counter) old = not (old == counter)
@@ -89,7 +92,7 @@ count_comes_to capacity counter index filled =
     else GoOn (counts.ExchangesCounter counter filled)
 
 -- Where the count goes on to from the old value of its word: it counts the filled cells, and ends with their number if
--- the counter has not moved meanwhile. Else it begins again.
+-- the counter has not moved meanwhile. It ends at once if it loads the lock. Else it begins again.
 abbrev pub count_after : ℕ → Count → ℕ → After Count Counted
 count_after capacity counts.LoadsCounter old =
     if old == locked then Done ends.Locked else count_comes_to capacity old 0 0

@@ -1,4 +1,6 @@
--- The recovery of a robust set of indices, one step after another.
+-- The recovery of a robust set of indices, one step after another. `recover_asks` says what the call asks for
+-- at each stage, and `recover_takes` where the answer leads: to a next stage (`GoOn`) or to its end (`Done`).
+-- `recover_goes_back` says whether it begins a loop again.
 use Rattle.std.specs.Prelude.{ℕ, ◌+◌, ◌==◌, Bool, false, Option, Some, None, if◌then◌else◌, nat_lt}
 use Rattle.steps.specs.Queues.Ring.{load}
 use Rattle.steps.specs.Indices.Robust.Parts.{cell_word, empty, locked, exchange, raise_want, raise_after}
@@ -24,7 +26,7 @@ abbrev pub first_recover : ℕ → Recover
 first_recover capacity =
     record { capacity = capacity; stage = recovers.LoadsCounter }
 
--- the call at this stage
+-- the recovery, moved to this stage
 abbrev pub at_recover : Recover → RecoverStage → Recover
 at_recover call stage = record call { stage = stage }
 
@@ -41,7 +43,7 @@ recover_asks (recovers.Raises index raise) = raise_want raise
 recover_asks (recovers.Locks index lock) = lock_want lock
 recover_asks recovers.LoadsCounterAgain = load 0
 
--- what the recovery waits for
+-- what the recovery asks for next, at the stage where it stands
 abbrev pub recover_want : Recover → Want (Unit {0})
 recover_want call = recover_asks call.stage
 

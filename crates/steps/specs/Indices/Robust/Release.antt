@@ -1,4 +1,6 @@
--- The release of a robust set of indices, one step after another.
+-- The release of a robust set of indices, one step after another. `release_asks` says what the call asks for
+-- at each stage, and `release_takes` where the answer leads: to a next stage (`GoOn`) or to its end (`Done`).
+-- `release_goes_back` says whether it begins a loop again.
 use Rattle.std.specs.Prelude.{ℕ, ◌==◌, Bool, false, Result, Ok, Err, if◌then◌else◌}
 use Rattle.steps.specs.Indices.Robust.Parts.{cell_word, empty, exchange, raise_want, raise_after, raise_goes_back}
 use Rattle.steps.specs.Indices.Robust.Parts.{first_lock, lock_want, lock_after, lock_goes_back}
@@ -28,7 +30,7 @@ abbrev pub first_release : ℕ → Release
 first_release capacity =
     record { capacity = capacity; stage = releases.EmptiesCell }
 
--- the call at this stage
+-- the release, moved to this stage
 abbrev pub at_release : Release → ReleaseStage → Release
 at_release call stage = record call { stage = stage }
 
@@ -39,7 +41,7 @@ release_asks releases.EmptiesCell given =
 release_asks (releases.Raises raise) given = raise_want raise
 release_asks (releases.Locks lock) given = lock_want lock
 
--- what the release waits for
+-- what the release asks for next, at the stage where it stands
 abbrev pub release_want : Release → GiveBack → Want (Unit {0})
 release_want call given = release_asks call.stage given
 

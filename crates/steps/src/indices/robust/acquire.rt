@@ -59,7 +59,7 @@ impl Acquire {
         }
     }
 
-    /// Goes on to this cell, if there is one.
+    /// The acquire at this cell, if there is one; after the last cell it checks the counter.
     #[inline(always)]
     fn tries(
         self,
@@ -95,6 +95,7 @@ impl Acquire {
     }
 }
 
+/// The steps of an acquire of a robust set: given the owner, it answers the index, or why there is none.
 impl Routine for Acquire {
     ghost use Rattle.steps.specs.Indices.Robust.Laws.{acquire_tells};
 
@@ -121,6 +122,8 @@ impl Routine for Acquire {
     ghost store_tells_nothing = { λ c given room m n t.
         acquire_tells c c.stage given room m n t };
 
+    /// Asks for the counter, exchanges one cell after another from empty to the owner, and in the end raises
+    /// the counter or checks it.
     #[inline(always)]
     fn ask(self, given: &OwnerId) -> Want<()> {
         let (word, op) = match self.stage {
@@ -134,6 +137,9 @@ impl Routine for Acquire {
         Want::Ask(Ask { word, op })
     }
 
+    /// A cell that was empty is filled: it raises the counter and ends with the index, or with `IsLocked`.
+    /// After the last cell it ends out of indices where the counter has stayed, and goes on from the counter
+    /// as found where that has moved.
     #[inline(always)]
     fn take(
         self,
@@ -172,6 +178,7 @@ impl Routine for Acquire {
         })
     }
 
+    /// 0: the call has no value of the structure to hand out.
     fn value(_given: &OwnerId, _room: &()) -> u64 {
         0
     }

@@ -36,7 +36,7 @@ impl Find {
         }
     }
 
-    /// Goes on to this cell, if there is one.
+    /// The find at this cell, if there is one; else its end with the number found.
     #[inline(always)]
     fn comes_to(self, index: u64, found: usize) -> After<Find, usize>
         ensures { result ≡ find_comes_to self index found }
@@ -55,6 +55,8 @@ impl Find {
     }
 }
 
+/// The steps of a find of a robust set: given the owner, it asks a question at each of the owner's indices,
+/// and answers how many it came to.
 impl Routine for Find {
     ghost use Rattle.steps.specs.Indices.Robust.Laws.{find_tells};
 
@@ -80,6 +82,7 @@ impl Routine for Find {
 
     ghost store_tells_nothing = { λ c given room m n t. find_tells c c.stage given room m n t };
 
+    /// Loads the next cell, or asks about its index.
     #[inline(always)]
     fn ask(self, _given: &OwnerId) -> Want<()> {
         match self.stage {
@@ -91,6 +94,8 @@ impl Routine for Find {
         }
     }
 
+    /// Asks about each index whose cell has the owner. It ends after a no, or after the last cell, with the
+    /// number of indices that it came to.
     #[inline(always)]
     fn take(self, given: &OwnerId, _room: &mut (), answer: u64) -> After<Find, usize> {
         match self.stage {
@@ -116,6 +121,7 @@ impl Routine for Find {
         }
     }
 
+    /// 0: the call has no value of the structure to hand out.
     fn value(_given: &OwnerId, _room: &()) -> u64 {
         0
     }

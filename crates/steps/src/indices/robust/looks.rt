@@ -6,12 +6,13 @@ use crate::ask::{After, Ask, Op, Want};
 use crate::indices::robust::parts::{COUNTER, Count, Counted, LOCKED};
 use crate::routine::{Ends, Routine};
 
-/// How many indices are borrowed, 0 where the set is locked. As many steps as the capacity, and 2 more; as many again
-/// for each turn back.
+/// How many indices are borrowed, 0 where the set is locked. As many steps as the capacity, and 2 more; as
+/// many again for each turn back.
 ///
-/// It is a count, which raises the counter: so many cells had an owner when it loaded them, and the counter has not
-/// moved since. At its end the counter stays, and the number is that of one pass over the cells, whatever has changed
-/// meanwhile. After `borrowed_indices` of the Rust crate's `RobustUniqueIndexSet`.
+/// The call counts the cells that have an owner and then raises the counter. So each counted cell had an
+/// owner when it was loaded, and the counter has not moved while the cells were loaded. A counter at its end
+/// stays; then the number is that of one pass over the cells, whatever has changed meanwhile. After
+/// `borrowed_indices` of the Rust crate's `RobustUniqueIndexSet`.
 #[derive(Clone, Copy)]
 pub struct BorrowedIndices {
     pub capacity: u32,
@@ -43,6 +44,7 @@ impl BorrowedIndices {
     }
 }
 
+/// The steps of a count of the borrowed indices of a robust set: it answers their number.
 impl Routine for BorrowedIndices {
     ghost use Rattle.steps.specs.Indices.Robust.Laws.{borrowed_tells};
 
@@ -68,11 +70,13 @@ impl Routine for BorrowedIndices {
 
     ghost store_tells_nothing = { λ c given room m n t. borrowed_tells c c.count room m n t };
 
+    /// Asks for what its count asks for.
     #[inline(always)]
     fn ask(self, _given: &()) -> Want<()> {
         self.count.ask()
     }
 
+    /// Ends with the number of filled cells that the count has found, or with 0 where the set is locked.
     #[inline(always)]
     fn take(self, _given: &(), _room: &mut (), answer: u64) -> After<BorrowedIndices, usize> {
         match self.count.take(self.capacity, answer) {
@@ -85,6 +89,7 @@ impl Routine for BorrowedIndices {
         }
     }
 
+    /// 0: the call has no value of the structure to hand out.
     fn value(_given: &(), _room: &()) -> u64 {
         0
     }
@@ -95,6 +100,7 @@ impl Routine for BorrowedIndices {
     }
 }
 
+/// The one step of a look at the lock of a robust set: it answers whether the set is locked.
 impl Routine for IsLocked {
     ghost use Rattle.steps.specs.Queues.Ring.{load};
     ghost use Rattle.steps.specs.Indices.UniqueLaws.{load_tells};
@@ -122,6 +128,7 @@ impl Routine for IsLocked {
     ghost store_tells_nothing = { λ c given room m n t.
         load_tells 0 (locked_after c) room m n t };
 
+    /// Loads the counter.
     #[inline(always)]
     fn ask(self, _given: &()) -> Want<()> {
         Want::Ask(Ask {
@@ -130,11 +137,13 @@ impl Routine for IsLocked {
         })
     }
 
+    /// Ends with whether the counter is the one that says locked.
     #[inline(always)]
     fn take(self, _given: &(), _room: &mut (), answer: u64) -> After<IsLocked, bool> {
         After::Done(answer == LOCKED)
     }
 
+    /// 0: the call has no value of the structure to hand out.
     fn value(_given: &(), _room: &()) -> u64 {
         0
     }

@@ -63,7 +63,7 @@ pub enum Count {
 pub enum Counted {
     /// The set is locked.
     Locked,
-    /// So many cells have an owner, and the counter stands here now.
+    /// `filled` cells have an owner, and the counter stands at `counter` now.
     Filled { filled: usize, counter: u64 },
 }
 
@@ -149,7 +149,8 @@ impl Count {
         Want::Ask(Ask { word, op })
     }
 
-    /// Goes on to this cell, if there is one.
+    /// The count at this cell, if there is one; after the last cell the exchange of the counter, or the end
+    /// where the counter is at its end.
     #[inline(always)]
     fn comes_to(capacity: u32, counter: u64, index: u64, filled: usize) -> After<Count, Counted>
         ensures { result ≡ count_comes_to capacity counter index filled }

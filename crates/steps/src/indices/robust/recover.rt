@@ -102,6 +102,8 @@ impl Recover {
     }
 }
 
+/// The steps of a recovery of a robust set: given the mode, it asks a question at each owner that it finds,
+/// and answers the state of the set.
 impl Routine for Recover {
     ghost use Rattle.steps.specs.Indices.Robust.Laws.{recover_tells};
 
@@ -148,6 +150,9 @@ impl Routine for Recover {
         Want::Ask(Ask { word, op })
     }
 
+    /// Asks about the owner of each filled cell. After a yes it empties the cell, raises the counter and, in
+    /// the mode that locks, tries to lock. It ends at a locked counter, or after the last cell, with the
+    /// state of the set.
     #[inline(always)]
     fn take(
         self,
@@ -211,6 +216,7 @@ impl Routine for Recover {
         })
     }
 
+    /// 0: the call has no value of the structure to hand out.
     fn value(_given: &ReleaseMode, _room: &()) -> u64 {
         0
     }

@@ -63,6 +63,8 @@ impl Release {
     }
 }
 
+/// The steps of a release of a robust set: given the index, its owner and the mode, it answers the state of
+/// the set, or why it gives nothing back.
 impl Routine for Release {
     ghost use Rattle.steps.specs.Indices.Robust.Laws.{release_tells};
 
@@ -89,6 +91,8 @@ impl Routine for Release {
     ghost store_tells_nothing = { λ c given room m n t.
         release_tells c c.stage given room m n t };
 
+    /// Exchanges the cell of the index from its owner to empty, then asks for what the raise of the counter
+    /// asks for, and then the lock.
     #[inline(always)]
     fn ask(self, given: &GiveBack) -> Want<()> {
         match self.stage {
@@ -101,6 +105,8 @@ impl Routine for Release {
         }
     }
 
+    /// Ends with an error where the cell was not the owner's. Otherwise it raises the counter and, in the
+    /// mode that locks, tries to lock, and ends with the state of the set.
     #[inline(always)]
     fn take(
         self,
@@ -137,6 +143,7 @@ impl Routine for Release {
         })
     }
 
+    /// 0: the call has no value of the structure to hand out.
     fn value(_given: &GiveBack, _room: &()) -> u64 {
         0
     }

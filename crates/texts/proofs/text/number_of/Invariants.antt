@@ -1,3 +1,5 @@
+-- The invariant of the loop of `number_of`: the characters read are digits, they spell the number so far, and
+-- that is at most the greatest number.
 use Rattle.std.proofs.Common.{◌≡◌, ◌≤◌, true, take}
 use Rattle.std.specs.Str.{all_ascii_digits}
 use Rattle.std.specs.Str.Parse.{digits_value}

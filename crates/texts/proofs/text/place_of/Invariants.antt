@@ -1,3 +1,5 @@
+-- The invariant of the loop of `place_of`: none of the bytes before this place is the
+-- byte that is looked for.
 use Rattle.std.proofs.Common.{◌≡◌, ◌==◌, ℕ, ◌<◌, false, get_or}
 use Rattle.texts.proofs.text.place_of.Given as given
 

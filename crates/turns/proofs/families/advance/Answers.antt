@@ -32,7 +32,8 @@ use Rattle.turns.proofs.families.advance.Goals.{in_default-via-in-Container+in_d
 use Rattle.turns.proofs.families.advance.Goals.{in_default-via-in-Loan+in-Loan+in_default}
 use Rattle.turns.proofs.families.advance.Goals.{in_default-via-in-Loan+in_default}
 
--- of each family: what the call came to, what is kept and what was written is that of the step of a machine's call
+-- for each family: what the call came to, what is kept and what was written is that of the step of a
+-- machine's call, and a call whose name or whose kept things are of another family does nothing
 pub returns-clause-step : goal.returns-clause-step
 returns-clause-step g c =
     let code : Coding g.row.T.Denot = record { size = g.T.Words.WORDS; words_of = g.T.Words.words_of; value_of = g.T.Words.value_of } in
@@ -86,6 +87,8 @@ returns-clause-step g c =
           (passed flights.Loan registries.Loan (loan_steps.step words beside p a.start a.call old a.book)
           r.result r.new.flight r.new.book events r.new.events.items r.ensures.after r.ensures.back r.ensures.kept r.ensures.wrote)
       | in_default w ↦
+          -- The name or what is kept is of another family than the call: nothing happens. Each family has two
+          -- cases: what is kept is of another family, or the name is.
           elim w.in_default.branch [
             | in_default-via-in-Queues+in-Queues+in_default v ↦
                 rw (w.result-is, w.flight-is, v.flight-is, w.kept-is, w.events-is, v.in_default.is-0, v.in_default.is-1)

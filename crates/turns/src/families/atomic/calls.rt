@@ -79,7 +79,7 @@ pub fn goes_back<T: Words>(flight: &AtomicFlight<T>, answer: u64) -> bool
     }
 }
 
-/// Lets the call go on from an answer, where it lies: its own answer, where it is done.
+/// Hands the call an answer, changes it in place, and returns the call's own answer once it is done.
 pub fn feed<T: Words>(flight: &mut AtomicFlight<T>, answer: u64) -> Option<Answer<T>>
     ensures { CameTo result flight.new (after (coding_by T.Words) flight.old answer) }
 {

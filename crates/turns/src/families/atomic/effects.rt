@@ -14,7 +14,7 @@ use steps::words::Words;
 /// The most events that a step writes: an act.
 pub const MOST_EFFECTS: usize = 1;
 
-/// Writes down the act of a call, where it is done and acts.
+/// Writes the event `Acted` where the step ends a load, or a store that answers true.
 fn tell<T: Copy>(
     events: &mut Vec<Event<T>>,
     number: u32,
@@ -37,7 +37,8 @@ fn tell<T: Copy>(
     }
 }
 
-/// Who holds the producer's role once a party's call went on, with its answer where it is done.
+/// Notes who holds the producer's role after the party's step: an acquire that answers true takes it, and a
+/// release that ends frees it.
 fn settle<T: Copy>(
     producer: &mut Option<u32>,
     number: u32,
@@ -53,7 +54,8 @@ fn settle<T: Copy>(
     }
 }
 
-/// Lets the call go on from an answer, where it lies, with what its step writes down.
+/// Hands the call an answer, changes it in place, notes who holds the producer's role after the step, and
+/// appends the step's events to `events`.
 pub fn perform<T: Words>(
     flight: &mut AtomicFlight<T>,
     number: u32,

@@ -42,7 +42,7 @@ fn lacks_role<T: Copy>(producer: Option<u32>, number: u32, start: &AtomicStart<T
     }
 }
 
-/// Whether a machine of this kind has the single value.
+/// Whether a machine of this kind is the single value.
 fn is_value(kind: Kind) -> bool
     ensures { result ≡ is_value kind }
 {
@@ -52,7 +52,7 @@ fn is_value(kind: Kind) -> bool
     }
 }
 
-/// The call that this party begins, or why it may not, unless memory for its room is refused.
+/// The call that the party `number` begins, or why it may not, or that memory for its room is refused.
 pub fn permit<T: Words>(
     alloc: Global,
     kind: Kind,

@@ -59,7 +59,7 @@ pub fn first(kind: Kind, capacity: u32, start: BitsStart) -> Option<BitsFlight>
     }
 }
 
-/// The answer of a reset of the next bit.
+/// What a reset of the next bit answers in a machine: the place, or None where no bit stood.
 fn reset_answer<T>(bit: Option<u64>) -> Answer<T>
     ensures { result ≡ reset_answer bit }
 {
@@ -95,7 +95,7 @@ pub fn goes_back(flight: &BitsFlight, answer: u64) -> bool
     }
 }
 
-/// Lets the call go on from an answer, where it lies: its own answer, where it is done.
+/// Hands the call an answer, changes it in place, and returns the call's own answer once it is done.
 pub fn feed<T>(flight: &mut BitsFlight, answer: u64) -> Option<Answer<T>>
     ensures { CameTo result flight.new (after flight.old answer) }
 {

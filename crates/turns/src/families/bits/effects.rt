@@ -12,7 +12,7 @@ use model::families::bits::calls::BitsFlight;
 use steps::bits::bit_set::{ResetNextStage, SetStage, place_after};
 use steps::bits::flags::has_flag;
 
-/// The most events that a step writes by which an element is emptied.
+/// The most events of a step that empties an element: one for each of its 64 places.
 pub const MOST_CLEARED: usize = 64;
 
 /// The first place of the element in this word.
@@ -22,7 +22,8 @@ fn first_place(word: u32) -> u64
     word.saturating_sub(1) as u64 * 64
 }
 
-/// Writes down that the bits of an element were cleared, ascending, where this was found in its word.
+/// Writes an event `Cleared` for each place whose flag stood in `found`, the old value of the element in this
+/// word, ascending.
 fn tell_cleared<T>(events: &mut Vec<Event<T>>, number: u32, word: u32, found: u64)
     requires { vec_len events.old + MOST_CLEARED ≤ vec_capacity events.old }
     ensures items { events.new.items ≡ events.old.items ++ clear_events number word found }
@@ -49,7 +50,7 @@ pub fn most_effects(flight: &BitsFlight) -> usize
     }
 }
 
-/// Writes down what the step does that is handed this answer.
+/// Writes the event of the call's next step, if it has one, where `answer` is the old value of its word.
 fn tell<T>(flight: &BitsFlight, number: u32, answer: u64, events: &mut Vec<Event<T>>)
     requires { vec_len events.old + most_effects flight.now ≤ vec_capacity events.old }
     ensures items { events.new.items ≡ events.old.items ++ effects_of number flight.now answer }
@@ -86,7 +87,7 @@ fn tell<T>(flight: &BitsFlight, number: u32, answer: u64, events: &mut Vec<Event
     }
 }
 
-/// Lets the call go on from an answer, where it lies, with what its step writes down.
+/// Hands the call an answer, changes it in place, and appends the events of this step to `events`.
 pub fn perform<T>(
     flight: &mut BitsFlight,
     number: u32,

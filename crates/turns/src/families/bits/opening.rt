@@ -35,7 +35,7 @@ pub fn open_counts<T>(alloc: Global, capacity: u32) -> Result<(Vec<u64>, Registr
     Ok((opened, Registry::Nothing))
 }
 
-/// Whether the call is about a place past the capacity.
+/// Whether the call names a place that is not below the capacity.
 fn is_past(capacity: u32, start: BitsStart) -> bool
     ensures { result ≡ is_past capacity start }
 {
@@ -47,7 +47,7 @@ fn is_past(capacity: u32, start: BitsStart) -> bool
     }
 }
 
-/// The call that this party begins, or why it may not.
+/// The call that begins, or why it may not begin.
 pub fn permit(kind: Kind, capacity: u32, start: BitsStart) -> Result<BitsFlight, Refusal>
     ensures ok { IfOk result (λ flight. first kind capacity start ≡ Some flight) }
     ensures allowed { OnOk result (first_row

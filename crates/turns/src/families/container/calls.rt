@@ -29,7 +29,7 @@ use steps::indices::robust::release::GiveBack;
 use steps::routine::{Routine, Running};
 use steps::words::Words;
 
-/// The index of a call, or the capacity for any index past it.
+/// The index that a call names, or the capacity in place of one that is not below it.
 fn place_of(capacity: u32, index: u64) -> u32
     ensures { result ≡ place_of capacity index }
 {
@@ -51,7 +51,7 @@ pub fn add<T: Words>(capacity: u32, value: T, owner: OwnerId) -> ContainerFlight
     })
 }
 
-/// A remove of this owner's value that begins.
+/// A remove of this owner's value at this index, before its first step.
 pub fn remove<T>(capacity: u32, index: u64, owner: OwnerId, mode: ReleaseMode) -> ContainerFlight<T>
     ensures { result ≡ remove_of capacity index owner mode }
 {
@@ -63,7 +63,7 @@ pub fn remove<T>(capacity: u32, index: u64, owner: OwnerId, mode: ReleaseMode) -
     })
 }
 
-/// A replace of this owner's value that begins.
+/// A replace of this owner's value at this index, before its first step.
 pub fn replace<T: Words>(capacity: u32, index: u64, value: T, owner: OwnerId) -> ContainerFlight<T>
     ensures { result ≡ replace_of capacity index value owner }
 {
@@ -79,7 +79,7 @@ pub fn replace<T: Words>(capacity: u32, index: u64, value: T, owner: OwnerId) ->
     })
 }
 
-/// A find of this owner's indices that begins, unless memory for its room is refused.
+/// A find of this owner's indices, before its first step. It fails where memory for its room is refused.
 pub fn find<T: Words>(
     alloc: Global,
     capacity: u32,
@@ -95,7 +95,7 @@ pub fn find<T: Words>(
     }))
 }
 
-/// A recovery of this owner's indices that begins, unless memory for its room is refused.
+/// A recovery of this owner's indices, before its first step. It fails where memory for its room is refused.
 pub fn recover<T: Words>(
     alloc: Global,
     capacity: u32,
@@ -112,14 +112,14 @@ pub fn recover<T: Words>(
     }))
 }
 
-/// A look that begins.
+/// A look (`get_state` or `update_state`), before its first step.
 pub fn look<T: Words>(which: LookOf, capacity: u32) -> ContainerFlight<T>
     ensures { result ≡ look_of which capacity }
 {
     ContainerFlight::Look(which, Look::new(capacity))
 }
 
-/// A count of the filled indices that begins.
+/// A count of the filled indices (`len` or `is_empty`), before its first step.
 pub fn count<T>(which: CountOf, capacity: u32) -> ContainerFlight<T>
     ensures { result ≡ count_of which capacity }
 {
@@ -133,7 +133,7 @@ pub fn count<T>(which: CountOf, capacity: u32) -> ContainerFlight<T>
     )
 }
 
-/// A look at the lock.
+/// A look at the lock, before its step.
 pub fn is_locked<T>() -> ContainerFlight<T>
     ensures { result ≡ locked_of }
 {
@@ -184,7 +184,8 @@ fn counted<T>(which: CountOf, number: usize) -> Answer<T>
     }
 }
 
-/// What a look answers in a machine that leaves this state.
+/// What a look answers in a machine, where it leaves this state: how many values the state shows, or whether
+/// it has changed.
 fn looked<T: Words>(which: LookOf, state: &ContainerState<T>, changed: bool) -> Answer<T>
     ensures { result ≡ looked which state.now changed }
 {
@@ -194,8 +195,8 @@ fn looked<T: Words>(which: LookOf, state: &ContainerState<T>, changed: bool) -> 
     }
 }
 
-/// Lets a look go on from an answer, where it lies, and writes into the party's state: the look's answer, where it is
-/// done.
+/// Hands a look an answer, changes it and its party's state in place, and returns the look's
+/// answer once it is done.
 pub fn look_on<T: Words>(
     which: LookOf,
     call: &mut Look<T>,
@@ -252,8 +253,8 @@ pub fn goes_back<T: Words>(flight: &ContainerFlight<T>, answer: u64) -> bool
     }
 }
 
-/// Lets the call go on from an answer, where it lies: its own answer, where it is done. A look writes into the state
-/// of its party; where that has none it does not go on.
+/// Hands the call an answer, changes it in place, and returns the call's own answer once it is done. A look
+/// changes the state of its party; without a state it does not go on.
 pub fn feed<T: Words>(
     flight: &mut ContainerFlight<T>,
     number: u32,

@@ -27,7 +27,7 @@ use steps::words::Words;
 /// The most events that a step of a call writes, apart from the end of its call.
 pub const MOST_EFFECTS: usize = 2;
 
-/// What adding 1 to the number of an element does from this answer.
+/// The event `Placed` of adding 1 to the number of an element, if the number, which is the answer, was even.
 fn placed<T: Copy>(number: u32, index: u32, value: T, answer: u64) -> Option<Event<T>>
     ensures { option_to_list result ≡ placed number index value answer }
 {
@@ -38,7 +38,8 @@ fn placed<T: Copy>(number: u32, index: u32, value: T, answer: u64) -> Option<Eve
     }
 }
 
-/// What the exchange of an odd number of an element for the next does.
+/// The event `Hidden` of an exchange of an element's odd number for the next, if the answer
+/// says that it succeeds.
 fn hidden<T>(number: u32, index: u32, count: u64, answer: u64) -> Option<Event<T>>
     ensures { option_to_list result ≡ hidden number index count answer }
 {
@@ -49,7 +50,8 @@ fn hidden<T>(number: u32, index: u32, count: u64, answer: u64) -> Option<Event<T
     }
 }
 
-/// What the exchange of the number of an element for itself does, behind the copy of its value.
+/// The event `Copied` of an exchange of an element's number for itself after the copy of its value, if the
+/// answer says that it succeeds.
 fn copied<T: Copy>(number: u32, index: u32, count: u64, value: T, answer: u64) -> Option<Event<T>>
     ensures { option_to_list result ≡ copied number index count value answer }
 {
@@ -60,7 +62,8 @@ fn copied<T: Copy>(number: u32, index: u32, count: u64, value: T, answer: u64) -
     }
 }
 
-/// What a recovery is shown by the number of an element.
+/// The event `Shown` of a recovery that finds an even number of an element, which says that
+/// no value stands there.
 fn shown<T>(number: u32, index: u32, answer: u64) -> Option<Event<T>>
     ensures { option_to_list result ≡ shown number index answer }
 {
@@ -71,7 +74,8 @@ fn shown<T>(number: u32, index: u32, answer: u64) -> Option<Event<T>>
     }
 }
 
-/// What that exchange does in a recovery.
+/// The event of a recovery's exchange of an element's number for itself: `Copied` where it succeeds, or
+/// `Shown` where it finds another number and that is even.
 fn checked<T: Copy>(number: u32, index: u32, count: u64, value: T, answer: u64) -> Option<Event<T>>
     ensures { option_to_list result ≡ checked number index count value answer }
 {
@@ -82,7 +86,7 @@ fn checked<T: Copy>(number: u32, index: u32, count: u64, value: T, answer: u64) 
     }
 }
 
-/// What the step of an add at this stage does from this answer.
+/// The event of the next step of an add, which is handed this answer, if it has one.
 fn add_effect<T: Copy>(
     number: u32,
     given: &Owned<T>,
@@ -99,7 +103,7 @@ fn add_effect<T: Copy>(
     }
 }
 
-/// The same of a remove.
+/// The event of the next step of a remove, which is handed this answer, if it has one.
 fn remove_effect<T>(
     number: u32,
     given: GiveBack,
@@ -115,7 +119,7 @@ fn remove_effect<T>(
     }
 }
 
-/// The same of a replace.
+/// The event of the next step of a replace, which is handed this answer, if it has one.
 fn replace_effect<T: Copy>(
     number: u32,
     given: &Replacement<T>,
@@ -131,7 +135,7 @@ fn replace_effect<T: Copy>(
     }
 }
 
-/// The same of a find, whose room makes this value.
+/// The event of the next step of a find, if it has one. `value` is what the words in its room make.
 fn find_effect<T: Copy>(number: u32, value: T, stage: FindStage, answer: u64) -> Option<Event<T>>
     ensures { option_to_list result ≡ find_effects number value stage answer }
 {
@@ -141,7 +145,7 @@ fn find_effect<T: Copy>(number: u32, value: T, stage: FindStage, answer: u64) ->
     }
 }
 
-/// The same of a recovery, whose room makes this value.
+/// The event of the next step of a recovery, if it has one. `value` is what the words in its room make.
 fn recover_effect<T: Copy>(
     number: u32,
     given: DeadOwner,
@@ -168,7 +172,8 @@ fn recover_effect<T: Copy>(
     }
 }
 
-/// The same of a look, in whose state these words make this value.
+/// The event of the next step of a look, if it has one. `value` is what the words make that
+/// its state has copied.
 fn look_effect<T: Copy>(number: u32, value: T, stage: LookStage, answer: u64) -> Option<Event<T>>
     ensures { option_to_list result ≡ look_effects number value stage answer }
 {
@@ -178,7 +183,7 @@ fn look_effect<T: Copy>(number: u32, value: T, stage: LookStage, answer: u64) ->
     }
 }
 
-/// The question that the step of a recovery puts.
+/// The event `Asked` of a recovery, if its next step is the one after which it puts a question.
 fn question_of<T>(
     number: u32,
     given: DeadOwner,
@@ -199,7 +204,7 @@ fn question_of<T>(
     }
 }
 
-/// What the next step of the call does from this answer.
+/// The event of the next step of the call, which is handed this answer, if it has one.
 fn effect<T: Words>(
     flight: &ContainerFlight<T>,
     number: u32,
@@ -229,7 +234,7 @@ fn effect<T: Words>(
     }
 }
 
-/// The question that the next step of the call puts.
+/// The event `Asked` of the call's next step, if after it the call puts a question.
 fn question<T: Words>(flight: &ContainerFlight<T>, number: u32, answer: u64) -> Option<Event<T>>
     ensures { option_to_list result ≡ questions number flight.now answer }
 {
@@ -239,7 +244,8 @@ fn question<T: Words>(flight: &ContainerFlight<T>, number: u32, answer: u64) -> 
     }
 }
 
-/// Lets the call go on from an answer, where it lies, with what its step writes down.
+/// Hands the call an answer, changes it in place, and appends the events of this step to `events`. A look
+/// also changes the state of its party.
 pub fn perform<T: Words>(
     flight: &mut ContainerFlight<T>,
     number: u32,

@@ -45,7 +45,7 @@ fn is_container(kind: Kind) -> bool
     }
 }
 
-/// The call that begins, or why it may not.
+/// The call that begins, or why it may not, or that memory for its room is refused.
 pub fn permit<T: Words>(
     alloc: Global,
     kind: Kind,
@@ -107,8 +107,8 @@ pub fn permit<T: Words>(
     }
 }
 
-/// The party begins this call: a look that is to empty the party's state gives it a new one, and so does a party's
-/// first look, unless memory for it is refused. Then nothing changes.
+/// Gives the party an empty state at the begin of a `get_state`, or of its first `update_state`. Answers
+/// false where memory for it is refused, and nothing changes then.
 pub fn keep<T: Words>(
     capacity: u32,
     start: &ContainerStart<T>,
@@ -144,7 +144,7 @@ fn acts_for_dead<T: Words>(flight: &ContainerFlight<T>, dead: &Dead) -> bool
     }
 }
 
-/// Why the call may not go on, or None.
+/// Why the call may not go on: it adds, removes or replaces for an owner who is dead. None where it may.
 pub fn going_refusal<T: Words>(flight: &ContainerFlight<T>, dead: &Dead) -> Option<Refusal>
     ensures { result ≡ first_row (going_rows dead.now flight.now) }
 {

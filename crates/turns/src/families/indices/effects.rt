@@ -24,7 +24,8 @@ fn clears(stage: ReleaseStage) -> bool
     }
 }
 
-/// Writes down what a step did that frees this index or ends its call so, and who holds what from then on.
+/// Writes the event of a step that frees the index `freed`, or with which an acquire claims an index or a
+/// release locks the set, and notes who holds the index then.
 fn tell<T: Copy>(
     events: &mut Vec<Event<T>>,
     holders: &mut Holders,
@@ -77,7 +78,8 @@ fn frees(flight: &IndexFlight) -> Option<u32>
     }
 }
 
-/// Lets the call go on from an answer, where it lies, with what its step writes down.
+/// Hands the call an answer, changes it in place, notes who holds an index after the step, and appends the
+/// step's event to `events`.
 pub fn perform<T: Copy>(
     flight: &mut IndexFlight,
     number: u32,

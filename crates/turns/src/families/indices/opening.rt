@@ -35,7 +35,7 @@ pub fn open<T>(alloc: Global, capacity: u32) -> Result<(Vec<u64>, Registry<T>), 
     Ok((words, Registry::Indices(Holders::new(alloc, capacity)?)))
 }
 
-/// Whether a machine of this kind has the set.
+/// Whether a machine of this kind is a unique index set.
 fn is_set(kind: Kind) -> bool
     ensures { result ≡ is_set kind }
 {

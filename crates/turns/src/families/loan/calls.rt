@@ -21,7 +21,7 @@ use steps::loan::take_back::TakeBack;
 use steps::queues::{overflow, ring};
 use steps::routine::{Routine, Running};
 
-/// A call that begins on a channel of so many slots, and asks for no index past them.
+/// The call that begins, on a channel with this number of slots. An index that it names is below that number.
 pub fn first(slots: u32, book: &Book, start: LoanStart) -> LoanFlight
     requires { is_past slots (asks_for start) ≡ false }
     ensures { result ≡ first slots book.now start }
@@ -73,7 +73,7 @@ pub fn first(slots: u32, book: &Book, start: LoanStart) -> LoanFlight
     }
 }
 
-/// What a call that answers an index or none answers in a machine.
+/// What a pop of an index answers in a machine: the index, or `PoppedNone`.
 fn popped<T>(index: Option<u64>) -> Answer<T>
     ensures { result ≡ popped index }
 {
@@ -83,7 +83,7 @@ fn popped<T>(index: Option<u64>) -> Answer<T>
     }
 }
 
-/// The same of an index of 32 bits.
+/// What a call that answers an index of 32 bits, or none, answers in a machine.
 fn came_back<T>(index: Option<u32>) -> Answer<T>
     ensures { result ≡ popped index }
 {
@@ -93,7 +93,8 @@ fn came_back<T>(index: Option<u32>) -> Answer<T>
     }
 }
 
-/// Lets a reclaim go on from an answer, where it lies, by the sender's table: its answer, where it is done.
+/// Hands a reclaim an answer and the sender's table, changes it in place, and returns its
+/// answer once it is done.
 fn reclaim_on<T>(call: &mut Reclaim, places: &Places, answer: u64) -> Option<Answer<T>>
     ensures { CameTo result (reclaim_flight call.new) (reclaim_goes places.now call.old answer) }
 {
@@ -121,7 +122,7 @@ pub fn want(flight: &LoanFlight) -> Want<()>
     }
 }
 
-/// Whose call it is.
+/// The party whose call it is, as a number of 64 bits.
 pub fn party_of(flight: &LoanFlight) -> u64
     ensures { result ≡ party_of flight.now }
 {
@@ -147,7 +148,8 @@ pub fn goes_back(flight: &LoanFlight, answer: u64) -> bool
     }
 }
 
-/// Lets the call go on from an answer, where it lies, by the sender's table: its own answer, where it is done.
+/// Hands the call an answer, and a reclaim also the sender's table, changes it in place, and returns the
+/// call's own answer once it is done.
 pub fn feed<T>(flight: &mut LoanFlight, places: &Places, answer: u64) -> Option<Answer<T>>
     ensures { CameTo result flight.new (after places.now flight.old answer) }
 {

@@ -1,4 +1,4 @@
-//! What a step of a call of a loan channel writes down, and what is kept then.
+//! The events that a step of a call of a loan channel writes, and what the channel's book keeps after it.
 ghost use Rattle.std.specs.Prelude.{◌≡◌, ◌+◌, ◌≤◌, ◌++◌, fold, vec_len, vec_capacity, option_copied};
 ghost use Rattle.steps.specs.Ask.{CameTo};
 ghost use Rattle.model.specs.Families.Loan.Steps.{sent_at, given_back_at, pending, beside, push_effect, release_effect};
@@ -28,7 +28,8 @@ use steps::queues::{overflow, ring};
 /// The most events that a step writes, apart from the end of its call.
 pub const MOST_EFFECTS: usize = 3;
 
-/// The send that has published over a full queue, and acts once the read position goes on from here.
+/// The index of a send that has published it over a full submission queue and has not acted: it acts as soon
+/// as the read position, which it knows, moves on. None where the call is no such send.
 fn pending<T>(words: &Vec<u64>, flight: Option<&Flight<T>>) -> Option<u32>
     ensures { result ≡ pending words.now.items (option_copied flight.entry) }
 {
@@ -50,7 +51,8 @@ fn pending<T>(words: &Vec<u64>, flight: Option<&Flight<T>>) -> Option<u32>
     }
 }
 
-/// The send that acts where this party moves the read position, which the receiver alone can do meanwhile.
+/// The send that acts if this party's step moves the read position of the submission queue. While a send
+/// waits, only the receiver can move it.
 pub fn look_beside<T>(
     book: &Book,
     words: &Vec<u64>,
@@ -68,7 +70,7 @@ pub fn look_beside<T>(
     }
 }
 
-/// What stands in a cell of the submission queue, which begins at this word, by its position.
+/// What stands in the cell of this position of the submission queue, which begins at the word `base`.
 fn sent_at(base: usize, queue: u32, words: &Vec<u64>, position: u64) -> u64
     ensures { result ≡ sent_at base queue words.now.items position }
 {
@@ -76,7 +78,8 @@ fn sent_at(base: usize, queue: u32, words: &Vec<u64>, position: u64) -> u64
     word_at(words, base.wrapping_add(word))
 }
 
-/// The same of the completion queue, with a cell for each slot.
+/// What stands in the cell of this position of the completion queue, which begins at the word `base` and has
+/// a cell for each slot.
 fn given_back_at(base: usize, slots: u32, words: &Vec<u64>, position: u64) -> u64
     ensures { result ≡ given_back_at base slots words.now.items position }
 {
@@ -84,8 +87,8 @@ fn given_back_at(base: usize, slots: u32, words: &Vec<u64>, position: u64) -> u6
     word_at(words, base.wrapping_add(word))
 }
 
-/// What the next step of a send's push does, handed this answer. Where the queue is full it acts only once the read
-/// position goes on.
+/// The effect of the next step of a send's push, which is handed this answer. Over a full queue the send
+/// publishes first, and acts only when the read position moves on.
 fn push_effect(
     base: usize,
     queue: u32,
@@ -112,7 +115,8 @@ fn push_effect(
     }
 }
 
-/// What the next step of a release does: its first one frees the index.
+/// The effect of the next step of a release: its first step frees the index, and its other
+/// steps have no effect.
 fn release_effect(index: u32, stage: ReleaseStage) -> Effect
     ensures { result ≡ release_effect index stage }
 {
@@ -122,7 +126,8 @@ fn release_effect(index: u32, stage: ReleaseStage) -> Effect
     }
 }
 
-/// What a receive does, beside a send that waits for the read position.
+/// The effect of the next step of a receive. `push` is the send that waits for the read position, if one
+/// does; it acts when the receive moves that.
 fn receive_effect(
     base: usize,
     queue: u32,
@@ -142,7 +147,8 @@ fn receive_effect(
     }
 }
 
-/// What the next step of a take-back does: it takes an index out, and then frees it.
+/// The effect of the next step of a take-back, which first takes an index out of the completion queue and
+/// then frees it.
 fn take_back_effect(stage: TakeBackStage) -> Effect
     ensures { result ≡ take_back_effect stage }
 {
@@ -156,7 +162,7 @@ fn take_back_effect(stage: TakeBackStage) -> Effect
     }
 }
 
-/// What the next step of a give-back does: the index is back as the write position moves.
+/// The effect of the next step of a give-back: the index is returned when the write position moves.
 fn give_back_effect(index: u64, stage: ring::PushStage) -> Effect
     ensures { result ≡ give_back_effect index stage }
 {
@@ -166,7 +172,7 @@ fn give_back_effect(index: u64, stage: ring::PushStage) -> Effect
     }
 }
 
-/// What the next step of a reclaim does that drains the submission queue.
+/// The effect of the next step of a reclaim, while it empties the submission queue.
 fn drains_effect(
     base: usize,
     queue: u32,
@@ -184,7 +190,7 @@ fn drains_effect(
     }
 }
 
-/// What the next step of a reclaim does that empties the completion queue.
+/// The effect of the next step of a reclaim, while it empties the completion queue.
 fn empties_effect(base: usize, slots: u32, words: &Vec<u64>, stage: ring::PopStage) -> Effect
     ensures { result ≡ empties_effect base slots words.now.items stage }
 {
@@ -196,8 +202,7 @@ fn empties_effect(base: usize, slots: u32, words: &Vec<u64>, stage: ring::PopSta
     }
 }
 
-/// What the next step of a reclaim does: it drains the submission queue, empties the completion queue, or frees an
-/// index.
+/// The effect of the next step of a reclaim: it takes an index out of one of the queues, or frees one.
 fn reclaim_effect(call: Reclaim, words: &Vec<u64>, answer: u64) -> Effect
     ensures { result ≡ reclaim_effect call.slots call.queue words.now.items call.stage answer }
 {
@@ -219,7 +224,8 @@ fn reclaim_effect(call: Reclaim, words: &Vec<u64>, answer: u64) -> Effect
     }
 }
 
-/// What the next step of the call does, in these words, beside a send that waits.
+/// The effect of the next step of the call over these words. `push` is the send that waits for the read
+/// position, if one does.
 fn effect_of(words: &Vec<u64>, push: Option<(u32, u64)>, flight: &LoanFlight, answer: u64) -> Effect
     ensures { result ≡ effect_of words.now.items push flight.now answer }
 {
@@ -243,7 +249,7 @@ fn effect_of(words: &Vec<u64>, push: Option<(u32, u64)>, flight: &LoanFlight, an
     }
 }
 
-/// Writes down what a step did to the channel, and the acts.
+/// Writes the events of this effect. `done` is the call's answer, if the step ends it.
 fn tell<T: Copy>(events: &mut Vec<Event<T>>, number: u32, effect: Effect, done: Option<Answer<T>>)
     requires { vec_len events.old + MOST_EFFECTS ≤ vec_capacity events.old }
     ensures items { events.new.items ≡ events.old.items ++ effects_of number effect done }
@@ -294,7 +300,7 @@ fn tell<T: Copy>(events: &mut Vec<Event<T>>, number: u32, effect: Effect, done: 
     }
 }
 
-/// A step did this to the channel, and the call has this answer where it is done: the sender's table.
+/// Notes in the sender's table what this effect does to the place of an index: free, loaned or sent.
 fn note<T>(book: &mut Book, number: u32, effect: Effect, done: &Option<Answer<T>>)
     ensures { book.new ≡ fold book_after book.old (effects_of number effect done.now) }
 {
@@ -314,7 +320,8 @@ fn note<T>(book: &mut Book, number: u32, effect: Effect, done: &Option<Answer<T>
     }
 }
 
-/// A party's call went on, with its answer where it is done: who has an index, and who is the receiver.
+/// Notes what the end of a call changes: who holds the index of a loan or a receive, and after a reclaim that
+/// the next party is the receiver.
 fn settle<T>(book: &mut Book, number: u32, start: LoanStart, done: &Option<Answer<T>>)
     ensures { book.new ≡ ended_book number start done.now book.old }
 {
@@ -332,7 +339,8 @@ fn settle<T>(book: &mut Book, number: u32, start: LoanStart, done: &Option<Answe
     }
 }
 
-/// Lets the call go on from an answer, where it lies, with what its step writes down.
+/// Hands the call an answer, changes it in place, notes in the book what the step does, and appends the
+/// step's events to `events`.
 pub fn perform<T: Copy>(
     flight: &mut LoanFlight,
     number: u32,

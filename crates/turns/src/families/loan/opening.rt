@@ -20,7 +20,8 @@ use model::turn::{Kind, Refusal};
 use std::alloc::{AllocError, Global};
 use steps::loan::places::Places;
 
-/// Adds a queue with so many cells of one word: both positions 0, both roles free, and the cells.
+/// Appends the words of an empty queue with `cells` cells of one word: both positions 0, both roles free (1),
+/// and cells of 0.
 fn add_queue(words: &mut Vec<u64>, cells: usize) -> Result<(), AllocError>
     requires { cells ≤ 2 ^ 32 }
     ensures items { IfOk result (λ _. words.new.items ≡ words.old.items ++ queue_words cells) }
@@ -34,7 +35,8 @@ fn add_queue(words: &mut Vec<u64>, cells: usize) -> Result<(), AllocError>
     Ok(())
 }
 
-/// The words of a channel of so many slots, with a submission queue of this capacity, and its book: nobody has an index.
+/// The words of a channel with this number of slots and a submission queue of capacity `queue`, and its book,
+/// in which nobody has an index.
 pub fn open<T>(alloc: Global, slots: u32, queue: u32) -> Result<(Vec<u64>, Registry<T>), AllocError>
     ensures words { IfOk result (λ opened. opened.0.items ≡ opening_words slots queue) }
     ensures kept { IfOk result (λ opened. opened.1 ≡ opening_kept slots queue) }
@@ -52,7 +54,7 @@ pub fn open<T>(alloc: Global, slots: u32, queue: u32) -> Result<(Vec<u64>, Regis
     Ok((words, Registry::Loan(book)))
 }
 
-/// The index that the call asks its party to have.
+/// The index that the party has to hold to begin this call: that of a send, a give-up or a give-back.
 fn asks_for(start: LoanStart) -> Option<u64>
     ensures { result ≡ asks_for start }
 {
@@ -64,7 +66,7 @@ fn asks_for(start: LoanStart) -> Option<u64>
     }
 }
 
-/// Whether the call names an index that the channel has not.
+/// Whether the call names an index that is not below the number of slots.
 fn is_past(slots: u32, index: Option<u64>) -> bool
     ensures { result ≡ is_past slots index }
 {
@@ -74,7 +76,8 @@ fn is_past(slots: u32, index: Option<u64>) -> bool
     }
 }
 
-/// Whether the call is one of the sender, or of the receiver, which the party is not.
+/// Whether the call is one of the receiver and the party is not the receiver, or one of the sender and the
+/// party is not the sender (party 0).
 fn lacks_role(book: &Book, number: u32, start: LoanStart) -> bool
     ensures { result ≡ lacks_role book.now number start }
 {
@@ -85,7 +88,7 @@ fn lacks_role(book: &Book, number: u32, start: LoanStart) -> bool
     }
 }
 
-/// Whether the party does not have the index.
+/// Whether the call names an index and the party does not hold it.
 fn lacks_index(book: &Book, number: u32, index: Option<u64>) -> bool
     requires { is_past (2 ^ 32) index ≡ false }
     ensures { result ≡ lacks_index book.now number index }
@@ -103,7 +106,8 @@ fn has_died(book: &Book, number: u64) -> bool
     book.dead.has_number(number)
 }
 
-/// The party begins this call: it has the index no more, which is in passing.
+/// Notes that from the begin of a send, a give-up or a give-back on the party no longer
+/// holds the call's index.
 pub fn keep(book: &mut Book, start: LoanStart)
     ensures { book.new ≡ taken_from book.old (asks_for start) }
 {
@@ -112,7 +116,7 @@ pub fn keep(book: &mut Book, start: LoanStart)
     }
 }
 
-/// The call that this party begins, or why it may not.
+/// The call that the party `number` begins, or why it may not begin.
 pub fn permit(
     kind: Kind,
     slots: u32,
@@ -150,7 +154,7 @@ pub fn permit(
     Ok(first(slots, book, start))
 }
 
-/// A reclaim while the receiver lives.
+/// Whether the call is a reclaim, and the receiver lives.
 fn reclaims_early(book: &Book, start: LoanStart) -> bool
     ensures { result ≡ reclaims_early book.now start }
 {
@@ -160,7 +164,7 @@ fn reclaims_early(book: &Book, start: LoanStart) -> bool
     }
 }
 
-/// Why the call may not go on, or None: that its party is dead.
+/// Why the call may not go on: its party is dead. None where it lives.
 pub fn going_refusal(flight: &LoanFlight, book: &Book) -> Option<Refusal>
     ensures { result ≡ first_row (book_rows flight.now book.now) }
 {

@@ -22,7 +22,7 @@ use steps::queues::roles::{AcquireRole, LookRole, ReleaseRole};
 use steps::routine::Running;
 use steps::words::Words;
 
-/// An acquiring of the role with this word.
+/// An acquire of the role with this word, before its step.
 fn acquire_of<T>(word: usize) -> QueueFlight<T>
     ensures { result ≡ acquire_of word }
 {
@@ -33,7 +33,7 @@ fn acquire_of<T>(word: usize) -> QueueFlight<T>
     }))
 }
 
-/// A giving back of the role with this word.
+/// A release of the role with this word, before its step.
 fn release_of<T>(word: usize) -> QueueFlight<T>
     ensures { result ≡ release_of word }
 {
@@ -44,7 +44,7 @@ fn release_of<T>(word: usize) -> QueueFlight<T>
     }))
 }
 
-/// A look at the role with this word.
+/// A look at the role with this word, before its step.
 fn look_of<T>(word: usize) -> QueueFlight<T>
     ensures { result ≡ look_of word }
 {
@@ -139,7 +139,7 @@ fn peek_of<T: Words>(
     Ok(flight)
 }
 
-/// A call on the length as it begins.
+/// A call on the length (`len`, `is_empty` or `is_full`), before its first step.
 fn length_of<T>(which: LengthOf, capacity: u32) -> QueueFlight<T>
     ensures { result ≡ length_of which capacity }
 {
@@ -201,7 +201,7 @@ fn popped_value<T: Copy>(answer: Option<T>) -> Answer<T>
     }
 }
 
-/// The answer where this number of values wait in a queue of this capacity.
+/// What a call on the length answers where `number` values wait in a queue of this capacity.
 fn length_answer<T: Copy>(which: LengthOf, capacity: u32, number: u64) -> Answer<T>
     ensures { result ≡ length_answer which capacity number }
 {
@@ -246,7 +246,7 @@ pub fn goes_back<T: Words>(flight: &QueueFlight<T>, answer: u64) -> bool
     }
 }
 
-/// Lets the call go on from an answer, where it lies: its own answer, where it is done.
+/// Hands the call an answer, changes it in place, and returns the call's own answer once it is done.
 pub fn feed<T: Words>(flight: &mut QueueFlight<T>, answer: u64) -> Option<Answer<T>>
     ensures { CameTo result flight.new (after (coding_by T.Words) flight.old answer) }
 {

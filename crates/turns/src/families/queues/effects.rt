@@ -1,4 +1,4 @@
-//! What a step of a call writes down.
+//! The events that a step of a call of a queue writes, and who holds the roles after it.
 ghost use Rattle.std.specs.Prelude.{◌≡◌, ◌+◌, ◌≤◌, ◌<◌, ◌++◌, vec_len, vec_capacity, option_copied};
 ghost use Rattle.steps.specs.Ask.{CameTo};
 ghost use Rattle.model.specs.Families.Queues.Steps.{pending_at, pending, beside, push_effect, pop_effect};
@@ -25,7 +25,8 @@ use steps::words::Words;
 /// The most events that a step writes, apart from the end of its call.
 pub const MOST_EFFECTS: usize = 3;
 
-/// The value of the push that has published over a full queue, and acts once the read position goes on from here.
+/// The value of a push that has published it over a full overflowing queue and has not acted: it acts as soon
+/// as the read position moves on from `position`. None where the call is no such push.
 fn pending_at<T>(position: u64, flight: Option<&Flight<T>>) -> Option<u64>
     ensures { result ≡ pending_at position (option_copied flight.entry) }
 {
@@ -47,8 +48,8 @@ fn pending_at<T>(position: u64, flight: Option<&Flight<T>>) -> Option<u64>
     }
 }
 
-/// The party whose push has published over a full queue, and acts once the read position goes on from here, and the
-/// value. Only the holder of the producer's role can have one.
+/// The push that has published over a full overflowing queue and acts as soon as the read position moves on:
+/// its party, and its value. Only the holder of the producer's role can have such a push.
 fn pending<T>(position: u64, producer: Option<u32>, latest: &Latest<T>) -> Option<(u32, u64)>
     ensures { result ≡ pending position producer latest.now.entries }
 {
@@ -61,7 +62,8 @@ fn pending<T>(position: u64, producer: Option<u32>, latest: &Latest<T>) -> Optio
     }
 }
 
-/// The push that acts where this party moves the read position, which the consumer alone can do by a pop.
+/// The push that acts if this party's step moves the read position. While a push waits, only a pop of the
+/// consumer can move it.
 pub fn look_beside<T>(
     roles: &Roles,
     words: &Vec<u64>,
@@ -77,7 +79,7 @@ pub fn look_beside<T>(
     }
 }
 
-/// What a push of the bounded queue does with its value.
+/// The effect of the next step of a push of the bounded queue on its value.
 fn push_effect<T: Copy>(item: Item<T>, stage: &ring::PushStage) -> Effect<T>
     ensures { result ≡ push_effect item stage.now }
 {
@@ -89,7 +91,7 @@ fn push_effect<T: Copy>(item: Item<T>, stage: &ring::PushStage) -> Effect<T>
     }
 }
 
-/// What a pop of the bounded queue does, where this is the value that it has read.
+/// The effect of the next step of a pop of the bounded queue. `item` is the value that its room has.
 fn pop_effect<T: Copy>(item: Item<T>, stage: &ring::PopStage) -> Effect<T>
     ensures { result ≡ pop_effect item stage.now }
 {
@@ -101,7 +103,7 @@ fn pop_effect<T: Copy>(item: Item<T>, stage: &ring::PopStage) -> Effect<T>
     }
 }
 
-/// What the next step of a push of an overflowing queue does, handed this answer.
+/// The effect of the next step of a push of an overflowing queue, which is handed this answer.
 fn overflow_push_effect<T: Copy>(
     words: &Vec<u64>,
     capacity: u32,
@@ -134,8 +136,8 @@ fn overflow_push_effect<T: Copy>(
     }
 }
 
-/// What the next step of a pop of an overflowing queue does, handed this answer; `pending` is the push that waits for
-/// the read position.
+/// The effect of the next step of a pop of an overflowing queue, which is handed this answer. `pending` is
+/// the push that waits for the read position, if one does.
 fn overflow_pop_effect<T: Copy>(
     words: &Vec<u64>,
     pending: Option<(u32, u64)>,
@@ -163,7 +165,8 @@ fn overflow_pop_effect<T: Copy>(
     }
 }
 
-/// What the next step of the call does, where these are the words, and this push has not acted yet.
+/// The effect of the next step of the call over these words. `waits` is the push of another party that has
+/// published and not acted, if there is one.
 fn effect_of<T: Words>(
     words: &Vec<u64>,
     waits: Option<(u32, u64)>,
@@ -199,7 +202,7 @@ fn effect_of<T: Words>(
     }
 }
 
-/// Writes down the act of a call, where it is done.
+/// Writes the event `Acted` of a call that is done, with its answer.
 fn tell_act<T: Copy>(
     events: &mut Vec<Event<T>>,
     number: u32,
@@ -219,7 +222,7 @@ fn tell_act<T: Copy>(
     }
 }
 
-/// Writes down what a step did to the structure, and the acts.
+/// Writes the events of this effect. `done` is the call's answer, if the step ends it.
 fn tell<T: Copy>(
     events: &mut Vec<Event<T>>,
     number: u32,
@@ -262,7 +265,8 @@ fn tell<T: Copy>(
     }
 }
 
-/// A party's call went on, with its answer where it is done.
+/// Notes who holds the roles after the party's step: an acquire that answers true takes its role, and a
+/// release that ends frees it.
 fn settle<T: Copy>(roles: &mut Roles, number: u32, start: &QueueStart<T>, done: Option<Answer<T>>)
     ensures { roles.new ≡ roles_after number start.now done roles.old }
 {
@@ -279,7 +283,8 @@ fn settle<T: Copy>(roles: &mut Roles, number: u32, start: &QueueStart<T>, done: 
     }
 }
 
-/// Lets the call go on from an answer, where it lies, with what its step writes down.
+/// Hands the call an answer, changes it in place, notes who holds the roles after the step, and appends the
+/// step's events to `events`.
 pub fn perform<T: Words>(
     flight: &mut QueueFlight<T>,
     number: u32,

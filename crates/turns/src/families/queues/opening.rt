@@ -14,7 +14,7 @@ use model::turn::{Kind, Refusal};
 use std::alloc::{AllocError, Global};
 use steps::words::Words;
 
-/// How many cells a queue of this capacity has.
+/// How many cells a queue of this kind and capacity has: an overflowing queue has one more than its capacity.
 fn cells_of(kind: QueueKind, capacity: u32) -> usize
     ensures { result ≡ cells_of kind capacity }
 {
@@ -60,7 +60,7 @@ pub fn open<T: Words>(
     Ok((words, Registry::Queues(roles)))
 }
 
-/// Whether this party holds the role.
+/// Whether the holder of a role is this party.
 pub fn holds(holder: Option<u32>, number: u32) -> bool
     ensures { result ≡ holds holder number }
 {
@@ -117,7 +117,7 @@ fn queue_with<T: Words>(kind: Kind, start: &QueueStart<T>) -> Option<QueueKind>
     }
 }
 
-/// The call that this party begins, or why it may not, unless memory for its room is refused.
+/// The call that the party `number` begins, or why it may not, or that memory for its room is refused.
 pub fn permit<T: Words>(
     alloc: Global,
     kind: Kind,

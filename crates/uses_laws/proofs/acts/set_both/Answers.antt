@@ -29,12 +29,14 @@ returns g c =
     let one = c.set-one.ensures.added.added in
     let two = c.set-two.ensures.added.added in
     let since = seen_begins two.by (Bits (Set second)) (Truth c.set-two.result) (set_wrote two.by second c.set-two.result) between new two.called in
+    -- both calls stand in the history
     let x =
     c.calls_stand.ensures one.by (Bits (Set first)) (Truth c.set-one.result) (set_wrote one.by first c.set-one.result) old between one.called
     (set_ends_none one.by first c.set-one.result) new.seen since in
     let y =
     c.calls_stand.ensures two.by (Bits (Set second)) (Truth c.set-two.result) (set_wrote two.by second c.set-two.result) between new two.called
     (set_ends_none two.by second c.set-two.result) new.seen (record { rest = []; is = sym (append-nil new.seen) }) in
+    -- all threads' acts have an order, place by place
     let size : (set_of pass).capacity ≡ capacity_of c.args.set.now =
     ap (λ (z : SetId). z.capacity) (c.set-two.ensures.same.set ∙ (c.set-one.ensures.same.set ∙ c.requires.pass)) in
     let acts : ActsByPlace kinds.Bits (capacity_of c.args.set.now) new.seen =

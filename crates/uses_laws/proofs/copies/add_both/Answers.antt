@@ -7,8 +7,8 @@ use Rattle.lock_free.specs.Shares.{IsAll}
 use Rattle.uses_laws.proofs.Whole.{Laws, has_added, whole_after}
 use Rattle.uses_laws.proofs.copies.add_both.Goals as goal
 
--- where nothing but adds were made, no index is granted that is held, and each value is placed,
--- copied and hidden as it should be
+-- if only adds were made, no index is granted that is held, and each value is placed, copied and hidden as
+-- `IsContained` says
 pub returns : goal.returns
 returns g c =
     let old = c.args.pass.now in

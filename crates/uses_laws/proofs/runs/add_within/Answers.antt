@@ -19,6 +19,7 @@ returns g c =
     let code : Coding ℕ = code_of c.args.pass.now in
     let capacity = capacity_of c.args.container.now in
     let same = c.add-added.ensures.same in
+    -- the pass knew a run before the call, and knows one after it, of which the first is a beginning
     let knows : Knows code Container capacity old =
     subst (λ m. Knows code Container m old) (ap (λ (z : SetId). z.capacity) c.requires) c.history.ensures.run in
     let after : Knows code Container capacity new =
@@ -26,6 +27,7 @@ returns g c =
     let later : Continues code Container capacity old new = record { first = same.goes.first; knows = after } in
     let ending = c.owners_keep_ending.ensures in
     let loads = c.owners_end_loads.ensures in
+    -- the laws of containers, by the bound for all calls
     let laws : Laws ℕ Container room_container_bound =
     record {
       ends = ending.container;
@@ -37,6 +39,7 @@ returns g c =
       rest = loads.container_rest;
     }
     in
+    -- the laws of containers, by the bound for calls that never lock
     let by_default : LawsOf ℕ Container IsDefault default_container_bound =
     record {
       ends = ending.container_by_default;
@@ -48,6 +51,7 @@ returns g c =
       rest = loads.container_rest_by_default;
     }
     in
+    -- one operation is aside, and one more if a find that rests is settled first
     let most = old.aside + (1 + to_settle old) in
     record {
       later = later;

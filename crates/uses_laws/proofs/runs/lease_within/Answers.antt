@@ -16,6 +16,7 @@ returns g c =
     let new = view c.acquire-leased.new.pass in
     let capacity = capacity_of c.args.pool.now in
     let same = c.acquire-leased.ensures.same in
+    -- the pass knew a run before the call, and knows one after it, of which the first is a beginning
     let knows : Knows one_word Robust capacity old =
     subst (λ m. Knows one_word Robust m old) (ap (λ (z : SetId). z.capacity) c.requires) c.history.ensures.run in
     let after : Knows one_word Robust capacity new =
@@ -23,6 +24,7 @@ returns g c =
     let later : Continues one_word Robust capacity old new = record { first = same.goes.first; knows = after } in
     let ending = c.owners_keep_ending.ensures in
     let loads = c.owners_end_loads.ensures in
+    -- the laws of robust sets, by the bound for all calls
     let laws : Laws ℕ Robust room_bound =
     record {
       ends = ending.robust;
@@ -34,6 +36,7 @@ returns g c =
       rest = loads.robust_rest;
     }
     in
+    -- the laws of robust sets, by the bound for calls that never lock
     let by_default : LawsOf ℕ Robust IsDefault default_bound =
     record {
       ends = ending.robust_by_default;

@@ -25,18 +25,21 @@ returns g c =
     let cut = c.in_ok-other.ensures.cut in
     let joined = c.join.ensures.same.joined in
     let was : set_of c.args.pass.now ≡ set_id c.args.set.now = c.requires in
+    -- the runs that the pass knew before, between and after
     let knows : Knows one_word Indices capacity old = subst (λ m. Knows one_word Indices m old) (same_size was) c.history.ensures.run in
     let between : Knows one_word Indices capacity taken =
     subst (λ m. Knows one_word Indices m taken) (same_size (call.same.set ∙ (c.split.ensures.set ∙ was))) c.history-2.ensures.run in
     let after : Knows one_word Indices capacity new =
     subst (λ m. Knows one_word Indices m new) (same_size (c.join.ensures.same.set ∙ (call.same.set ∙ (c.split.ensures.set ∙ was)))) c.history-3.ensures.run in
     let run = c.runs_go_on.ensures in
+    -- each goes on from the one before: over the split, the acquire and the join
     let one : Continues one_word Indices capacity old left = (run.splits one_word Indices capacity old left right cut knows).0 in
     let two : Continues one_word Indices capacity left taken = record { first = call.same.first; knows = between } in
     let three : Continues one_word Indices capacity taken new = (run.joins one_word Indices capacity taken right new joined after).0 in
     let later : Continues one_word Indices capacity old new =
     run.calls one_word Indices capacity old taken new (run.calls one_word Indices capacity old left taken one two) three in
     let bound : Bound = λ n capacity size. stretch n 1 (capacity + 4) in
+    -- the laws of unique index sets
     let laws : Laws ℕ Indices bound =
     record {
       ends = c.passes_keep_ending.ensures.ends Indices;
@@ -50,5 +53,6 @@ returns g c =
     in
     let mine = call.same.aside in
     let most = c.join.ensures.steps in
+    -- one operation for the split, one for the acquire and two for the join are aside
     let few : new.aside ≤ old.aside + 4 = omega arith in
     record { later = later; within = ends_within one_word Indices capacity bound (old.aside + 4) old new knows later few laws }

@@ -9,6 +9,7 @@ use Rattle.uses_programs.specs.Bells.{HearsMore}
 use Rattle.uses_programs.proofs.Rings.{none_heard, hears, rest_heard}
 use Rattle.uses_programs.proofs.bells.hear_rest.Goals as goal
 
+-- no bell was heard yet
 pub loop-init : goal.loop-init
 loop-init g c =
     record {
@@ -18,6 +19,7 @@ loop-init g c =
       heard = subst (λ z. HearsMore [] z (made c.args.pass) (made c.args.pass)) (sym c.new-heard.ensures.items) (none_heard (made c.args.pass));
     }
 
+-- a look found a bell, which is appended to `heard`
 pub loop-preserved : goal.loop-preserved
 loop-preserved g c =
     let items : c.push.new.self.items ≡ c.loop.heard.items ++ c.in-Some-reset_next.bell ∷ [] = grind (arith, common_steps) in
@@ -29,6 +31,8 @@ loop-preserved g c =
           (view c.loop.pass) (view c.reset_next.new.pass) c.in-Some-reset_next.ensures.cleared.cleared items c.loop.invariant.heard;
     }
 
+-- The last look found no bell. With the whole share nobody has set one since, so each bell was cleared as
+-- often as it was set.
 pub returns-in-None-reset_next : goal.returns-in-None-reset_next
 returns-in-None-reset_next g c bell =
     let old = c.loop.pass in

@@ -3,6 +3,7 @@ use Rattle.lock_free.specs.Bits.Calls.{set_of, share, made, MissesNothing}
 use Rattle.uses_programs.specs.Bells.{HearsMore}
 use Rattle.uses_programs.proofs.bells.hear_rest.Given as given
 
+-- the pass still knows all that it has made, and cleared exactly the bells in `heard`
 abbrev pub invariant-loop : given.invariant-loop
 invariant-loop g l =
     record {

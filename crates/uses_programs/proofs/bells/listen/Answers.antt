@@ -9,6 +9,7 @@ use Rattle.uses_programs.proofs.bells.listen.Goals as goal
 pub loop-init : goal.loop-init
 loop-init g c = (refl, refl, subst (λ z. HearsMore [] z (made c.args.pass) (made c.args.pass)) (sym c.new-heard.ensures.items) (none_heard (made c.args.pass)))
 
+-- a look found a bell, which is appended to `heard`
 pub loop-preserved : goal.loop-preserved
 loop-preserved g c =
     let items : c.push.new.self.items ≡ c.loop.heard.items ++ c.in-Some.bell ∷ [] = grind (arith, common_steps) in (
@@ -18,6 +19,7 @@ loop-preserved g c =
           (view c.reset_next.new.pass) c.in-Some.ensures.cleared.cleared items c.loop.invariant.2,
     )
 
+-- a look found no bell
 pub loop-preserved-in-None : goal.loop-preserved-in-None
 loop-preserved-in-None g c = (
   c.reset_next.ensures.same.set ∙ c.loop.invariant.0,

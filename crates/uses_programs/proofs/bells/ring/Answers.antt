@@ -6,6 +6,7 @@ use Rattle.uses_programs.specs.Bells.{WereSet, HasRung}
 use Rattle.uses_programs.proofs.Rings.{rings, rings_again, none_rung, rang_on}
 use Rattle.uses_programs.proofs.bells.ring.Goals as goal
 
+-- no bell was rung yet
 pub loop-at-init : goal.loop-at-init
 loop-at-init g c =
     record {
@@ -16,6 +17,7 @@ loop-at-init g c =
       were_set = All-nil (λ bell. 1 ≤ sets bell (history c.args.pass));
     }
 
+-- the bell at `at` did not ring before, and is appended to `rung`
 pub loop-at-preserved : goal.loop-at-preserved
 loop-at-preserved g c =
     let l = c.loop-at in
@@ -31,6 +33,7 @@ loop-at-preserved g c =
       were_set = rang_on c.args.bells.now l.at _ c.set.result old new lt refl c.set.ensures.added.added c.set.ensures.added.stood l.invariant.were_set;
     }
 
+-- the bell at `at` rang already
 pub loop-at-preserved-then-not-set : goal.loop-at-preserved-then-not-set
 loop-at-preserved-then-not-set g c =
     let l = c.loop-at in

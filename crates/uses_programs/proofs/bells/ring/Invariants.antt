@@ -3,6 +3,8 @@ use Rattle.lock_free.specs.Bits.Calls.{set_of, share, history, made}
 use Rattle.uses_programs.specs.Bells.{WereSet, HasRung}
 use Rattle.uses_programs.proofs.bells.ring.Given as given
 
+-- The loop has rung the bells before `at`: it set exactly those in `rung`, and each of them
+-- was set by somebody.
 abbrev pub invariant-loop-at : given.invariant-loop-at
 invariant-loop-at g l =
     record {

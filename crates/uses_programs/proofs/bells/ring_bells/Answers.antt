@@ -6,6 +6,7 @@ use Rattle.uses_programs.specs.Bells.{WereSet, BothRung, HearsMore}
 use Rattle.uses_programs.proofs.Rings.{split_twice, all_heard, none_lost, rang_still}
 use Rattle.uses_programs.proofs.bells.ring_bells.Goals as goal
 
+-- the pass that was split twice is joined again, so it has the whole share and misses nothing
 pub hear_rest-requires : goal.hear_rest-requires
 hear_rest-requires g c =
     let opened = c.in-Ok.mine in
@@ -24,6 +25,7 @@ hear_rest-requires g c =
       c.join.ensures.same.all,
     )
 
+-- what was heard and what still rang is what was rung, bell by bell
 pub returns-clause-same : goal.returns-clause-same
 returns-clause-same g c =
     let p = c.in_ok-pass in
@@ -35,6 +37,8 @@ returns-clause-same g c =
     (made c.in_ok-ears.ears) (made h.listener) (made c.join.new.self) rang fresh listens c.join.ensures.same.joined.made
     c.in_ok-left.ensures
 
+-- each bell of both lists was set when both threads were joined, so it was heard or still rang:
+-- `first`, and then `second`
 pub returns-clause-all : goal.returns-clause-all
 returns-clause-all g c =
     let opened = c.in-Ok.mine in

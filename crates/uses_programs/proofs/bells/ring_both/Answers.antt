@@ -5,6 +5,7 @@ use Rattle.uses_programs.specs.Bells.{WereSet, HasRung, BothRung}
 use Rattle.uses_programs.proofs.Rings.{both_rung, rang_still}
 use Rattle.uses_programs.proofs.bells.ring_both.Goals as goal
 
+-- the joined pass has made what both threads made
 pub returns-clause-rung : goal.returns-clause-rung
 returns-clause-rung g c =
     let one = c.in_ok-pass in
@@ -14,6 +15,7 @@ returns-clause-rung g c =
     subst (BothRung one.rung.items two.also.items) (sym c.join.ensures.same.joined.made)
     (both_rung one.rung.items two.also.items (made one.pass) (made two.further) h k)
 
+-- each bell of the two lists was set by what the joined pass has seen
 pub returns-clause-all : goal.returns-clause-all
 returns-clause-all g c =
     let one = c.in_ok-pass in

@@ -4,6 +4,8 @@ use Rattle.uses_programs.proofs.Names.{common_steps, slice_get, drop, front, ind
 use Rattle.uses_programs.proofs.Names.{sending_none, sending_one, sent_all, receiving_none, receiving_one, received_all, left_over}
 use Rattle.uses_programs.proofs.closing.push_pop_and_close.Goals as goal
 
+-- The numbers 1 and 2 were sent. What was popped and what `close` returned are all that was sent, in order
+-- (`all`), so 1 was popped and 2 is left.
 pub returns : goal.returns
 returns c =
     let x = c.in-Some.shared in

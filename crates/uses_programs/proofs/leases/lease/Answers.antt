@@ -7,6 +7,7 @@ use Rattle.uses_programs.specs.Leases.{HasLeased}
 use Rattle.uses_programs.proofs.Leased.{leased_none, leased_more}
 use Rattle.uses_programs.proofs.leases.lease.Goals as goal
 
+-- no index was leased yet
 pub loop-init : goal.loop-init
 loop-init g c =
     let nothing = sym c.new-indices.ensures.items in
@@ -17,6 +18,7 @@ loop-init g c =
       leased = subst (λ xs. HasLeased xs (made c.args.pass)) nothing (subst (HasLeased []) (sym c.requires.none) leased_none);
     }
 
+-- one more index was granted, and is appended to `indices`
 pub loop-preserved : goal.loop-preserved
 loop-preserved g c =
     let index = c.in_ok-index.index in

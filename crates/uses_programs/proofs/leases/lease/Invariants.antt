@@ -4,6 +4,7 @@ use Rattle.lock_free.specs.RobustUniqueIndexSet.{capacity_of, made, share, set_o
 use Rattle.uses_programs.specs.Leases.{HasLeased}
 use Rattle.uses_programs.proofs.leases.lease.Given as given
 
+-- the pass has leased the indices in `indices`, each within the capacity
 abbrev pub invariant-loop : given.invariant-loop
 invariant-loop g l =
     record {

@@ -7,6 +7,8 @@ use Rattle.uses_programs.proofs.Halves.{both_halves}
 use Rattle.uses_programs.proofs.Leased.{leased_both, leased_apart}
 use Rattle.uses_programs.proofs.leases.lend_and_recover.Goals as goal
 
+-- The joined pass has the whole share and has leased what both had. No lease has ended, so no
+-- index was leased twice.
 pub returns-clause-apart : goal.returns-clause-apart
 returns-clause-apart g c =
     let p = c.in_ok-pass in

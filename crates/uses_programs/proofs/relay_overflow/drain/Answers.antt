@@ -11,6 +11,7 @@ use Rattle.uses_programs.proofs.relay_overflow.drain.Goals as goal
 pub loop-init : goal.loop-init
 loop-init g c = (refl, [], sym (append-nil _), λ some. takes_here _)
 
+-- a pop took a number, which is appended
 pub loop-preserved : goal.loop-preserved
 loop-preserved g c =
     let items : c.push.new.self.items ≡ c.loop.numbers.items ++ c.in-Some-pop.number ∷ [] = grind (arith, common_steps) in
@@ -25,6 +26,7 @@ loop-preserved g c =
           is (oldest_popped Index _ _ c.pop.result c.pop.ensures.popped (c.pop.ensures.empty wide)))),
     )
 
+-- the last pop found the queue empty
 pub returns-in-None-pop-clause-drained : goal.returns-in-None-pop-clause-drained
 returns-in-None-pop-clause-drained g c some =
     let same = ap (λ (q : QueueId). q.capacity) c.loop.invariant.0 in

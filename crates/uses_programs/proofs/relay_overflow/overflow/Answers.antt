@@ -14,6 +14,8 @@ taken_out : {A E : Type 0} (P : A → Type 0) (r : Result A E) (x : A) → Some 
 taken_out P (Ok y) x e h = let same : y ≡ x = cc in subst P same h
 taken_out P (Err failure) x e h = let none : Some x ≡ None = e in absurd (cc)
 
+-- The joined pass has the whole share of a queue with room for four: what was popped, what the drain took and
+-- what was handed back are all that was pushed.
 pub returns : goal.returns
 returns g c =
     let all = c.args.numbers.now in

@@ -10,6 +10,7 @@ use Rattle.lock_free_queues.proofs.Queues.Ends.{oldest_popped}
 use Rattle.lock_free_queues.proofs.Queues.TakenOut.{takes_none, takes_one, takes_nothing, takes_all}
 use Rattle.uses_programs.proofs.relay_overflow.pop_some.Goals as goal
 
+-- the role was acquired, and nothing was popped yet
 pub loop-init : goal.loop-init
 loop-init g c =
     let is : c.acquire_consumer.result ≡ Ok c.in-Ok.consumer = first_of (search rules, grind (arith, common_steps)) in
@@ -19,6 +20,7 @@ loop-init g c =
           (sym c.new-numbers.ensures.items) (takes_none roles.Consumer _ _ told.0.goes told.1),
     )
 
+-- a pop took a number, which is appended
 pub loop-preserved : goal.loop-preserved
 loop-preserved g c =
     let items : c.push.new.self.items ≡ c.loop.numbers.items ++ c.in-Some.number ∷ [] = grind (arith, common_steps) in
@@ -33,6 +35,7 @@ loop-preserved g c =
           is (oldest_popped Index _ _ c.pop.result c.pop.ensures.popped (c.pop.ensures.empty wide))))),
     )
 
+-- a pop found nothing
 pub loop-preserved-in-None : goal.loop-preserved-in-None
 loop-preserved-in-None g c =
     let same = ap (λ (q : QueueId). q.capacity) c.loop.invariant.0 in

@@ -8,6 +8,7 @@ use Rattle.lock_free_queues.specs.Queues.Merges.{HasPushedUpTo}
 use Rattle.lock_free_queues.proofs.Queues.TakenOut.{pushed_none, pushes_next, returns_next, pushed_all}
 use Rattle.uses_programs.proofs.relay_overflow.push_all.Goals as goal
 
+-- the role was acquired, and nothing was pushed yet
 pub loop-next-init : goal.loop-next-init
 loop-next-init c =
     let is : c.acquire_producer.result ≡ Ok c.in-Ok.producer = first_of (search rules, grind (arith, common_steps)) in
@@ -18,6 +19,7 @@ loop-next-init c =
           (sym c.new-handed_back.ensures.items) (pushed_none c.args.numbers.now roles.Producer _ _ told.0.goes told.1),
     )
 
+-- the push of the number at `next` handed a number back, which is appended
 pub loop-next-preserved : goal.loop-next-preserved
 loop-next-preserved c =
     let items : c.push-in-Some.new.self.items ≡ c.loop-next.handed_back.items ++ c.in-Some.back ∷ [] = grind (arith, common_steps) in
@@ -32,6 +34,7 @@ loop-next-preserved c =
           c.in-Some.ensures.handed_back)),
     )
 
+-- the push of the number at `next` handed nothing back
 pub loop-next-preserved-in-None : goal.loop-next-preserved-in-None
 loop-next-preserved-in-None c =
     let same = ap (λ (q : QueueId). q.capacity) c.loop-next.invariant.0 in (
@@ -43,6 +46,7 @@ loop-next-preserved-in-None c =
           (c.loop-next.invariant.2 some) (c.push.ensures.same.goes wide) c.in-None.ensures.added),
     )
 
+-- all numbers were pushed once the role is released
 pub returns-clause-pushed : goal.returns-clause-pushed
 returns-clause-pushed c some =
     pushed_all c.args.numbers.now c.loop-next.next _ roles.Producer (view c.args.pass)

@@ -3,6 +3,8 @@ use Rattle.lock_free.specs.Queues.Overflowing.{view, queue_of, producer_view, pr
 use Rattle.lock_free_queues.specs.Queues.Merges.{HasPushedUpTo}
 use Rattle.uses_programs.proofs.relay_overflow.push_all.Given as given
 
+-- the producer has pushed the numbers before `next`, of which those in `handed_back` came back,
+-- if the queue has room
 abbrev pub invariant-loop-next : given.invariant-loop-next
 invariant-loop-next l =
     (producer_queue l.producer ≡ queue_of l.fn.pass)

@@ -6,6 +6,7 @@ use Rattle.uses_programs.specs.Readings.{HasRead}
 use Rattle.uses_programs.proofs.Readings.{read_more}
 use Rattle.uses_programs.proofs.relay_readings.load_some.Goals as goal
 
+-- one more reading was loaded, and is appended
 pub loop-done-preserved : goal.loop-done-preserved
 loop-done-preserved g c =
     let pushed : c.push.new.self.items ≡ c.loop-done.readings.items ++ c.load-reading.result ∷ [] = first_of (search rules, grind (arith, common_steps)) in

@@ -3,6 +3,7 @@ use Rattle.lock_free.specs.Value.Calls.{view, value_of_pass}
 use Rattle.uses_programs.specs.Readings.{HasRead}
 use Rattle.uses_programs.proofs.relay_readings.load_some.Given as given
 
+-- the loop has loaded `_done` readings, and they are in `readings`
 abbrev pub invariant-loop-done : given.invariant-loop-done
 invariant-loop-done g l =
     record {

@@ -27,6 +27,7 @@ pub relayed-requires-clause-receives : goal.relayed-requires-clause-receives
 relayed-requires-clause-receives g c =
     c.in_ok-sender.ensures.receiver c.finish-other.result (read_all _ _ _ _ _ c.in_ok-back.ensures.read c.finish-other.ensures.receives).received.of
 
+-- if nothing came back, the images received are the first ones in order, and the shades read are theirs
 pub returns : goal.returns
 returns g c =
     let made = c.in_ok-channel.ensures.value in

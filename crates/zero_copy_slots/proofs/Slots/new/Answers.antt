@@ -3,6 +3,7 @@ use Rattle.std.proofs.Common.{◌∷◌, ◌++◌, ◌∙◌, [], ap, arith}
 use Rattle.zero_copy_slots.proofs.Ranges.{range_more}
 use Rattle.zero_copy_slots.proofs.Slots.new.Goals as goal
 
+-- one more cell is appended, with the next number as its tag
 pub loop-slot-preserved : goal.loop-slot-preserved
 loop-slot-preserved g c =
     let slot = c.loop-slot.slot-counter in

@@ -19,6 +19,7 @@ turn-claim-requires-clause-slot g c =
 pub invariant_of-result-clause-at : goal.invariant_of-result-clause-at
 invariant_of-result-clause-at g c = c.turn-claim.ensures.tag ∙ c.look-seen.ensures
 
+-- the right to write is to the cell of the slot, which there is
 pub returns-clause-slot : goal.returns-clause-slot
 returns-clause-slot g c =
     let found = c.in-Some.ensures.lookup in (

@@ -12,6 +12,7 @@ use Rattle.lock_free_guards.proofs.Trying.{none_tried}
 use Rattle.lock_free_guards.proofs.RobustTries.{acquired, failed, one_next}
 use Rattle.lock_free_guards.proofs.robust_index.RobustIndex.acquire_waiting.Goals as goal
 
+-- the invariant of the loop holds before its first iteration
 pub loop-init : goal.loop-init
 loop-init g c = (refl, (0, none_tried (Robust (Acquire c.args.owner)) (view c.args.pass)))
 
@@ -45,6 +46,7 @@ returns-in-IsLocked-clause-locked g c =
           shut,
     )
 
+-- a try that is refused because the set is locked has seen the lock (clause `lock`)
 pub returns-in-IsLocked-clause-lock : goal.returns-in-IsLocked-clause-lock
 returns-in-IsLocked-clause-lock g c =
     (subst (λ f. HasFailed c.args.owner f (view c.loop.pass) (view c.in-Err.back)) c.in-IsLocked.is c.in-Err.ensures.failed).refused.locked refl

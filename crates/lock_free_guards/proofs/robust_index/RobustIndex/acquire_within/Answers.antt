@@ -13,6 +13,7 @@ use Rattle.lock_free_guards.proofs.Trying.{none_tried}
 use Rattle.lock_free_guards.proofs.RobustTries as tries
 use Rattle.lock_free_guards.proofs.robust_index.RobustIndex.acquire_within.Goals as goal
 
+-- the invariant of the loop holds before its first iteration
 pub loop-init : goal.loop-init
 loop-init g c = (refl, none_tried (Robust (Acquire c.args.owner)) (view c.args.pass))
 
@@ -48,16 +49,19 @@ returns-in-IsLocked-clause-locked g c is =
           c.in-Err.ensures.failed_same.goes IsLocked shut,
     )
 
+-- a try that is refused because the set is locked has seen the lock (clause `lock`)
 pub returns-in-IsLocked-clause-lock : goal.returns-in-IsLocked-clause-lock
 returns-in-IsLocked-clause-lock g c is =
     (subst (λ f. HasFailed c.args.owner f (view c.loop.pass) (view c.in-Err.back)) is c.in-Err.ensures.failed).refused.locked refl
 
+-- the last try, if it took an index, ends the tries within their limit (clause `acquired`)
 pub returns-clause-acquired : goal.returns-clause-acquired
 returns-clause-acquired g c =
     let all : c.loop.counter ≡ c.args.tries - 1 = omega arith in
     let tried = subst (λ n. HasTried n (Robust (Acquire c.args.owner)) (view c.args.pass) (view c.loop.pass)) all c.loop.invariant.1 in
     tries.within c.args.owner c.args.tries c.args.pass c.loop.pass tried c.acquire-2.result c.acquire-2.ensures.same c.acquire-2.ensures.acquired
 
+-- where the last try found no index left, the set was not seen locked before (clause `unlocked`)
 pub returns-clause-unlocked : goal.returns-clause-unlocked
 returns-clause-unlocked g c =
     let all : c.loop.counter ≡ c.args.tries - 1 = omega arith in

@@ -1,4 +1,5 @@
--- each try so far took none
+-- `RobustIndex::acquire_within` (src/robust_index/waits.rt): in its loop each try has found no index
+-- left, and took none.
 use Rattle.std.proofs.Common.{◌≡◌}
 use Rattle.model.specs.declared.event.Start.TheVariants.{Robust}
 use Rattle.model.specs.declared.families.indices.robust.RobustStart.TheVariants.{Acquire}

@@ -1,6 +1,6 @@
--- The law `halves_relay` (src/laws/relays.rt): what one half of a first pass received is a beginning of what the other half sent; it
--- holds once both are joined and one pop more was made; all of it came just where that pop found nothing, and no more is left than the
--- queue has room for.
+-- The law `halves_relay` (src/laws/relays.rt): once two halves of a first pass are joined and one
+-- further pop was made, what one received is a beginning of what the other sent. All of it was received
+-- just where that pop found nothing, and at most the capacity is left.
 use Rattle.lock_free_queues.proofs.Queues.Relays.{views_relayed}
 use Rattle.lock_free_queues.proofs.laws.relays.halves_relay.Goals as goal
 

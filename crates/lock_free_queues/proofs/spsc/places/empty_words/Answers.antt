@@ -7,6 +7,7 @@ use Rattle.lock_free_queues.proofs.spsc.places.empty_words.Goals as goal
 abbrev written_over : List ℕ → ℕ → List ℕ
 written_over words start = set (set (set (set words 0 start) 1 start) 2 1) 3 1
 
+-- Zeros, of which the first four are written over, are both positions, both free roles, and cells of zeros.
 empty : (cells start : ℕ) (words : List ℕ) → words ≡ replicate (4 + cells + 1) 0
     → written_over words start ≡ start ∷ start ∷ 1 ∷ 1 ∷ (replicate cells 0 ++ 0 ∷ [])
 empty cells start words same =

@@ -1,5 +1,6 @@
--- The law `halves_hold_both` (src/laws/pools.rt): two halves of a pass, once they are joined, hold what both held; they have as much of
--- the right to know the whole as the pass had; so it goes on by halves of halves, to any number of threads.
+-- The law `halves_hold_both` (src/laws/pools.rt): two halves of a pass, once they are joined, hold what
+-- both held, and have as much of the right to know the whole as the pass had. Halves can be halved
+-- again, for any number of threads.
 use Rattle.std.proofs.Common.{refl, ◌++◌}
 use Rattle.lock_free_sets.proofs.Unique.Pools.{both_hold}
 use Rattle.lock_free_sets.proofs.laws.pools.halves_hold_both.Goals as goal

@@ -1,6 +1,6 @@
--- The law `whole_calls_are_alone` (src/laws/wholes.rt): who has the whole share, and whose calls have ended, makes each call alone;
--- nobody else changes a word during it, so of what a clause `steps` allows only the number alone is left; what the pass knows after the
--- call says so (`history`).
+-- The law `whole_calls_are_alone` (src/laws/wholes.rt): a pass that has the whole share, and whose
+-- calls have ended, makes each call alone. Nobody else changes a word during it, so it takes at most
+-- the number of steps that its clause `steps` gives for a call alone.
 use Rattle.lock_free_sets.proofs.Whole.Alone.{takes_most}
 use Rattle.lock_free_sets.proofs.laws.wholes.whole_calls_are_alone.Goals as goal
 

@@ -54,6 +54,7 @@ returns-then-not-enter-clause-refused g c =
     none_found c.flight_of.result (flight_in w c.args.number) c.flight_of.ensures c.if-is_some.ensures in
     inr (begin_passes w c.args.number c.args.start c.requires within free c.in_ok-flight.ensures.allowed, refl)
 
+-- where the machine does not have the party, it refuses the begin as `NoParty`
 pub returns-then-number-self-clause-refused : goal.returns-then-number-self-clause-refused
 returns-then-number-self-clause-refused g c =
     let w = (trace_of (coding_by g.T.Words) c.args.self.now).world in

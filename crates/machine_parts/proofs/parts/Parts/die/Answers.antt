@@ -31,11 +31,14 @@ returns-then-not-mark_dead-clause-refused g c =
     let rows : first_row (death_rows c.args.self.now.kept c.args.owner) ≡ None = sym c.in_default.ensures in
     inr (death_passes w c.args.owner c.requires there rows, refl)
 
+-- where memory to mark the owner as dead is refused, the machine is as before
 pub returns-then-not-mark_dead-clause-err : goal.returns-then-not-mark_dead-clause-err
 returns-then-not-mark_dead-clause-err g c =
     let same : c.mark_dead.new.kept ≡ c.args.self.now.kept = c.if-not-mark_dead.ensures.same refl in
     rw (same, c.reserve.ensures.items) refl
 
+-- a death that is taken leaves the machine as the turn does: the owner is marked as dead,
+-- and the event is written
 pub returns-clause-ok : goal.returns-clause-ok
 returns-clause-ok g c =
     let kept : c.mark_dead.new.kept ≡ kept_after_death c.args.self.now.kept c.args.owner = c.if-not-mark_dead.ensures.dies refl in

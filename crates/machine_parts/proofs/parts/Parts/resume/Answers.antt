@@ -11,6 +11,7 @@ use Rattle.machine_parts.specs.Parts.{trace_of}
 use Rattle.machine_parts.proofs.Going.{refusal_is, is_refusal, going_is, goes_on_nowhere, is_idle}
 use Rattle.machine_parts.proofs.parts.Parts.resume.Goals as goal
 
+-- the counts of the party that takes the step are small, since those of all parties are
 pub take_step-gone-requires-clause-small : goal.take_step-gone-requires-clause-small
 take_step-gone-requires-clause-small g c =
     c.requires.small.latest c.args.number c.deref_mut.result.now (sym c.in-Some.ensures.value ∙ ap Some (sym (c.deref_mut.ensures.value ∙ c.seat.view_is)))
@@ -60,6 +61,7 @@ returns-in-Err-clause-err g c =
     in
     rw (same, c.in-Err.ensures.words, c.in-Err.ensures.kept, c.in-Err.ensures.changes, c.in-Err.ensures.events) refl
 
+-- where the machine does not have the party, it refuses the turn as `NoParty`
 pub returns-then-number-self-clause-refused : goal.returns-then-number-self-clause-refused
 returns-then-number-self-clause-refused g c =
     let w = (trace_of (coding_by g.T.Words) c.args.self.now).world in

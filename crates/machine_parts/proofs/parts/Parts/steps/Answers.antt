@@ -9,6 +9,7 @@ use Rattle.machine_parts.proofs.Steps.{steps_are}
 use Rattle.machine_parts.proofs.parts.Parts.steps.Goals as goal
 use Rattle.machine_parts.proofs.parts.Parts.steps.Goals.{then-most-left, else-most-left}
 
+-- the counts of the party that takes the steps are small, since those of all parties are
 pub take_steps-taken-requires-clause-small : goal.take_steps-taken-requires-clause-small
 take_steps-taken-requires-clause-small g c =
     c.requires.latest c.args.number c.deref_mut.result.now (sym c.in-Some.ensures.value ∙ ap Some (sym (c.deref_mut.ensures.value ∙ c.seat.view_is)))

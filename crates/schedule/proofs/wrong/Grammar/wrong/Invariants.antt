@@ -1,3 +1,4 @@
+-- The invariant of the loop of `Grammar::wrong`: the place of the loop is not before the start of the word.
 use Rattle.std.proofs.Common.{◌≤◌}
 use Rattle.schedule.proofs.wrong.Grammar.wrong.Given as given
 

@@ -1,3 +1,5 @@
+-- The invariant of the loop of `visit_elements`, which calls a closure for each value that a
+-- container's state shows.
 use Rattle.std.proofs.Common.{take}
 use Rattle.std.specs.List.{FoldsTo}
 use Rattle.steps.specs.Container.State.{at_value, shown_from}

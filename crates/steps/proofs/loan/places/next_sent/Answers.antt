@@ -4,6 +4,7 @@ use Rattle.std.proofs.Common.{◌∙◌, sym}
 use Rattle.steps.proofs.Places.{found_here, goes_further}
 use Rattle.steps.proofs.loan.places.next_sent.Goals as goal
 
+-- where this index is not sent, the search goes on with the next one
 pub slots-preserved : goal.slots-preserved
 slots-preserved c =
     c.slots.invariant

@@ -1,3 +1,5 @@
+-- The invariant of the loop of `next_sent`: the first index that is sent, from the start on, is the first one
+-- from this index on.
 use Rattle.std.proofs.Common.{◌≡◌}
 use Rattle.steps.specs.Loan.Places.{next_sent}
 use Rattle.steps.proofs.loan.places.next_sent.Given as given

@@ -15,6 +15,7 @@ loop-rest-init c =
       sized = omega arith;
     }
 
+-- the place before the one written last exists, since a number of two digits or more takes two places or more
 pub overflow_sub-at : goal.overflow_sub-at
 overflow_sub-at c =
     omega (arith, length-decimal_tenth c.loop-rest.rest c.loop-rest-test.true c.loop-rest.invariant.fits, c.loop-rest.invariant.room)
@@ -32,6 +33,7 @@ loop-rest-preserved c =
       sized = length-set c.loop-rest.digits (c.loop-rest.at - 1) (48 + c.loop-rest.rest % 10) ∙ i.sized;
     }
 
+-- the place of the first digit exists, since one digit is still left to write
 pub overflow_sub-at-2 : goal.overflow_sub-at-2
 overflow_sub-at-2 c = omega (arith, length-decimal_digit c.loop-rest.rest (omega arith), c.loop-rest.invariant.room)
 

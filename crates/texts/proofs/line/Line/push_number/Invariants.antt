@@ -1,3 +1,6 @@
+-- The invariant of the loop of `Line::push_number`: the digits still to write, and those written behind them,
+-- spell the number, and the buffer has room for the digits still to write. The loop ends since the number
+-- that is left becomes less.
 use Rattle.std.proofs.Common.{◌≡◌, ◌<◌, ◌≤◌, ◌^◌, ◌++◌, decimal, drop, length}
 use Rattle.texts.proofs.line.Line.push_number.Given as given
 

@@ -133,7 +133,7 @@ pub fn goes_back(flight: &RobustFlight, answer: u64) -> bool
     }
 }
 
-/// Lets the call go on from an answer, where it lies: its own answer, where it is done.
+/// Hands the call an answer, changes it in place, and returns the call's own answer once it is done.
 pub fn feed<T>(flight: &mut RobustFlight, answer: u64) -> Option<Answer<T>>
     ensures { CameTo result flight.new (after flight.old answer) }
 {

@@ -19,7 +19,7 @@ use steps::indices::robust::release::{GiveBack, ReleaseStage};
 /// The most events that a step of a call writes, apart from the end of its call.
 pub const MOST_EFFECTS: usize = 1;
 
-/// What the step of a lock does from this answer.
+/// The event `Locked` of the step of a lock, if this answer makes it lock the set.
 pub fn locked_by<T>(number: u32, lock: Lock, answer: u64) -> Option<Event<T>>
     ensures { option_to_list result ≡ locked_by number lock answer }
 {
@@ -35,7 +35,8 @@ pub fn locked_by<T>(number: u32, lock: Lock, answer: u64) -> Option<Event<T>>
     }
 }
 
-/// What the exchange of a cell from this owner to empty does.
+/// The event `FreedOf` of an exchange of a cell from this owner to empty, if the answer
+/// says that it succeeds.
 pub fn freed<T>(number: u32, index: u32, owner: OwnerId, answer: u64) -> Option<Event<T>>
     ensures { option_to_list result ≡ freed number index owner answer }
 {
@@ -46,7 +47,8 @@ pub fn freed<T>(number: u32, index: u32, owner: OwnerId, answer: u64) -> Option<
     }
 }
 
-/// What the step of an acquire at this stage does from this answer.
+/// The event of the next step of an acquire, if it has one: `Filled` as its cell gets the owner, `Granted` as
+/// its raise of the counter ends.
 pub fn acquire_effect<T>(
     number: u32,
     owner: OwnerId,
@@ -71,7 +73,8 @@ pub fn acquire_effect<T>(
     }
 }
 
-/// The same of a release.
+/// The event of the next step of a release, if it has one: `FreedOf` as its cell becomes empty, `Locked` as
+/// it locks the set.
 pub fn release_effect<T>(
     number: u32,
     given: GiveBack,
@@ -87,7 +90,8 @@ pub fn release_effect<T>(
     }
 }
 
-/// The same of a recovery.
+/// The event of the next step of a recovery, if it has one: `Asked` at an owner that it finds, `Told` at a
+/// yes, `FreedOf` as a cell becomes empty, `Locked` as it locks the set.
 fn recover_effect<T>(number: u32, stage: RecoverStage, answer: u64) -> Option<Event<T>>
     ensures { option_to_list result ≡ recover_effects number stage answer }
 {
@@ -109,7 +113,7 @@ fn recover_effect<T>(number: u32, stage: RecoverStage, answer: u64) -> Option<Ev
     }
 }
 
-/// What the next step of the call does from this answer.
+/// The event of the next step of the call, which is handed this answer, if it has one.
 fn effect<T>(flight: &RobustFlight, number: u32, answer: u64) -> Option<Event<T>>
     ensures { option_to_list result ≡ effects number flight.now answer }
 {
@@ -121,7 +125,8 @@ fn effect<T>(flight: &RobustFlight, number: u32, answer: u64) -> Option<Event<T>
     }
 }
 
-/// Lets the call go on from an answer, where it lies, with what its step writes down. Who has died stays.
+/// Hands the call an answer, changes it in place, and appends the step's event to `events`. The
+/// list of dead owners stays.
 pub fn perform<T: Copy>(
     flight: &mut RobustFlight,
     number: u32,

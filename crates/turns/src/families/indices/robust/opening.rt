@@ -26,7 +26,7 @@ pub fn open<T>(alloc: Global, capacity: u32) -> Result<(Vec<u64>, Registry<T>), 
     Ok((words, Registry::Owners(Dead::new(alloc))))
 }
 
-/// Whether a machine of this kind has the set.
+/// Whether a machine of this kind is a robust index set.
 fn is_set(kind: Kind) -> bool
     ensures { result ≡ is_set kind }
 {
@@ -36,7 +36,7 @@ fn is_set(kind: Kind) -> bool
     }
 }
 
-/// The call that begins, or why it may not.
+/// The call that begins, or why it may not begin.
 pub fn permit(
     kind: Kind,
     capacity: u32,
@@ -89,7 +89,7 @@ fn acts_for_dead(flight: &RobustFlight, dead: &Dead) -> bool
     }
 }
 
-/// Whether by a yes it would free an index of an owner who lives.
+/// Whether the decision `said` is a yes by which a recovery would free an index of an owner who lives.
 fn frees_living(flight: &RobustFlight, dead: &Dead, said: Option<bool>) -> bool
     ensures { result ≡ frees_living dead.now flight.now said }
 {
@@ -105,7 +105,7 @@ fn frees_living(flight: &RobustFlight, dead: &Dead, said: Option<bool>) -> bool
     }
 }
 
-/// Why the call may not go on, by a decision or without, or None.
+/// Why the call may not go on with the decision `said`, or without one. None where it may.
 pub fn going_refusal(flight: &RobustFlight, dead: &Dead, said: Option<bool>) -> Option<Refusal>
     ensures { result ≡ first_row (going_rows dead.now flight.now said) }
 {

@@ -11,12 +11,14 @@ use Rattle.lock_free.specs.Container.Names.{code_of, container_of, history, view
 use Rattle.lock_free.specs.OwnersGone.{Word}
 use Rattle.uses_laws.proofs.twins.histories.of_container.Goals as goal
 
+-- an index is filled only where it was not, and is below the capacity
 pub returns-clause-filled : goal.returns-clause-filled
 returns-clause-filled c p index owner before after is =
     let pass = c.args.pass.now in
     let sound = c.container_histories_are_sound.ensures (code_of pass) (container_of pass).capacity (history pass) c.history.ensures.history in
     let does = sound.does before after (Filled p index owner) is in (does.0, does.1)
 
+-- a recovery asks about an index only if its owner had it at a moment of the call
 pub returns-clause-asked : goal.returns-clause-asked
 returns-clause-asked c p index owner before after is =
     let pass = c.args.pass.now in
@@ -32,24 +34,28 @@ returns-clause-freed c p index owner other mode wrote before after is span =
     subst (λ (s : Span ℕ). FreedBy Word p index owner before s) span (sound.recovers before after (FreedOf p index owner) is) in
     (freed.0, freed.2)
 
+-- `is_locked` answers whether the container was locked
 pub returns-clause-looked : goal.returns-clause-looked
 returns-clause-looked c p locked before after is =
     let pass = c.args.pass.now in
     let sound = c.container_histories_are_sound.ensures (code_of pass) (container_of pass).capacity (history pass) c.history.ensures.history in
     sound.answers before after (Finished p (Container IsLocked) (Truth locked)) is
 
+-- in a well-formed, honest history an index is granted only where nobody holds it
 pub returns-clause-granted : goal.returns-clause-granted
 returns-clause-granted c well honest p index owner before after is =
     let pass = c.args.pass.now in
     let sound = c.container_histories_are_sound.ensures (code_of pass) (container_of pass).capacity (history pass) c.history.ensures.history in
     sound.holds well honest before after (Granted p index owner) is
 
+-- an index that was never freed is granted only where nobody holds it
 pub returns-clause-held : goal.returns-clause-held
 returns-clause-held c p index owner never before after is =
     let pass = c.args.pass.now in
     c.container_indices_are_held_by_one.ensures index (code_of pass) (container_of pass).capacity (history pass) c.history.ensures.history
     (c.indices_never_freed_are_freed_right.ensures index (history pass) never) before after (Granted p index owner) is refl
 
+-- updates meet the changes, where these are fewer than 2^64 - 1
 pub returns-clause-met : goal.returns-clause-met
 returns-clause-met c few =
     let pass = c.args.pass.now in

@@ -3,6 +3,7 @@ use Rattle.lock_free.specs.Coding.{one_word}
 use Rattle.lock_free.specs.Sets.Calls.{history, set_of}
 use Rattle.uses_laws.proofs.twins.histories.of_counts.Goals as goal
 
+-- each answer about counts is right
 pub returns : goal.returns
 returns c =
     let pass = c.args.pass.now in

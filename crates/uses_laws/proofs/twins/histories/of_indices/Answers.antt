@@ -10,12 +10,14 @@ use Rattle.lock_free.specs.HistoryKnown.{events_by}
 use Rattle.lock_free.specs.UniqueIndexSet.{history, set_of}
 use Rattle.uses_laws.proofs.twins.histories.of_indices.Goals as goal
 
+-- an index is claimed only where nobody holds it and the set is not locked
 pub returns-clause-claimed : goal.returns-clause-claimed
 returns-clause-claimed c p index before after is =
     let pass = c.args.pass.now in
     let sound = c.index_histories_are_sound.ensures one_word (set_of pass).capacity (history pass) c.history.ensures.history in
     sound.holds before after (Claimed p index) is
 
+-- an index is freed by its holder
 pub returns-clause-freed : goal.returns-clause-freed
 returns-clause-freed c p index before after is =
     let pass = c.args.pass.now in
@@ -39,12 +41,14 @@ returns-clause-acquired c p index before after is =
       did = sym (ap (λ (a : SetActs). a.claimed) same);
     }
 
+-- `is_locked` answers whether the set was locked
 pub returns-clause-looked : goal.returns-clause-looked
 returns-clause-looked c p locked before after is =
     let pass = c.args.pass.now in
     let sound = c.index_histories_are_sound.ensures one_word (set_of pass).capacity (history pass) c.history.ensures.history in
     sound.answers before after (Finished p (Indices IsLocked) (Truth locked)) is
 
+-- at each moment the indices that count as held are those that somebody holds
 pub returns-clause-counted : goal.returns-clause-counted
 returns-clause-counted c before after is =
     let pass = c.args.pass.now in

@@ -13,11 +13,13 @@ invariant_of-result g c =
     c.args.self.alone c.release-pass.ensures.released c.release-pass.ensures.list in
     record { alone = left.0 }
 
+-- giving the role back leaves what was received
 pub returns-clause-received : goal.returns-clause-received
 returns-clause-received g c =
     ap values_in (stops_popping (consumer_view c.args.self.consumer) (view c.release-pass.result) c.release-pass.ensures.same.goes
     roles.Consumer c.args.self.alone c.release-pass.ensures.released c.release-pass.ensures.list).1
 
+-- giving the role back leaves whether the end was received
 pub returns-clause-end : goal.returns-clause-end
 returns-clause-end g c =
     ap has_end (stops_popping (consumer_view c.args.self.consumer) (view c.release-pass.result) c.release-pass.ensures.same.goes

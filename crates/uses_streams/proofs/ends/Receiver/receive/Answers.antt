@@ -20,12 +20,14 @@ invariant_of-self g c =
       came = subst (λ b. CameUpTo b (popped_by (consumer_view c.pop.new.self))) (sym (c.is_end-self.ensures ∙ ap is_end c.of-arrival.ensures)) came.1;
     }
 
+-- what arrived comes behind what was received before
 pub returns-clause-received : goal.returns-clause-received
 returns-clause-received g c =
     (receives (consumer_view c.args.self.now.consumer) (consumer_view c.pop.new.self) c.pop.ensures.same.goes c.pop.result
     c.args.self.now.ended c.if-self.false c.args.self.now.alone c.args.self.now.came c.pop.ensures.popped c.pop.ensures.empty).2
     ∙ ap (λ a. values_in (popped_by (consumer_view c.args.self.now.consumer)) ++ arrived a) (sym c.of-arrival.ensures)
 
+-- the receiver is at the end if the end arrived
 pub returns-clause-end : goal.returns-clause-end
 returns-clause-end g c =
     (receives (consumer_view c.args.self.now.consumer) (consumer_view c.pop.new.self) c.pop.ensures.same.goes c.pop.result
@@ -38,12 +40,14 @@ returns-clause-again g c ended = absurd (true≢false (sym ended ∙ (c.args.sel
 pub returns-clause-still : goal.returns-clause-still
 returns-clause-still g c ended = absurd (true≢false (sym ended ∙ (c.args.self.now.came.1 ∙ c.if-self.false)))
 
+-- a value that arrived was popped
 pub returns-clause-popped : goal.returns-clause-popped
 returns-clause-popped g c =
     subst (λ a. IfValue a (λ x. PopDone (Value (elements.Value x)) (consumer_view c.args.self.now.consumer) (consumer_view c.pop.new.self)))
     (sym c.of-arrival.ensures)
     (found_value (consumer_view c.args.self.now.consumer) (consumer_view c.pop.new.self) c.pop.result c.pop.ensures.popped)
 
+-- where nothing arrived, the queue was found empty
 pub returns-clause-nothing : goal.returns-clause-nothing
 returns-clause-nothing g c =
     subst (λ a. IfNothing a (PopEmpty (consumer_view c.args.self.now.consumer) (consumer_view c.pop.new.self))) (sym c.of-arrival.ensures)

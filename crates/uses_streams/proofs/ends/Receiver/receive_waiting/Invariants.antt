@@ -1,4 +1,4 @@
--- nothing was received so far
+-- the tries before received nothing
 use Rattle.std.proofs.Common.{◌≡◌}
 use Rattle.uses_streams.specs.Ends.{receiver_queue, received_so_far}
 use Rattle.uses_streams.proofs.ends.Receiver.receive_waiting.Given as given

@@ -37,13 +37,14 @@ returns-in-Value-clause-again g c ended = absurd (true≢false (sym ended ∙ (c
 pub returns-in-Value-clause-still : goal.returns-in-Value-clause-still
 returns-in-Value-clause-still g c ended = absurd (true≢false (sym ended ∙ (c.args.self.now.came.1 ∙ c.if-self.false)))
 
+-- the tries before found the queue empty, and this one popped the value
 pub returns-in-Value-clause-popped : goal.returns-in-Value-clause-popped
 returns-in-Value-clause-popped g c =
     let l = c.loop-empty in
     popped_within l._empty (receiver_view c.args.self.now) (receiver_view l.self) (receiver_view c.receive.new.self) l.invariant.empty
     c.args.tries (Value (elements.Value c.in-Value.value)) (omega arith) c.in-Value.ensures.popped
 
--- where the answer is `Value`, its return meets the clause `steps`
+-- where a value arrives, the steps are those of the tries so far, and so of at most `tries`
 pub returns-in-Value-clause-steps : goal.returns-in-Value-clause-steps
 returns-in-Value-clause-steps g c =
     let l = c.loop-empty in
@@ -61,7 +62,7 @@ returns-in-End-clause-received g c = c.in-End.ensures.received ∙ ap (λ xs. xs
 pub returns-in-End-clause-still : goal.returns-in-End-clause-still
 returns-in-End-clause-still g c ended = absurd (true≢false (sym ended ∙ (c.args.self.now.came.1 ∙ c.if-self.false)))
 
--- where the answer is `End`, its return meets the clause `steps`
+-- where the end arrives, the steps are those of the tries so far, and so of at most `tries`
 pub returns-in-End-clause-steps : goal.returns-in-End-clause-steps
 returns-in-End-clause-steps g c =
     let l = c.loop-empty in
@@ -79,11 +80,13 @@ returns-clause-again g c ended = absurd (true≢false (sym ended ∙ (c.args.sel
 pub returns-clause-still : goal.returns-clause-still
 returns-clause-still g c ended = absurd (true≢false (sym ended ∙ (c.args.self.now.came.1 ∙ c.if-self.false)))
 
+-- all tries found the queue empty
 pub returns-clause-nothing : goal.returns-clause-nothing
 returns-clause-nothing g c =
     let l = c.loop-empty in
     empty_all l._empty c.args.tries (receiver_view c.args.self.now) (receiver_view l.self) (omega arith) l.invariant.empty
 
+-- all tries together have at most the steps of so many receives
 pub returns-clause-steps : goal.returns-clause-steps
 returns-clause-steps g c =
     let l = c.loop-empty in

@@ -24,7 +24,7 @@ invariant_of-result g c =
     c.release-pass.ensures.same.goes c.release-pass.ensures.released c.release-pass.ensures.list in
     record { alone = done.0 }
 
--- where `push` answers true, its return meets the clause `sent`
+-- the end and the role's return leave the values that were sent
 pub returns-then-push-clause-sent : goal.returns-then-push-clause-sent
 returns-then-push-clause-sent g c =
     let l = c.loop in
@@ -33,7 +33,7 @@ returns-then-push-clause-sent g c =
     c.release-pass.ensures.same.goes c.release-pass.ensures.released c.release-pass.ensures.list).1
     ∙ ap values_in l.invariant.2
 
--- where `push` answers true, its return meets the clause `finished`
+-- where `push` answers true, the end was pushed
 pub returns-then-push-clause-finished : goal.returns-then-push-clause-finished
 returns-then-push-clause-finished g c =
     let l = c.loop in
@@ -41,7 +41,7 @@ returns-then-push-clause-finished g c =
     (ap has_values l.invariant.2 ∙ c.args.self.unended) c.push.ensures.same.goes (c.push.ensures.pushed c.if-push.true)
     c.release-pass.ensures.same.goes c.release-pass.ensures.released c.release-pass.ensures.list).2
 
--- where `push` answers true, its return meets the clause `end`
+-- where `push` answers true, the end was pushed once, after all values
 pub returns-then-push-clause-end : goal.returns-then-push-clause-end
 returns-then-push-clause-end g c =
     let l = c.loop in

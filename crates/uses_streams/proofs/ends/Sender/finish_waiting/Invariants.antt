@@ -1,4 +1,4 @@
--- no end was pushed so far
+-- the tries before pushed no end
 use Rattle.std.proofs.Common.{◌≡◌}
 use Rattle.lock_free_queues.specs.Queues.Rings.{producer_queue, producer_view}
 use Rattle.uses_streams.specs.Ends.{sender_queue, sender_view}

@@ -41,7 +41,7 @@ invariant_of-result g c =
     c.release-pass.ensures.same.goes c.release-pass.ensures.released c.release-pass.ensures.list in
     record { alone = done.0 }
 
--- where `push` answers true, its return meets the clause `sent`
+-- the end and the role's return leave the values that were sent
 pub returns-then-push-clause-sent : goal.returns-then-push-clause-sent
 returns-then-push-clause-sent g c =
     let l = c.loop-refused in
@@ -50,7 +50,7 @@ returns-then-push-clause-sent g c =
     c.release-pass.ensures.same.goes c.release-pass.ensures.released c.release-pass.ensures.list).1
     ∙ ap values_in l.invariant.same
 
--- where `push` answers true, its return meets the clause `finished`
+-- where `push` answers true, the end was pushed
 pub returns-then-push-clause-finished : goal.returns-then-push-clause-finished
 returns-then-push-clause-finished g c =
     let l = c.loop-refused in
@@ -58,7 +58,7 @@ returns-then-push-clause-finished g c =
     (ap has_values l.invariant.same ∙ c.args.self.unended) c.push.ensures.same.goes (c.push.ensures.pushed c.if-push.true)
     c.release-pass.ensures.same.goes c.release-pass.ensures.released c.release-pass.ensures.list).2
 
--- where `push` answers true, its return meets the clause `end`
+-- where `push` answers true, the end was pushed once, after all values
 pub returns-then-push-clause-end : goal.returns-then-push-clause-end
 returns-then-push-clause-end g c =
     let l = c.loop-refused in
@@ -66,7 +66,7 @@ returns-then-push-clause-end g c =
     (ap has_values l.invariant.same ∙ c.args.self.unended) c.push.ensures.same.goes (c.push.ensures.pushed c.if-push.true)
     c.release-pass.ensures.same.goes c.release-pass.ensures.released c.release-pass.ensures.list).3
 
--- where `push` answers true, its return meets the clause `steps`
+-- where `push` answers true, the steps are those of the tries so far, and one for the role
 pub returns-then-push-clause-steps : goal.returns-then-push-clause-steps
 returns-then-push-clause-steps g c =
     let l = c.loop-refused in
@@ -81,12 +81,14 @@ returns-then-push-clause-steps g c =
 pub returns-clause-same : goal.returns-clause-same
 returns-clause-same g c = ap values_in c.loop-refused.invariant.same
 
+-- all tries were refused
 pub returns-clause-full : goal.returns-clause-full
 returns-clause-full g c =
     let l = c.loop-refused in
     refused_all (sender_queue c.args.self).capacity l._refused c.args.tries (Value elements.End) (sender_view c.args.self)
     (producer_view l.producer) (omega arith) l.invariant.full
 
+-- all tries together have at most the steps of so many pushes
 pub returns-clause-tried : goal.returns-clause-tried
 returns-clause-tried g c =
     let l = c.loop-refused in

@@ -13,11 +13,13 @@ invariant_of-result g c =
     c.args.self.alone c.release-pass.ensures.released c.release-pass.ensures.list in
     record { alone = left.0 }
 
+-- giving the role back leaves the values that were sent
 pub returns-clause-sent : goal.returns-clause-sent
 returns-clause-sent g c =
     ap values_in (stops_pushing (producer_view c.args.self.producer) (view c.release-pass.result) c.release-pass.ensures.same.goes
     roles.Producer c.args.self.alone c.release-pass.ensures.released c.release-pass.ensures.list).1
 
+-- a sender that only leaves has not sent the end
 pub returns-clause-finished : goal.returns-clause-finished
 returns-clause-finished g c =
     ap has_end (stops_pushing (producer_view c.args.self.producer) (view c.release-pass.result) c.release-pass.ensures.same.goes

@@ -13,11 +13,13 @@ invariant_of-self g c =
     c.push.ensures.full in
     record { alone = either.0; unended = either.1 }
 
+-- where `push` answers true, one value more was sent
 pub returns-clause-sent : goal.returns-clause-sent
 returns-clause-sent g c is =
     (pushes_value (producer_view c.args.self.now.producer) (producer_view c.push.new.self) c.push.ensures.same.goes c.args.value
     c.args.self.now.alone c.args.self.now.unended (c.push.ensures.pushed is)).2
 
+-- where `push` answers false, nothing was sent
 pub returns-clause-same : goal.returns-clause-same
 returns-clause-same g c is =
     ap values_in (pushes_none (producer_view c.args.self.now.producer) (producer_view c.push.new.self) c.push.ensures.same.goes

@@ -1,4 +1,4 @@
--- what was sent so far are the first values of the slice
+-- the loop has sent the first values of the slice, up to the loop's place
 use Rattle.std.proofs.Common.{◌≡◌, ◌++◌, take}
 use Rattle.uses_streams.specs.Ends.{sender_queue, sent_so_far}
 use Rattle.uses_streams.proofs.ends.Sender.send_all.Given as given

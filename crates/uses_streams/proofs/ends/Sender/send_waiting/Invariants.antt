@@ -1,4 +1,4 @@
--- nothing was sent so far
+-- the tries before sent nothing
 use Rattle.std.proofs.Common.{◌≡◌}
 use Rattle.uses_streams.specs.Ends.{sender_queue, sent_so_far}
 use Rattle.uses_streams.proofs.ends.Sender.send_waiting.Given as given

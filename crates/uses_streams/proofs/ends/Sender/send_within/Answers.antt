@@ -31,7 +31,7 @@ pub returns-then-send-clause-sent : goal.returns-then-send-clause-sent
 returns-then-send-clause-sent g c is =
     c.send.ensures.sent c.if-send.true ∙ ap (λ xs. xs ++ c.args.value ∷ []) c.loop-refused.invariant.same
 
--- where `send` answers true, its return meets the clause `pushed`
+-- where `send` answers true, the tries before were refused, and this one pushed the value
 pub returns-then-send-clause-pushed : goal.returns-then-send-clause-pushed
 returns-then-send-clause-pushed g c is =
     let l = c.loop-refused in
@@ -39,7 +39,7 @@ returns-then-send-clause-pushed g c is =
     l._refused (sender_view c.args.self.now) (sender_view l.self) (sender_view c.send.new.self) l.invariant.full c.args.tries
     (omega arith) (c.send.ensures.pushed c.if-send.true)
 
--- where `send` answers true, its return meets the clause `steps`
+-- where `send` answers true, the steps are those of the tries so far, and so of at most `tries`
 pub returns-then-send-clause-steps : goal.returns-then-send-clause-steps
 returns-then-send-clause-steps g c =
     let l = c.loop-refused in
@@ -48,12 +48,14 @@ returns-then-send-clause-steps g c =
     (steps_more (3 + sender_words c.args.self.now) l._refused (sender_view c.args.self.now) (sender_view l.self)
     (sender_view c.send.new.self) l.invariant.steps c.send.ensures.steps)
 
+-- all tries were refused
 pub returns-clause-full : goal.returns-clause-full
 returns-clause-full g c is =
     let l = c.loop-refused in
     refused_all (sender_queue c.args.self.now).capacity l._refused c.args.tries (Value (elements.Value c.args.value))
     (sender_view c.args.self.now) (sender_view l.self) (omega arith) l.invariant.full
 
+-- all tries together have at most the steps of so many sends
 pub returns-clause-steps : goal.returns-clause-steps
 returns-clause-steps g c =
     let l = c.loop-refused in

@@ -32,7 +32,7 @@ returns-in-Some-pop-clause-queue g c = c.pop.ensures.same.queue ∙ c.loop.invar
 pub returns-in-Some-pop-clause-share : goal.returns-in-Some-pop-clause-share
 returns-in-Some-pop-clause-share g c = keeps_share c.loop.consumer c.pop.new.self c.pop.ensures.same ∙ c.loop.invariant.share
 
--- where `pop` answers `Some`, its return meets the clause `taken`
+-- where `pop` answers a number, the pops before found none, and this one took the oldest out
 pub returns-in-Some-pop-clause-taken : goal.returns-in-Some-pop-clause-taken
 returns-in-Some-pop-clause-taken g c =
     let was = c.loop.invariant in

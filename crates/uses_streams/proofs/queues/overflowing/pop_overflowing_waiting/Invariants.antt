@@ -5,6 +5,7 @@ use Rattle.lock_free_queues.specs.Queues.Overflowing.{consumer_queue, consumer_v
 use Rattle.uses_streams.specs.Tries.{Times}
 use Rattle.uses_streams.proofs.queues.overflowing.pop_overflowing_waiting.Given as given
 
+-- The queue and the share are the same. If the queue has a capacity, each pop so far found none.
 abbrev pub invariant-loop : given.invariant-loop
 invariant-loop g l = record {
   queue : consumer_queue l.consumer ≡ consumer_queue l.fn.consumer;

@@ -30,7 +30,7 @@ returns-in-Some-clause-queue g c = c.pop.ensures.same.queue ∙ c.loop-empty.inv
 pub returns-in-Some-clause-share : goal.returns-in-Some-clause-share
 returns-in-Some-clause-share g c = keeps_share c.loop-empty.consumer c.pop.new.self c.pop.ensures.same ∙ c.loop-empty.invariant.share
 
--- where the answer is `Some`, its return meets the clause `taken`
+-- where a pop answers a number, the tries before found none, and this one took the oldest out
 pub returns-in-Some-clause-taken : goal.returns-in-Some-clause-taken
 returns-in-Some-clause-taken g c =
     let l = c.loop-empty in
@@ -48,7 +48,7 @@ returns-in-Some-clause-none g c none =
     let same = ap (λ (q : QueueId). q.capacity) l.invariant.queue in
     absurd (omega arith)
 
--- where the answer is `Some`, its return meets the clause `still`
+-- a queue without a capacity gives no number, so that case does not occur
 pub returns-in-Some-clause-still : goal.returns-in-Some-clause-still
 returns-in-Some-clause-still g c none =
     let l = c.loop-empty in
@@ -56,6 +56,7 @@ returns-in-Some-clause-still g c none =
     let same = ap (λ (q : QueueId). q.capacity) l.invariant.queue in
     absurd (omega arith)
 
+-- all tries found none
 pub returns-clause-empty : goal.returns-clause-empty
 returns-clause-empty g c some =
     let l = c.loop-empty in

@@ -31,31 +31,35 @@ pub returns-in-None-clause-received : goal.returns-in-None-clause-received
 returns-in-None-clause-received g c =
     receiving_still {answer = None} c.loop-count.invariant.received c.pop.ensures.same c.in-None.ensures.empty refl
 
+-- where the queue is found empty, the values before were popped
 pub returns-in-None-clause-tried : goal.returns-in-None-clause-tried
 returns-in-None-clause-tried g c =
     let l = c.loop-count in
     popped_so_many g.E.BoundedKind.named l.values l.count (consumer_view c.args.consumer.now) (consumer_view l.consumer)
     (consumer_view c.pop.new.consumer) (omega arith) l.invariant.popped c.in-None.ensures.empty
 
+-- where the queue is found empty, the steps of that pop count too
 pub returns-in-None-clause-steps : goal.returns-in-None-clause-steps
 returns-in-None-clause-steps g c =
     let l = c.loop-count in
     steps_more g.E.BoundedKind.most_steps l.count (consumer_view c.args.consumer.now) (consumer_view l.consumer)
     (consumer_view c.pop.new.consumer) l.invariant.steps c.pop.ensures.steps
 
+-- once the slice is full, its values are those that were received
 pub returns-clause-received : goal.returns-clause-received
 returns-clause-received g c =
     let l = c.loop-count in
     let all : l.count ≡ length l.values = omega arith in
     subst (λ n. Receiving g.E.BoundedKind.named c.args.consumer.now (take n l.values) l.consumer) all l.invariant.received
 
+-- once the slice is full, nothing is left of it to stay as it was
 pub returns-clause-rest : goal.returns-clause-rest
 returns-clause-rest g c =
     let l = c.loop-count in
     let all : l.count ≡ length l.values = omega arith in
     subst (λ n. drop n l.values ≡ drop n c.args.values.now) all l.invariant.rest
 
--- its return meets the clause `tried`
+-- once the slice is full, each of its values was popped
 pub returns-clause-tried : goal.returns-clause-tried
 returns-clause-tried g c =
     let l = c.loop-count in
@@ -63,6 +67,7 @@ returns-clause-tried g c =
     popped_them_all g.E.BoundedKind.named l.values l.count (length l.values) (consumer_view c.args.consumer.now) (consumer_view l.consumer)
     l.invariant.popped all (omega arith)
 
+-- once the slice is full, the steps are those of one pop for each value
 pub returns-clause-steps : goal.returns-clause-steps
 returns-clause-steps g c =
     let l = c.loop-count in

@@ -1,4 +1,4 @@
--- nothing was popped so far
+-- the tries before popped nothing
 use Rattle.std.proofs.Common.{[]}
 use Rattle.lock_free_queues.specs.Queues.Relays.{Receiving}
 use Rattle.uses_streams.proofs.queues.pops.pop_waiting.Given as given

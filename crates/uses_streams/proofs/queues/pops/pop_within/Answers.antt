@@ -21,18 +21,20 @@ loop-empty-preserved g c =
           (consumer_view c.pop.new.consumer) l.invariant.steps c.pop.ensures.steps;
     }
 
+-- the value was received, after tries that received none
 pub returns-in-Some-clause-received : goal.returns-in-Some-clause-received
 returns-in-Some-clause-received g c =
     receiving_one {answer = Some c.in-Some.value} [] (c.in-Some.value ∷ []) c.in-Some.value c.loop-empty.invariant.received
     c.pop.ensures.same c.in-Some.ensures.popped refl refl
 
+-- the tries before found the queue empty, and this one popped the value
 pub returns-in-Some-clause-popped : goal.returns-in-Some-clause-popped
 returns-in-Some-clause-popped g c =
     let l = c.loop-empty in
     popped_within l._empty (consumer_view c.args.consumer.now) (consumer_view l.consumer) (consumer_view c.pop.new.consumer)
     l.invariant.empty c.args.tries (g.E.BoundedKind.named c.in-Some.value) (omega arith) c.in-Some.ensures.popped
 
--- where the answer is `Some`, its return meets the clause `steps`
+-- where a pop answers a value, the steps are those of the tries so far, and so of at most `tries`
 pub returns-in-Some-clause-steps : goal.returns-in-Some-clause-steps
 returns-in-Some-clause-steps g c =
     let l = c.loop-empty in
@@ -41,11 +43,13 @@ returns-in-Some-clause-steps g c =
     (steps_more g.E.BoundedKind.most_steps l._empty (consumer_view c.args.consumer.now) (consumer_view l.consumer)
     (consumer_view c.pop.new.consumer) l.invariant.steps c.pop.ensures.steps)
 
+-- all tries found the queue empty
 pub returns-clause-empty : goal.returns-clause-empty
 returns-clause-empty g c =
     let l = c.loop-empty in
     empty_all l._empty c.args.tries (consumer_view c.args.consumer.now) (consumer_view l.consumer) (omega arith) l.invariant.empty
 
+-- all tries together have at most the steps of so many pops
 pub returns-clause-steps : goal.returns-clause-steps
 returns-clause-steps g c =
     let l = c.loop-empty in

@@ -6,6 +6,8 @@ use Rattle.lock_free_queues.specs.Queues.Rings.{consumer_view}
 use Rattle.uses_streams.specs.Tries.{WereEmpty}
 use Rattle.uses_streams.proofs.queues.pops.pop_within.Given as given
 
+-- Nothing was received, each pop so far found the queue empty, and the steps are those of so many
+-- pops at most.
 abbrev pub invariant-loop-empty : given.invariant-loop-empty
 invariant-loop-empty g l = record {
   received : Receiving g.E.BoundedKind.named l.fn.consumer [] l.consumer;

@@ -42,19 +42,21 @@ returns-then-not-push-clause-tried g c =
     (subst (λ (q : QueueId). PushRefused q.capacity (g.E.BoundedKind.named c.index-values-count.result) (producer_view l.producer)
     (producer_view c.push.new.producer)) l.invariant.sent.queue (c.push.ensures.full c.if-not-push.true))
 
+-- where `push` answers false, its steps count too
 pub returns-then-not-push-clause-steps : goal.returns-then-not-push-clause-steps
 returns-then-not-push-clause-steps g c =
     let l = c.loop-count in
     steps_more g.E.BoundedKind.most_steps l.count (producer_view c.args.producer.now) (producer_view l.producer)
     (producer_view c.push.new.producer) l.invariant.steps c.push.ensures.steps
 
+-- after the last value all values were sent
 pub returns-clause-sent : goal.returns-clause-sent
 returns-clause-sent g c =
     let l = c.loop-count in
     let all : l.count ≡ length c.args.values.now = omega arith in
     subst (λ n. Sending g.E.BoundedKind.named c.args.producer.now (take n c.args.values.now) l.producer) all l.invariant.sent
 
--- its return meets the clause `tried`
+-- after the last value all values were pushed
 pub returns-clause-tried : goal.returns-clause-tried
 returns-clause-tried g c =
     let l = c.loop-count in
@@ -62,6 +64,7 @@ returns-clause-tried g c =
     pushed_them_all g.E.BoundedKind.named c.args.values.now l.count (length c.args.values.now) (producer_view c.args.producer.now)
     (producer_view l.producer) l.invariant.pushed all (omega arith) (producer_queue c.args.producer.now).capacity
 
+-- after the last value the steps are those of one push for each
 pub returns-clause-steps : goal.returns-clause-steps
 returns-clause-steps g c =
     let l = c.loop-count in

@@ -1,4 +1,4 @@
--- nothing was pushed so far
+-- the tries before pushed nothing
 use Rattle.std.proofs.Common.{[]}
 use Rattle.lock_free_queues.specs.Queues.Relays.{Sending}
 use Rattle.uses_streams.proofs.queues.pushes.push_waiting.Given as given

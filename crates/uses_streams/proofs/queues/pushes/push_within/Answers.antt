@@ -26,7 +26,7 @@ pub returns-then-push-clause-sent : goal.returns-then-push-clause-sent
 returns-then-push-clause-sent g c is =
     sending_one [] c.args.value.now c.loop-refused.invariant.sent c.push.ensures.same c.if-push.true c.push.ensures.pushed
 
--- where `push` answers true, its return meets the clause `pushed`
+-- where `push` answers true, the tries before were refused, and this one pushed the value
 pub returns-then-push-clause-pushed : goal.returns-then-push-clause-pushed
 returns-then-push-clause-pushed g c is =
     let l = c.loop-refused in
@@ -34,7 +34,7 @@ returns-then-push-clause-pushed g c is =
     (g.E.BoundedKind.named c.args.value.now) l._refused (producer_view c.args.producer.now) (producer_view l.producer)
     (producer_view c.push.new.producer) l.invariant.full c.args.tries (omega arith) (c.push.ensures.pushed c.if-push.true)
 
--- where `push` answers true, its return meets the clause `steps`
+-- where `push` answers true, the steps are those of the tries so far, and so of at most `tries`
 pub returns-then-push-clause-steps : goal.returns-then-push-clause-steps
 returns-then-push-clause-steps g c =
     let l = c.loop-refused in
@@ -43,12 +43,14 @@ returns-then-push-clause-steps g c =
     (steps_more g.E.BoundedKind.most_steps l._refused (producer_view c.args.producer.now) (producer_view l.producer)
     (producer_view c.push.new.producer) l.invariant.steps c.push.ensures.steps)
 
+-- all tries were refused
 pub returns-clause-full : goal.returns-clause-full
 returns-clause-full g c is =
     let l = c.loop-refused in
     refused_all (producer_queue c.args.producer.now).capacity l._refused c.args.tries (g.E.BoundedKind.named c.args.value.now)
     (producer_view c.args.producer.now) (producer_view l.producer) (omega arith) l.invariant.full
 
+-- all tries together have at most the steps of so many pushes
 pub returns-clause-steps : goal.returns-clause-steps
 returns-clause-steps g c =
     let l = c.loop-refused in

@@ -6,6 +6,7 @@ use Rattle.lock_free_queues.specs.Queues.Rings.{producer_queue, producer_view}
 use Rattle.uses_streams.specs.Tries.{WereRefused}
 use Rattle.uses_streams.proofs.queues.pushes.push_within.Given as given
 
+-- Nothing was sent, and the tries so far were refused, with at most the steps of so many pushes.
 abbrev pub invariant-loop-refused : given.invariant-loop-refused
 invariant-loop-refused g l = record {
   sent : Sending g.E.BoundedKind.named l.fn.producer [] l.producer;

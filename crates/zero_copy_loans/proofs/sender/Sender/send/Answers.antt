@@ -9,12 +9,13 @@ use Rattle.zero_copy_loans.proofs.sender.Sender.send.Goals as goal
 pub returns-then-not-has-clause-back : goal.returns-then-not-has-clause-back
 returns-then-not-has-clause-back g c loaned = c.give_up-then-not-has.ensures.places loaned ∙ unsent _ _ loaned
 
+-- where the push hands nothing back, one number more is sent, and none came back
 pub returns-in_err-back-clause-sends : goal.returns-in_err-back-clause-sends
 returns-in_err-back-clause-sends g c loaned has =
     sent_one _ c.word-word.result _ _ _ c.from_residual.ensures has c.args.self.now.layout.fits (search rules) refl refl (search rules) (search rules)
     c.in_err-back.ensures.added
 
--- its return meets the clause `handed_back`
+-- the word that the push handed back names the number and place that are answered
 pub returns-clause-handed_back : goal.returns-clause-handed_back
 returns-clause-handed_back g c =
     inl (
@@ -23,7 +24,7 @@ returns-clause-handed_back g c =
           c.in_ok-back.ensures.handed_back,
     )
 
--- its return meets the clause `sends`
+-- one number more is sent, and the one that the push handed back came back
 pub returns-clause-sends : goal.returns-clause-sends
 returns-clause-sends g c loaned has =
     sent_back _ c.word-word.result _ _ c.in_ok-back.back _ _ has c.args.self.now.layout.fits

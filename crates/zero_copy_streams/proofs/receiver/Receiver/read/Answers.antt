@@ -6,7 +6,7 @@ use Rattle.zero_copy_streams.proofs.Numbers.{one_more}
 use Rattle.zero_copy_streams.proofs.Told.{found_of, not_end}
 use Rattle.zero_copy_streams.proofs.receiver.Receiver.read.Goals as goal
 
--- where the answer is `Value`, its return meets the clause `found`
+-- where a value arrives, what is told of it is told of the number that was received last
 pub returns-in-Value-clause-found : goal.returns-in-Value-clause-found
 returns-in-Value-clause-found g c =
     let ticket = c.in-Value.ticket in (

@@ -1,4 +1,4 @@
--- all that was received so far was told
+-- `told` has what was told of each value that was received
 use Rattle.std.proofs.Common.{◌≡◌, []}
 use Rattle.zero_copy_streams.specs.Ends.{receiver_queue, HasRead}
 use Rattle.zero_copy_streams.proofs.receiver.Receiver.read_all.Given as given

@@ -1,4 +1,4 @@
--- So many values were sent.
+-- The loop has sent `counter` values.
 use Rattle.std.proofs.Common.{◌≡◌, ◌+◌}
 use Rattle.zero_copy_streams.specs.Ends.{sender_queue, next_of}
 use Rattle.zero_copy_streams.proofs.sender.Sender.send_each.Given as given

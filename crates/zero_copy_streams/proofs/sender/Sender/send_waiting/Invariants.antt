@@ -1,4 +1,4 @@
--- nothing was sent so far
+-- the tries before sent nothing
 use Rattle.std.proofs.Common.{◌≡◌}
 use Rattle.zero_copy_streams.specs.Ends.{sender_queue, sent_so_far, next_of}
 use Rattle.zero_copy_streams.proofs.sender.Sender.send_waiting.Given as given

@@ -6,6 +6,7 @@ use Rattle.lock_free_loans.proofs.Loan.Books.{out_held, is_freed, sent_out}
 use Rattle.lock_free_loans.proofs.Loan.Contracts.{has_freed}
 use Rattle.lock_free_loans.proofs.spsc.loan.LoanSender.free.Goals as goal
 
+-- the sender holds the index that it gives back (requirement `held`)
 pub release_raw_index-requires-clause-held : goal.release_raw_index-requires-clause-held
 release_raw_index-requires-clause-held c = out_held c.args.self.now.book c.args.sent (sent_out _ c.requires)
 
@@ -18,6 +19,7 @@ invariant_of-self-clause-book c =
     (now.known ∙ (ap (λ (z : SetId). z.capacity) c.release_raw_index.ensures.same.set ∙ sym mine.pass.known))
     c.release_raw_index.ensures.given.given
 
+-- the index is freed by a release that the pass has made (clause `freed`)
 pub returns-clause-freed : goal.returns-clause-freed
 returns-clause-freed c =
     let released = c.release_raw_index in

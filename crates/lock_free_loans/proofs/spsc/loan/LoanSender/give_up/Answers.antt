@@ -7,6 +7,7 @@ use Rattle.lock_free_loans.proofs.Loan.Books.{out_held, is_freed}
 use Rattle.lock_free_loans.proofs.Loan.Contracts.{begins_before, set_goes}
 use Rattle.lock_free_loans.proofs.spsc.loan.LoanSender.give_up.Goals as goal
 
+-- the sender holds the index that it gives back (requirement `held`)
 pub release_raw_index-requires-clause-held : goal.release_raw_index-requires-clause-held
 release_raw_index-requires-clause-held c = out_held c.args.self.now.book c.args.index (ap is_out c.requires)
 
@@ -19,7 +20,7 @@ invariant_of-self-clause-book c =
     (now.known ∙ (ap (λ (z : SetId). z.capacity) c.release_raw_index.ensures.same.set ∙ sym mine.pass.known))
     c.release_raw_index.ensures.given.given
 
--- both queues are as they were, and the view of the pass goes on
+-- both queues stay, and the view of the pass goes on (clause `same`)
 pub returns-clause-same : goal.returns-clause-same
 returns-clause-same c =
     let released = c.release_raw_index in

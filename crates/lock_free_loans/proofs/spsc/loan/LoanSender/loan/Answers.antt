@@ -27,7 +27,7 @@ returns-clause-loaned g c =
       acquired = c.in_ok-index.ensures.acquired.acquired;
     }
 
--- where no index was acquired, the book is as it was
+-- where no index was acquired, the table still agrees with the pass (`IsBookOf`)
 pub invariant_of-self : goal.invariant_of-self
 invariant_of-self g c =
     let mine = c.args.self.now in
@@ -35,7 +35,7 @@ invariant_of-self g c =
     let same = now.known ∙ (ap (λ (z : SetId). z.capacity) c.acquire_raw_index.ensures.same.set ∙ sym mine.pass.known) in
     record { of = search rules; book = is_refused mine.book _ _ same c.in_err-index.ensures.refused }
 
--- with an index that was acquired, both queues are as they were, and the view of the pass goes on
+-- where an index was acquired, both queues stay, and the view of the pass goes on (clause `same`)
 pub returns-clause-same : goal.returns-clause-same
 returns-clause-same g c =
     let acquired = c.acquire_raw_index in
@@ -48,7 +48,7 @@ returns-clause-same g c =
       share = search rules;
     }
 
--- where no index was acquired, both queues are as they were, and the view of the pass goes on
+-- where no index was acquired, both queues stay, and the view of the pass goes on (clause `same`)
 pub returns-in_err-index-clause-same : goal.returns-in_err-index-clause-same
 returns-in_err-index-clause-same g c =
     let acquired = c.acquire_raw_index in
@@ -61,9 +61,11 @@ returns-in_err-index-clause-same g c =
       share = search rules;
     }
 
+-- within what clause `steps` allows at this capacity
 abbrev Steps : ℕ → View ℕ → View ℕ → Type 0
 Steps capacity old new = TakesAlone (4 + capacity) (max 2 capacity) old new
 
+-- the operations that the call has asked for are within clause `steps`
 pub returns-clause-steps : goal.returns-clause-steps
 returns-clause-steps g c =
     let mine = c.args.self.now in

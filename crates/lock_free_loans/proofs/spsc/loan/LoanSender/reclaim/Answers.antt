@@ -23,6 +23,7 @@ loop-index-preserved g c =
     let below = c.loop-index-test.true in
     let lt : i < length ps = omega arith in
     elim c.if-has_sent.branch [
+      -- the case that the index is sent: it is freed and counted
       | then-has_sent w ↦
           let sent : is_sent (place_at ys i) ≡ true = sym c.has_sent.ensures ∙ w.if-has_sent.true in
           let step = sent_step ps ys i was.places lt sent in
@@ -30,6 +31,7 @@ loop-index-preserved g c =
             places = ap places_of w.self-is ∙ (w.free.ensures.places ∙ step.0);
             number = (let m = step.1 in let n = was.number in let k = w.number-is in omega arith);
             long = search rules;
+            -- The index adds to those that were freed in turn.
             freed =
                 subst (λ v. InTurn HasFreed (sent_below (i + 1) ps) old v) (sym (ap pass_view w.self-is))
                 (freed_more ps i old (pass_view c.loop-index.self) (pass_view w.free.new.self)
@@ -44,6 +46,7 @@ loop-index-preserved g c =
                 let n = w.number-is in
                 omega arith);
           }
+      -- the case that it is not sent: nothing changes
       | else-has_sent w ↦
           let sent : is_sent (place_at ys i) ≡ false = sym c.has_sent.ensures ∙ w.if-has_sent.false in
           let step = other_step ps ys i was.places lt sent in

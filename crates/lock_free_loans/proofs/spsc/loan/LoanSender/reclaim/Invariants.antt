@@ -1,4 +1,5 @@
--- All below the next index that were sent are free, counted, and given back to the set in turn.
+-- `LoanSender::reclaim` (src/spsc/loan/calls.rt): in its loop all indices below the next one that were
+-- sent are free, counted, and given back to the set in turn.
 use Rattle.lock_free_sets.proofs.Names.{◌≡◌, length, take}
 use Rattle.history.specs.Steps.{TakesAtMost}
 use Rattle.std.proofs.Common.{◌*◌, count_by}

@@ -7,6 +7,7 @@ use Rattle.lock_free_queues.proofs.Queues.Ends.{has_popped, was_empty}
 use Rattle.lock_free_loans.proofs.Loan.Contracts.{pops_none, pops_on, still_goes, is_emptied, none_waited}
 use Rattle.lock_free_loans.proofs.spsc.loan.calls.empty_completion.Goals as goal
 
+-- the invariant of the loop holds before its first iteration
 pub loop-init : goal.loop-init
 loop-init g c = record { queue = refl; popping = pops_none (consumer_view c.args.consumer.now) }
 

@@ -1,4 +1,4 @@
--- Each pop so far found a number.
+-- `empty_completion` (src/spsc/loan/calls.rt): in its loop each pop has found a number.
 use Rattle.lock_free_sets.proofs.Names.{◌≡◌}
 use Rattle.lock_free_queues.specs.Queues.Calls.{consumer_queue, consumer_view}
 use Rattle.lock_free_loans.proofs.Loan.Contracts.{Popping}

@@ -1,4 +1,5 @@
--- Each pop so far found a number; without capacity nothing changes.
+-- `empty_submission` (src/spsc/loan/calls.rt): in its loop each pop has found a number. A queue without
+-- capacity stays as it was.
 use Rattle.lock_free_sets.proofs.Names.{◌≡◌, ◌<◌}
 use Rattle.lock_free_queues.specs.Queues.Overflowing.{consumer_queue, consumer_view}
 use Rattle.lock_free_loans.proofs.Loan.Contracts.{Popping}

@@ -12,6 +12,7 @@ use Rattle.lock_free_owners.specs.Container.Steps.{ContainerTakes}
 use Rattle.lock_free_owners.proofs.ContainerSet.Steps.{add_takes}
 use Rattle.lock_free_owners.proofs.mpmc.container.Container.add.Goals as goal
 
+-- each step of the add keeps the rule of the table
 pub drive_on-end-requires-clause-rule : goal.drive_on-end-requires-clause-rule
 drive_on-end-requires-clause-rule g c =
     let met = g.met.T.Words in
@@ -19,6 +20,7 @@ drive_on-end-requires-clause-rule g c =
     let law : IsCoding code = record { some = met.some; few = met.few; sized = met.sized; given_back = met.given_back } in
     add_keeps code law (record { value = c.args.value; owner = c.args.owner })
 
+-- the add may begin at the pass
 pub drive_on-end-requires-clause-at : goal.drive_on-end-requires-clause-at
 drive_on-end-requires-clause-at g c =
     let met = g.met.T.Words in
@@ -30,6 +32,7 @@ drive_on-end-requires-clause-at g c =
     subst (λ call. AddAt code given v v call tt) (ap first_add mine.known ∙ sym c.new-call.ensures)
     (add_begins code law given v (search rules) mine.idle mine.alone mine.some.0)
 
+-- what the pass knows goes on, and the pass keeps what clause `same` says
 pub returns-in-Ok-clause-same : goal.returns-in-Ok-clause-same
 returns-in-Ok-clause-same g c =
     let code : Coding g.row.T.Denot = coding_by g.T.Words in
@@ -44,6 +47,7 @@ returns-in-Ok-clause-same g c =
       keeps = add_leaves code v w given c.drive_on-end.result c.drive_on-end.ensures.end;
     }
 
+-- what the pass knows goes on, and the pass keeps what clause `same` says
 pub returns-in-Err-clause-same : goal.returns-in-Err-clause-same
 returns-in-Err-clause-same g c =
     let code : Coding g.row.T.Denot = coding_by g.T.Words in
@@ -58,6 +62,7 @@ returns-in-Err-clause-same g c =
       keeps = add_leaves code v w given c.drive_on-end.result c.drive_on-end.ensures.end;
     }
 
+-- an add that succeeds means what clause `added` says
 pub returns-in-Ok-clause-added : goal.returns-in-Ok-clause-added
 returns-in-Ok-clause-added g c =
     let code : Coding g.row.T.Denot = coding_by g.T.Words in
@@ -73,6 +78,7 @@ returns-in-Ok-clause-added g c =
       granted = granted_so code v w given c.in-Ok.index ends;
     }
 
+-- an add that succeeds was begun before the lock was seen
 pub returns-in-Ok-clause-lock : goal.returns-in-Ok-clause-lock
 returns-in-Ok-clause-lock g c locked =
     let code : Coding g.row.T.Denot = coding_by g.T.Words in
@@ -83,6 +89,7 @@ returns-in-Ok-clause-lock g c locked =
     let free = open_so code v w given c.in-Ok.index ends in
     absurd (true≢false (sym locked ∙ free))
 
+-- an add that begins where the lock was seen answers `IsLocked`
 pub returns-in-Err-clause-lock : goal.returns-in-Err-clause-lock
 returns-in-Err-clause-lock g c locked =
     let code : Coding g.row.T.Denot = coding_by g.T.Words in
@@ -94,6 +101,7 @@ returns-in-Err-clause-lock g c locked =
     let failure : c.in-Err.failure ≡ failures.IsLocked = cc in
     ap (λ f. Err f) failure
 
+-- a refused add means what clause `refused` says
 pub returns-in-Err-clause-refused : goal.returns-in-Err-clause-refused
 returns-in-Err-clause-refused g c =
     let code : Coding g.row.T.Denot = coding_by g.T.Words in
@@ -106,6 +114,7 @@ returns-in-Err-clause-refused g c =
       refused = refused_so code v w given c.in-Err.failure ends;
     }
 
+-- the add took no more steps than clause `steps` says
 pub returns-in-Ok-clause-steps : goal.returns-in-Ok-clause-steps
 returns-in-Ok-clause-steps g c =
     let code : Coding g.row.T.Denot = coding_by g.T.Words in
@@ -114,6 +123,7 @@ returns-in-Ok-clause-steps g c =
     subst (λ n. ContainerTakes (n + 7 + g.T.Words.WORDS) (n + 1) v w) (c.args.pass.now.token.known ∙ ap (λ (z : SetId). z.capacity) c.requires)
     (add_takes code v w (record { value = c.args.value; owner = c.args.owner }) c.drive_on-end.result c.drive_on-end.ensures.end)
 
+-- the add took no more steps than clause `steps` says
 pub returns-in-Err-clause-steps : goal.returns-in-Err-clause-steps
 returns-in-Err-clause-steps g c =
     let code : Coding g.row.T.Denot = coding_by g.T.Words in

@@ -13,6 +13,7 @@ use Rattle.lock_free_owners.proofs.ContainerSet.FindTurns.{find_begins}
 use Rattle.lock_free_owners.proofs.mpmc.container.Container.find.Goals as goal
 use Rattle.lock_free_owners.proofs.mpmc.container.Container.find.Given as given
 
+-- the find may begin at the pass
 pub find_all-requires-clause-at : goal.find_all-requires-clause-at
 find_all-requires-clause-at g c =
     let met = g.met.T.Words in
@@ -29,11 +30,13 @@ find_all-requires-clause-visits g c =
     subst (λ n. TakesVisits (given.F-pre g) (λ p x h a q. given.F-step g p x h a q) (IsNamed n c.args.owner (number_of c.args.self.now)) c.args.visit.now)
     (sym (ap (λ (z : SetId). z.capacity) c.requires.pass)) c.requires.visits
 
+-- the pass is of the same structure as before, and goes on from what it had seen (clause `same`)
 pub returns-clause-same : goal.returns-clause-same
 returns-clause-same g c =
     let left = c.find_all.ensures.searched.left in
     record { container = search rules; goes = left.goes; aside = left.aside; keeps = left.keeps }
 
+-- the find has visited and counted what clause `found` says
 pub returns-clause-found : goal.returns-clause-found
 returns-clause-found g c =
     let code : Coding g.row.T.Denot = coding_by g.T.Words in
@@ -48,6 +51,7 @@ returns-clause-found g c =
           size searched.found,
     )
 
+-- the operations that the call has asked for are within clause `steps`
 pub returns-clause-steps : goal.returns-clause-steps
 returns-clause-steps g c =
     let code : Coding g.row.T.Denot = coding_by g.T.Words in

@@ -10,6 +10,7 @@ use Rattle.lock_free_owners.specs.Container.Steps.{LookTakes}
 use Rattle.lock_free_owners.proofs.ContainerSet.Steps.{look_takes}
 use Rattle.lock_free_owners.proofs.mpmc.container.Container.get_state.Goals as goal
 
+-- the look may begin with a new state, which the history has
 pub bring_up-requires-clause-begins : goal.bring_up-requires-clause-begins
 bring_up-requires-clause-begins g c =
     let met = g.met.T.Words in
@@ -30,6 +31,8 @@ bring_up-requires-clause-begins g c =
           (look_begins code law GetState v state.shown state.seen mine.idle mine.alone mine.some.0);
     }
 
+-- the state that is returned is what clause `got` says: the look is a call of the history, and the pass
+-- has this state now
 pub returns-clause-got : goal.returns-clause-got
 returns-clause-got g c =
     let code : Coding g.row.T.Denot = coding_by g.T.Words in
@@ -39,11 +42,13 @@ returns-clause-got g c =
     let state = c.in_ok-state.state in
     let m = c.bring_up.new.state.shown in
     let size = mine.known ∙ ap (λ (z : SetId). z.capacity) c.requires in
+    -- The state that was made is one that the history has: no numbers, and no shown values.
     let on : IsOnHistory code GetState v state.shown state.seen = (
       subst (λ (n : ℕ). state.seen ≡ no_numbers n) (sym size) c.in_ok-state.ensures.seen,
       subst (λ (n : ℕ). state.shown ≡ shows_nothing g.T.Words.value_of g.T.Words.WORDS n) (sym size) c.in_ok-state.ensures.shown,
     )
     in
+    -- So the look over all elements ends as a call of the history.
     let ends = c.bring_up.ensures.over.0 on in
     record {
       same = record {
@@ -61,6 +66,7 @@ returns-clause-got g c =
       state = search rules;
     }
 
+-- the look took no more steps than clause `steps` says
 pub returns-clause-steps : goal.returns-clause-steps
 returns-clause-steps g c =
     let code : Coding g.row.T.Denot = coding_by g.T.Words in

@@ -1,6 +1,7 @@
+-- `Container::get_state` (src/mpmc/container/looks.rt): how the look that it makes begins.
 use Rattle.lock_free_owners.proofs.Names.{GetState, seen}
 use Rattle.lock_free_owners.proofs.mpmc.container.Container.get_state.Given as given
 
--- the new state begins it
+-- as the call `get_state`, in the view of the seat, with what the new state shows
 abbrev pub ghosts-bring_up : given.ghosts-bring_up
 ghosts-bring_up g a = record { which = GetState; from = seen a.seat.now; shown = a.state.now.shown }

@@ -11,6 +11,7 @@ use Rattle.lock_free_owners.specs.Container.Steps.{ContainerTakes}
 use Rattle.lock_free_owners.proofs.ContainerSet.Steps.{count_takes}
 use Rattle.lock_free_owners.proofs.mpmc.container.Container.is_empty.Goals as goal
 
+-- the count may begin at the pass
 pub count_all-requires-clause-at : goal.count_all-requires-clause-at
 count_all-requires-clause-at g c =
     let mine = c.args.pass.now.token in
@@ -18,6 +19,7 @@ count_all-requires-clause-at g c =
     let v = seen mine.seated in
     subst (λ n. CountAt code counts.IsEmpty v v (first_borrowed n) tt) mine.known (count_begins code counts.IsEmpty v mine.idle mine.alone mine.some.0)
 
+-- what the pass knows goes on, and the pass keeps what clause `same` says
 pub returns-clause-same : goal.returns-clause-same
 returns-clause-same g c =
     let code : Coding g.row.T.Denot = coding_by g.T.Words in
@@ -31,6 +33,7 @@ returns-clause-same g c =
       keeps = count_leaves code v w counts.IsEmpty c.count_all.result c.count_all.ensures.ends;
     }
 
+-- the answer means what clause `tested` says: the count is 0 or not
 pub returns-clause-tested : goal.returns-clause-tested
 returns-clause-tested g c =
     let code : Coding g.row.T.Denot = coding_by g.T.Words in
@@ -44,6 +47,7 @@ returns-clause-tested g c =
       lock = λ locked. tested_none code v w n ends locked;
     }
 
+-- the count took no more steps than clause `steps` says
 pub returns-clause-steps : goal.returns-clause-steps
 returns-clause-steps g c =
     let code : Coding g.row.T.Denot = coding_by g.T.Words in

@@ -8,14 +8,17 @@ use Rattle.lock_free_owners.proofs.ContainerSet.States.{lock_leaves}
 use Rattle.lock_free_owners.proofs.ContainerSet.Steps.{lock_takes}
 use Rattle.lock_free_owners.proofs.mpmc.container.Container.is_locked.Goals as goal
 
+-- each step of the call keeps the rule of the table (requirement `rule`)
 pub drive-requires-clause-rule : goal.drive-requires-clause-rule
 drive-requires-clause-rule g c = lock_keeps (coding_by g.T.Words)
 
+-- the call is about to begin (requirement `at`)
 pub drive-requires-clause-at : goal.drive-requires-clause-at
 drive-requires-clause-at g c =
     let mine = c.args.pass.now.token in
     lock_begins (coding_by g.T.Words) (seen mine.seated) _ mine.idle mine.alone mine.some.0
 
+-- what the pass knows goes on, and the pass keeps what clause `same` says
 pub returns-clause-same : goal.returns-clause-same
 returns-clause-same g c =
     let code : Coding g.row.T.Denot = coding_by g.T.Words in
@@ -29,6 +32,7 @@ returns-clause-same g c =
       keeps = lock_leaves code v w c.drive.result c.drive.ensures.end;
     }
 
+-- the answer means what clause `looked` says
 pub returns-clause-looked : goal.returns-clause-looked
 returns-clause-looked g c =
     let code : Coding g.row.T.Denot = coding_by g.T.Words in
@@ -40,6 +44,7 @@ returns-clause-looked g c =
       lock = looked_lock code v w c.drive.result c.drive.ensures.end;
     }
 
+-- the operations that the call has asked for are within clause `steps`
 pub returns-clause-steps : goal.returns-clause-steps
 returns-clause-steps g c =
     let code : Coding g.row.T.Denot = coding_by g.T.Words in

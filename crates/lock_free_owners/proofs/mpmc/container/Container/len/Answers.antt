@@ -12,6 +12,7 @@ use Rattle.lock_free_owners.specs.Container.Steps.{ContainerTakes}
 use Rattle.lock_free_owners.proofs.ContainerSet.Steps.{count_takes}
 use Rattle.lock_free_owners.proofs.mpmc.container.Container.len.Goals as goal
 
+-- the count may begin at the pass
 pub count_all-requires-clause-at : goal.count_all-requires-clause-at
 count_all-requires-clause-at g c =
     let mine = c.args.pass.now.token in
@@ -19,6 +20,7 @@ count_all-requires-clause-at g c =
     let v = seen mine.seated in
     subst (λ n. CountAt code counts.Len v v (first_borrowed n) tt) mine.known (count_begins code counts.Len v mine.idle mine.alone mine.some.0)
 
+-- what the pass knows goes on, and the pass keeps what clause `same` says
 pub returns-clause-same : goal.returns-clause-same
 returns-clause-same g c =
     let code : Coding g.row.T.Denot = coding_by g.T.Words in
@@ -32,6 +34,7 @@ returns-clause-same g c =
       keeps = count_leaves code v w counts.Len c.count_all.result c.count_all.ensures.ends;
     }
 
+-- the count means what clause `counted` says: it is right, and at most the capacity
 pub returns-clause-counted : goal.returns-clause-counted
 returns-clause-counted g c =
     let code : Coding g.row.T.Denot = coding_by g.T.Words in
@@ -47,6 +50,7 @@ returns-clause-counted g c =
       lock = λ locked. counted_none code v w n ends locked;
     }
 
+-- the count took no more steps than clause `steps` says
 pub returns-clause-steps : goal.returns-clause-steps
 returns-clause-steps g c =
     let code : Coding g.row.T.Denot = coding_by g.T.Words in

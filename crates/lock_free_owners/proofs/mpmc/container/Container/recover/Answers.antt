@@ -14,6 +14,7 @@ use Rattle.lock_free_owners.proofs.ContainerSet.Steps.{recover_takes}
 use Rattle.lock_free_owners.proofs.mpmc.container.Container.recover.Goals as goal
 use Rattle.lock_free_owners.proofs.mpmc.container.Container.recover.Given as given
 
+-- the recovery may begin at the pass
 pub free_all-requires-clause-at : goal.free_all-requires-clause-at
 free_all-requires-clause-at g c =
     let met = g.met.T.Words in
@@ -30,6 +31,7 @@ free_all-requires-clause-questions g c free =
     subst (λ n. TakesValues (given.F-pre g) (λ p x b q. given.F-step g p x b q) n c.args.predicate.now)
     (sym (ap (λ (z : SetId). z.capacity) c.requires.pass)) (c.requires.questions free)
 
+-- what the pass knows goes on, and the pass keeps what clause `same` says
 pub returns-clause-same : goal.returns-clause-same
 returns-clause-same g c =
     let met = g.met.T.Words in
@@ -47,6 +49,7 @@ returns-clause-same g c =
       keeps = recover_leaves code v w dead c.free_all.result ends.0 ends.1;
     }
 
+-- the recovery has asked and freed what clause `recovered` says
 pub returns-clause-recovered : goal.returns-clause-recovered
 returns-clause-recovered g c =
     let met = g.met.T.Words in
@@ -64,6 +67,7 @@ returns-clause-recovered g c =
       lock = recovered_lock code law dead v w c.free_all.result ends.0 ends.1;
     }
 
+-- the recovery took no more steps than clause `steps` says
 pub returns-clause-steps : goal.returns-clause-steps
 returns-clause-steps g c =
     let code : Coding g.row.T.Denot = coding_by g.T.Words in

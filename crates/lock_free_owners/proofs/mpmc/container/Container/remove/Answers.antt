@@ -12,11 +12,13 @@ use Rattle.lock_free_owners.proofs.ContainerSet.CallAnswers.{remove_done, remove
 use Rattle.lock_free_owners.proofs.ContainerSet.Steps.{remove_takes}
 use Rattle.lock_free_owners.proofs.mpmc.container.Container.remove.Goals as goal
 
+-- each step of the call keeps the rule of the table (requirement `rule`)
 pub drive_on-requires-clause-rule : goal.drive_on-requires-clause-rule
 drive_on-requires-clause-rule g c =
     remove_keeps (coding_by g.T.Words)
     (record { index = c.args.handle.index; owner = c.args.handle.owner; mode = c.args.mode })
 
+-- the remove may begin at the pass
 pub drive_on-requires-clause-at : goal.drive_on-requires-clause-at
 drive_on-requires-clause-at g c =
     let code : Coding g.row.T.Denot = coding_by g.T.Words in
@@ -29,6 +31,7 @@ drive_on-requires-clause-at g c =
     subst (λ call. RemoveAt code given v v call tt) (ap (λ n. first_remove n c.args.handle.index) mine.known ∙ sym c.new-call.ensures)
     (remove_begins code given v low (search rules) mine.idle mine.alone mine.some.0)
 
+-- what the pass knows goes on, and the pass keeps what clause `same` says
 pub returns-clause-same : goal.returns-clause-same
 returns-clause-same g c =
     let code : Coding g.row.T.Denot = coding_by g.T.Words in
@@ -48,18 +51,21 @@ returns-clause-same g c =
       foreign = λ other. absurd (other own);
     }
 
+-- A remove that answers Ok has removed its value (clause `removed`).
 pub returns-clause-removed : goal.returns-clause-removed
 returns-clause-removed g c =
     remove_done (coding_by g.T.Words) c.args.self.now
     (seen c.args.pass.now.token.seated) (seen c.drive_on.new.self) c.args.handle
     (search rules, omega arith) c.args.mode c.drive_on.result c.drive_on.ensures.end
 
+-- A remove that was refused answers right (clause `refused`).
 pub returns-clause-refused : goal.returns-clause-refused
 returns-clause-refused g c =
     remove_refused (coding_by g.T.Words) c.args.self.now
     (seen c.args.pass.now.token.seated) (seen c.drive_on.new.self) c.args.handle
     c.args.mode c.drive_on.result c.drive_on.ensures.end
 
+-- the remove took no more steps than clause `steps` says
 pub returns-clause-steps : goal.returns-clause-steps
 returns-clause-steps g c own =
     let code : Coding g.row.T.Denot = coding_by g.T.Words in

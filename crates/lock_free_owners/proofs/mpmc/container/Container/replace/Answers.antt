@@ -11,6 +11,7 @@ use Rattle.lock_free_owners.proofs.ContainerSet.CallAnswers.{replace_done, repla
 use Rattle.lock_free_owners.proofs.ContainerSet.Steps.{replace_takes}
 use Rattle.lock_free_owners.proofs.mpmc.container.Container.replace.Goals as goal
 
+-- each step of the replace keeps the rule of the table
 pub drive-requires-clause-rule : goal.drive-requires-clause-rule
 drive-requires-clause-rule g c =
     let met = g.met.T.Words in
@@ -18,6 +19,7 @@ drive-requires-clause-rule g c =
     let law : IsCoding code = record { some = met.some; few = met.few; sized = met.sized; given_back = met.given_back } in
     replace_keeps code law (record { index = c.args.handle.index; owner = c.args.handle.owner; value = c.args.value })
 
+-- the replace may begin at the pass
 pub drive-requires-clause-at : goal.drive-requires-clause-at
 drive-requires-clause-at g c =
     let met = g.met.T.Words in
@@ -32,6 +34,7 @@ drive-requires-clause-at g c =
     subst (λ call. ReplaceAt code given v v call tt) (ap (λ n. first_replace n c.args.handle.index) mine.known ∙ sym c.new-call.ensures)
     (replace_begins code law given v low (search rules) mine.idle mine.alone mine.some.0)
 
+-- what the pass knows goes on, and the pass keeps what clause `same` says
 pub returns-clause-same : goal.returns-clause-same
 returns-clause-same g c =
     let code : Coding g.row.T.Denot = coding_by g.T.Words in
@@ -51,18 +54,21 @@ returns-clause-same g c =
       foreign = λ other. absurd (other own);
     }
 
+-- A replace that answers Ok has placed its value (clause `replaced`).
 pub returns-clause-replaced : goal.returns-clause-replaced
 returns-clause-replaced g c =
     replace_done (coding_by g.T.Words) c.args.self.now
     (seen c.args.pass.now.token.seated) (seen c.drive.new.self) c.args.handle
     (search rules, omega arith) c.args.value c.drive.result c.drive.ensures.end
 
+-- A replace that was refused answers right (clause `refused`).
 pub returns-clause-refused : goal.returns-clause-refused
 returns-clause-refused g c =
     replace_refused (coding_by g.T.Words) c.args.self.now
     (seen c.args.pass.now.token.seated) (seen c.drive.new.self) c.args.handle
     c.args.value c.drive.result c.drive.ensures.end
 
+-- the operations that the call has asked for are within clause `steps`
 pub returns-clause-steps : goal.returns-clause-steps
 returns-clause-steps g c own =
     let code : Coding g.row.T.Denot = coding_by g.T.Words in

@@ -15,6 +15,7 @@ use Rattle.lock_free_owners.specs.Container.Steps.{LookTakes}
 use Rattle.lock_free_owners.proofs.ContainerSet.Steps.{look_takes}
 use Rattle.lock_free_owners.proofs.mpmc.container.Container.update_state.Goals as goal
 
+-- the look may begin with the state as it is given, whether the pass has this state or not
 pub bring_up-requires-clause-begins : goal.bring_up-requires-clause-begins
 bring_up-requires-clause-begins g c =
     let met = g.met.T.Words in
@@ -31,6 +32,7 @@ bring_up-requires-clause-begins g c =
           (look_begins code law UpdateState v state.shown state.seen mine.idle mine.alone mine.some.0);
     }
 
+-- after the call the pass keeps its fact `known`: its view has the capacity of the container
 pub invariant_of-pass-clause-known : goal.invariant_of-pass-clause-known
 invariant_of-pass-clause-known g c =
     let met = g.met.T.Words in
@@ -43,6 +45,7 @@ invariant_of-pass-clause-known g c =
     (decide code law v v.capacity state.seen state.shown) mine.idle mine.alone c.bring_up.ensures.over).capacity
     ∙ mine.known
 
+-- after the call the pass keeps its fact `idle`: it has no call under way, unless a find rests
 pub invariant_of-pass-clause-idle : goal.invariant_of-pass-clause-idle
 invariant_of-pass-clause-idle g c =
     let met = g.met.T.Words in
@@ -54,6 +57,7 @@ invariant_of-pass-clause-idle g c =
     (left_so code UpdateState v state.shown state.seen c.bring_up.result c.bring_up.new.state.shown (seen c.bring_up.new.seat)
     (decide code law v v.capacity state.seen state.shown) mine.idle mine.alone c.bring_up.ensures.over).idle
 
+-- after the call the pass keeps its fact `alone`: it knows one history
 pub invariant_of-pass-clause-alone : goal.invariant_of-pass-clause-alone
 invariant_of-pass-clause-alone g c =
     let met = g.met.T.Words in
@@ -65,6 +69,7 @@ invariant_of-pass-clause-alone g c =
     (left_so code UpdateState v state.shown state.seen c.bring_up.result c.bring_up.new.state.shown (seen c.bring_up.new.seat)
     (decide code law v v.capacity state.seen state.shown) mine.idle mine.alone c.bring_up.ensures.over).alone
 
+-- after the call the pass keeps its fact `some`: it has a share
 pub invariant_of-pass-clause-some : goal.invariant_of-pass-clause-some
 invariant_of-pass-clause-some g c =
     let met = g.met.T.Words in
@@ -78,6 +83,7 @@ invariant_of-pass-clause-some g c =
     in
     subst (λ (z : Share). (0 < z.part) × (0 < z.parts)) (sym left.share) mine.some
 
+-- after the call the pass keeps its fact `knows`: what it knows is a run of the machine
 pub invariant_of-pass-clause-knows : goal.invariant_of-pass-clause-knows
 invariant_of-pass-clause-knows g c =
     let met = g.met.T.Words in
@@ -91,6 +97,7 @@ invariant_of-pass-clause-knows g c =
     (decide code law v v.capacity state.seen state.shown)
     (subst (λ n. Knows code kinds.Container n v) (sym mine.known) mine.knows) c.bring_up.ensures.over)
 
+-- an update of the state that the pass has is a call of the history, and answers right (clause `updated`)
 pub returns-clause-updated : goal.returns-clause-updated
 returns-clause-updated g c latest =
     let code : Coding g.row.T.Denot = coding_by g.T.Words in
@@ -101,6 +108,7 @@ returns-clause-updated g c latest =
     let m = c.bring_up.new.state.shown in
     let size = mine.known ∙ ap (λ (z : SetId). z.capacity) c.requires.pass in
     let e = c.requires.state.1 ∙ sym size in
+    -- The history has the state, so the look ends as a call of the history.
     let ends = c.bring_up.ensures.over.0 (on_history code v state e latest) in
     record {
       same = record {
@@ -116,6 +124,7 @@ returns-clause-updated g c latest =
       shows = ends.over.2;
     }
 
+-- an update of any other state only counts operations (clause `beside`)
 pub returns-clause-beside : goal.returns-clause-beside
 returns-clause-beside g c other =
     let code : Coding g.row.T.Denot = coding_by g.T.Words in
@@ -125,6 +134,7 @@ returns-clause-beside g c other =
     let size = mine.known ∙ ap (λ (z : SetId). z.capacity) c.requires.pass in
     c.bring_up.ensures.over.1 (λ on. other (of_history code v state (c.requires.state.1 ∙ sym size) on))
 
+-- an update of the state that the pass has took no more steps than clause `steps` says
 pub returns-clause-steps : goal.returns-clause-steps
 returns-clause-steps g c latest =
     let code : Coding g.row.T.Denot = coding_by g.T.Words in

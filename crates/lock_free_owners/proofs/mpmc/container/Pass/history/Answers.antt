@@ -2,6 +2,7 @@
 use Rattle.history.proofs.KnownRuns.{known_history}
 use Rattle.lock_free_owners.proofs.mpmc.container.Pass.history.Goals as goal
 
+-- what the pass has seen is a history of a run of its structure (clause `history`)
 pub returns-clause-history : goal.returns-clause-history
 returns-clause-history g c = known_history c.args.self.now.token.knows
 

@@ -25,6 +25,7 @@ abbrev Settles : {T : Type 0} → Coding T → ℕ → ℕ → ℕ → ℕ → V
 Settles {T} code key words slots id v xs =
     OwesAsk (λ (z : View T). z.asked) (IsMachine code kinds.Container key) words slots id (λ u n w. HasSettled code u w) 0 Load (v, xs)
 
+-- the load is one that the rule of the table allows, and it tells what a look tells
 pub look-requires-clause-owes : goal.look-requires-clause-owes
 look-requires-clause-owes g c =
     let code : Coding g.row.T.Denot = coding_by g.T.Words in
@@ -35,10 +36,12 @@ look-requires-clause-owes g c =
     (owes_settling code (key_of s) (table_of s).words (table_of s).slots s.seat.id 0 (seen s) below (other.known ∙ sym other.keyed) other.idle
     other.alone other.some.0)
 
+-- a look leaves the capacity that the pass knows (requirement `capacity`)
 pub look-requires-clause-capacity : goal.look-requires-clause-capacity
 look-requires-clause-capacity g c v n w told =
     settled_capacity (coding_by g.T.Words) v w told
 
+-- the views may be joined: the rule of the table holds of the joined view
 pub join-requires-clause-joins : goal.join-requires-clause-joins
 join-requires-clause-joins g c =
     let code : Coding g.row.T.Denot = coding_by g.T.Words in
@@ -54,6 +57,7 @@ Owed {T} code key words slots id v xs =
     OwesAsk (λ (z : View T). z.asked) (IsMachine code kinds.Container key) words slots id
     (λ u n w. LooksOnce code kinds.Container u.capacity u w) 0 Load (v, xs)
 
+-- the last load is one that the rule of the table allows, and it tells a look at the whole history
 pub look-requires-2-clause-owes : goal.look-requires-2-clause-owes
 look-requires-2-clause-owes g c =
     let code : Coding g.row.T.Denot = coding_by g.T.Words in
@@ -67,20 +71,24 @@ look-requires-2-clause-owes g c =
     let words = (table_of s).words in
     let slots = (table_of s).slots in
     let id = s.seat.id in
+    -- The joined seat is at the table of this pass, with a part of the share of both.
     let same : (table_of s).words ≡ (table_of mine.seated).words = ap (λ (t : TableId). t.words) c.join.ensures.same.0 in
     let below : 0 < words = (let wide = mine.sized in omega arith) in
     let key : key_of s ≡ key_of mine.seated = search rules in
     let size : w.capacity ≡ key_of s = mine.known ∙ (sym mine.keyed ∙ sym key) in
     let more = positive v.share.part x.share.parts mine.some.0 h.parts in
     let some : 0 < w.share.part = omega arith in
+    -- So it owes this for the load, as it holds nothing else.
     let owed : Owed code w.capacity words slots id w [] = owes_look code kinds.Container w.capacity words slots id 0 w below some (λ late h. h) in
     subst (λ (xs : List (ℕ × Unit {0})). Owed code (key_of s) words slots id (seen s) xs) (sym s.bare)
     (subst (λ (z : View g.row.T.Denot). Owed code (key_of s) words slots id z []) (sym c.join.ensures.joined)
     (subst (λ k. Owed code k words slots id w []) size owed))
 
+-- the joined pass is as clause `same` says
 pub returns-clause-same : goal.returns-clause-same
 returns-clause-same g c =
     let code : Coding g.row.T.Denot = coding_by g.T.Words in
+    -- The other pass settled its last call first (h), and then this one looked at the joined view.
     let h = c.look.ensures.told in
     let seat = c.args.self.now.token in
     let mine = seat.seated.seat.me.0 in
@@ -109,6 +117,7 @@ returns-clause-same g c =
       all = λ whole. looked.all (subst IsAll looked.share whole);
     }
 
+-- what the joined pass knows is a run
 pub invariant_of-self-clause-knows : goal.invariant_of-self-clause-knows
 invariant_of-self-clause-knows g c =
     let code : Coding g.row.T.Denot = coding_by g.T.Words in

@@ -6,12 +6,14 @@ use Rattle.lock_free_owners.proofs.RobustSet.Turns.{gone_on, has_ended}
 use Rattle.lock_free_owners.proofs.ContainerSet.Stays.{stays_then}
 use Rattle.lock_free_owners.proofs.mpmc.container.counts.count_all.Goals as goal
 
+-- the count is about to begin (requirement `at`)
 pub step_count-first-requires-clause-at : goal.step_count-first-requires-clause-at
 step_count-first-requires-clause-at g c =
     let code : Coding g.row.T.Denot = coding_by g.T.Words in
     let base = seen c.args.seat.now in
     (base, subst (λ d. CountAt code g.W.Counting.which base base d tt) (sym c.new.ensures) c.requires.at)
 
+-- where the first step has ended the count, clause `ends` holds of its end
 pub returns-in-Done-clause-ends : goal.returns-in-Done-clause-ends
 returns-in-Done-clause-ends g c =
     let code : Coding g.row.T.Denot = coding_by g.T.Words in
@@ -22,6 +24,7 @@ returns-in-Done-clause-ends g c =
     c.step_count-first.ensures.goes
     c.in-Done.is (subst (λ d. at_all base base d tt) (sym c.new.ensures) c.requires.at)
 
+-- where `count_next` is called the count is under way
 pub count_next-cells-requires-clause-at : goal.count_next-cells-requires-clause-at
 count_next-cells-requires-clause-at g c =
     let code : Coding g.row.T.Denot = coding_by g.T.Words in
@@ -34,6 +37,7 @@ count_next-cells-requires-clause-at g c =
           c.in-GoOn.is (subst (λ d. at_all base base d tt) (sym c.new.ensures) c.requires.at),
     )
 
+-- where the steps over the first cells have ended the count, clause `ends` holds of its end
 pub returns-in-Done-cells-clause-ends : goal.returns-in-Done-cells-clause-ends
 returns-in-Done-cells-clause-ends g c =
     let code : Coding g.row.T.Denot = coding_by g.T.Words in
@@ -47,6 +51,7 @@ returns-in-Done-cells-clause-ends g c =
     c.step_count-first.ensures.goes
     c.in-GoOn.is (subst (λ d. at_all base base d tt) (sym c.new.ensures) c.requires.at))
 
+-- the invariant of the loop holds before its first iteration
 pub loop-init : goal.loop-init
 loop-init g c =
     let code : Coding g.row.T.Denot = coding_by g.T.Words in
@@ -62,6 +67,7 @@ loop-init g c =
           c.in-GoOn.is (subst (λ d. at_all base base d tt) (sym c.new.ensures) c.requires.at)),
     )
 
+-- an iteration after which the loop goes on keeps its invariant
 pub loop-preserved : goal.loop-preserved
 loop-preserved g c =
     let code : Coding g.row.T.Denot = coding_by g.T.Words in
@@ -76,6 +82,7 @@ loop-preserved g c =
           so_far.1,
     )
 
+-- where the steps of an iteration have ended the count, clause `ends` holds of its end
 pub returns-in-Done-after-clause-ends : goal.returns-in-Done-after-clause-ends
 returns-in-Done-after-clause-ends g c =
     let code : Coding g.row.T.Denot = coding_by g.T.Words in

@@ -7,9 +7,11 @@ use Rattle.lock_free_owners.proofs.RobustSet.Turns.{gone_on, has_ended, loads_ne
 use Rattle.lock_free_owners.proofs.ContainerSet.Stays.{stays_then}
 use Rattle.lock_free_owners.proofs.mpmc.container.counts.count_cells.Goals as goal
 
+-- the step of the count is about to be taken at a cell of the set
 pub step_count-requires : goal.step_count-requires
 step_count-requires g c = record { board = c.cells.invariant.0.board; at = (c.requires.at.0, c.cells.invariant.1 c.requires.at.0 c.requires.at.1) }
 
+-- an iteration after which the loop goes on keeps its invariant
 pub cells-preserved : goal.cells-preserved
 cells-preserved g c =
     let code : Coding g.row.T.Denot = coding_by g.T.Words in
@@ -27,6 +29,7 @@ cells-preserved g c =
           c.in-GoOn.is (so_far.1 base at)),
     )
 
+-- where a step leads the count to another stage, clause `goes` holds
 pub returns-in_default-clause-goes : goal.returns-in_default-clause-goes
 returns-in_default-clause-goes g c base at =
     let code : Coding g.row.T.Denot = coding_by g.T.Words in
@@ -37,6 +40,7 @@ returns-in_default-clause-goes g c base at =
     (loads c.args.capacity c.args.counter c.cells.cell c.cells.found c.cells.cell c.cells.found) c.in-GoOn.next called.result called.ensures.goes
     c.in-GoOn.is (c.cells.invariant.1 base at)
 
+-- where a step ends the count, clause `goes` holds of its end
 pub returns-in-Done-clause-goes : goal.returns-in-Done-clause-goes
 returns-in-Done-clause-goes g c base at =
     let code : Coding g.row.T.Denot = coding_by g.T.Words in

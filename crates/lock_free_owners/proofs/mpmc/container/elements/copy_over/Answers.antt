@@ -6,6 +6,7 @@ use Rattle.lock_free_owners.proofs.ContainerSet.LookElements.{gone_on}
 use Rattle.lock_free_owners.proofs.ContainerSet.Stays.{stays_then}
 use Rattle.lock_free_owners.proofs.mpmc.container.elements.copy_over.Goals as goal
 
+-- an iteration after which the index has grown keeps the invariant of the loop, at the next element
 pub elements-preserved : goal.elements-preserved
 elements-preserved g c =
     let code : Coding g.row.T.Denot = coding_by g.T.Words in

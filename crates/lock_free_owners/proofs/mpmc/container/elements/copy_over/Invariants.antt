@@ -1,3 +1,5 @@
+-- `copy_over` (src/mpmc/container/elements.rt): in its loop the look stands at an element, with each
+-- iteration at a higher one.
 use Rattle.lock_free_owners.proofs.Names.{◌-◌, ◌^◌, coding_by, seen}
 use Rattle.lock_free_owners.specs.Container.LookTurns.{LookOnAt, at_count}
 use Rattle.lock_free_owners.specs.Container.Turns.{StaysAtBoard}
@@ -11,5 +13,6 @@ invariant-elements g l =
           g.B.Beginning.shown l.fn.given (seen l.seat) (at_count l.limit l.index) l.room;
     }
 
+-- The index rises in each iteration, and it is below 2^32.
 abbrev pub decreases-elements : given.decreases-elements
 decreases-elements g l = 2 ^ 32 - l.index

@@ -1,3 +1,5 @@
+-- `copy_words` (src/mpmc/container/elements.rt): in its loop the look stands at a word of an element,
+-- with each iteration at a later one.
 use Rattle.lock_free_owners.proofs.Names.{◌-◌, coding_by, seen}
 use Rattle.lock_free_owners.specs.Container.LookTurns.{LookOnAt, at_word}
 use Rattle.lock_free_owners.specs.Container.Turns.{StaysAtBoard}
@@ -11,5 +13,6 @@ invariant-words g l =
           g.B.Beginning.shown l.fn.given (seen l.seat) (at_word l.fn.capacity l.fn.index l.fn.count l.at) l.room;
     }
 
+-- Each iteration leaves fewer words: the measure is the number of words from the present one on.
 abbrev pub decreases-words : given.decreases-words
 decreases-words g l = g.T.Words.WORDS - l.at

@@ -1,3 +1,5 @@
+-- `look_on` (src/mpmc/container/elements.rt): in its loop the seat stays at its table, and the look
+-- that has found a change is under way.
 use Rattle.lock_free_owners.proofs.Names.{coding_by, seen}
 use Rattle.lock_free_owners.specs.Container.LookTurns.{LookOnAt}
 use Rattle.lock_free_owners.specs.Container.Turns.{StaysAtBoard}

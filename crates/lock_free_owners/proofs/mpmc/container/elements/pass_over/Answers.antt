@@ -6,6 +6,7 @@ use Rattle.lock_free_owners.proofs.ContainerSet.LookElements.{counts_next, gone_
 use Rattle.lock_free_owners.proofs.ContainerSet.Stays.{stays_then}
 use Rattle.lock_free_owners.proofs.mpmc.container.elements.pass_over.Goals as goal
 
+-- an iteration after which the loop goes on keeps its invariant
 pub elements-preserved : goal.elements-preserved
 elements-preserved g c =
     let code : Coding g.row.T.Denot = coding_by g.T.Words in

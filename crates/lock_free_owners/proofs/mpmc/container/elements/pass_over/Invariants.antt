@@ -1,3 +1,5 @@
+-- `pass_over` (src/mpmc/container/elements.rt): in its loop the look stands at an element, with each
+-- iteration at a higher one.
 use Rattle.lock_free_owners.proofs.Names.{◌-◌, coding_by, seen}
 use Rattle.lock_free_owners.specs.Container.LookTurns.{LookOnAt, at_count}
 use Rattle.lock_free_owners.specs.Container.Turns.{StaysAtBoard}
@@ -11,5 +13,6 @@ invariant-elements g l =
           g.B.Beginning.shown l.fn.given (seen l.seat) (at_count l.fn.capacity l.index) l.room;
     }
 
+-- Each iteration leaves fewer elements: the measure is the number of elements from the present one on.
 abbrev pub decreases-elements : given.decreases-elements
 decreases-elements g l = l.fn.capacity - l.index

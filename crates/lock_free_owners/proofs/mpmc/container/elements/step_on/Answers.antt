@@ -4,6 +4,7 @@ use Rattle.lock_free_owners.proofs.Names.{Coding, IsCoding, coding_by}
 use Rattle.lock_free_owners.proofs.ContainerSet.Looks.{look_on_keeps}
 use Rattle.lock_free_owners.proofs.mpmc.container.elements.step_on.Goals as goal
 
+-- each step of a look past its first keeps the rule of the table, and the look stays past it
 pub step-requires-clause-rule : goal.step-requires-clause-rule
 step-requires-clause-rule g c =
     let met = g.met.T.Words in

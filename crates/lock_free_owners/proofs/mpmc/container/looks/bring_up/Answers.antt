@@ -6,6 +6,7 @@ use Rattle.lock_free_owners.specs.Container.LookTurns.{LookAt, LookOver}
 use Rattle.lock_free_owners.proofs.ContainerSet.Looks.{look_keeps, first_leads, goes_from, ends_from, past_from, false_from}
 use Rattle.lock_free_owners.proofs.mpmc.container.looks.bring_up.Goals as goal
 
+-- each step of the look keeps the rule of the table
 pub step-after-requires-clause-rule : goal.step-after-requires-clause-rule
 step-after-requires-clause-rule g c =
     let met = g.met.T.Words in
@@ -13,6 +14,7 @@ step-after-requires-clause-rule g c =
     let law : IsCoding code = record { some = met.some; few = met.few; sized = met.sized; given_back = met.given_back } in
     look_keeps code law g.B.Beginning.which g.B.Beginning.from g.B.Beginning.shown c.args.state.now.seen c.requires.begins.decided
 
+-- the look is at its first stage
 pub step-after-requires-clause-at : goal.step-after-requires-clause-at
 step-after-requires-clause-at g c =
     let code : Coding g.row.T.Denot = coding_by g.T.Words in
@@ -21,6 +23,7 @@ step-after-requires-clause-at g c =
     let b = g.B.Beginning in
     (v, subst (λ call. LookAt code b.which b.from b.shown state.seen v call state.shown) (sym c.new-first.ensures) c.requires.begins.at)
 
+-- a look that goes on after its first step has found a change, and may take a step
 pub look_on-requires-clause-may_step : goal.look_on-requires-clause-may_step
 look_on-requires-clause-may_step g c =
     let met = g.met.T.Words in
@@ -29,6 +32,7 @@ look_on-requires-clause-may_step g c =
     let v = seen c.args.seat.now in
     let state = c.args.state.now in
     let b = g.B.Beginning in
+    -- The look began at its first stage, so its step leads on as `step` tells.
     let at = subst (λ call. LookAt code b.which b.from b.shown state.seen v call state.shown) (sym c.new-first.ensures) c.requires.begins.at in
     let told = c.step-after.ensures.told v at in
     let taken = c.step-after.ensures.taken in
@@ -43,6 +47,7 @@ look_on-requires-clause-may_step g c =
       );
     }
 
+-- a look that its first step has ended found no change (clause `over`)
 pub returns-in-Done-clause-over : goal.returns-in-Done-clause-over
 returns-in-Done-clause-over g c =
     let met = g.met.T.Words in

@@ -6,6 +6,7 @@ use Rattle.std.specs.Prelude.{replicate}
 use Rattle.lock_free_owners.proofs.ContainerSet.Opens.{container_opens, filled}
 use Rattle.lock_free_owners.proofs.mpmc.container.make.open.Goals as goal
 
+-- the words at the opening are those of a machine with one more behind them, and the first view fits it
 pub open-requires : goal.open-requires
 open-requires g c =
     let met = g.met.T.Words in
@@ -13,6 +14,7 @@ open-requires g c =
     let law : IsCoding code = record { some = met.some; few = met.few; sized = met.sized; given_back = met.given_back } in
     let capacity = c.args.capacity in
     let size = g.T.Words.WORDS in
+    -- the words so far: the counter, and a cell without an owner for each index
     let total : c.total_words-total.result ≡ total_words capacity size = search rules in
     let pushed = c.push_reserved.new.self in
     let none = c.in_ok-words.ensures.len in
@@ -25,6 +27,7 @@ open-requires g c =
     ∙
     (ap (λ ws. ws ++ replicate (1 + capacity - vec_len pushed) empty) (take_all (1 + capacity) (0 ∷ []) (omega arith)) ∙ ap (λ n. 0 ∷ replicate n empty) left))
     in
+    -- behind them zeros, up to the number of words of the table
     let many = c.in_ok-resize.ensures.len in
     let long = length-replicate capacity empty in
     let short : length (0 ∷ replicate capacity empty) ≡ 1 + capacity = omega arith in

@@ -1,3 +1,5 @@
+-- `free_all` (src/mpmc/container/recovery.rt): in its loop the seat stays at its table, and the
+-- recovery stands at one of its stages, with its closure as it was asked.
 use Rattle.lock_free_owners.proofs.Names.{coding_by, seen}
 use Rattle.lock_free_owners.specs.Container.Turns.{StaysAtBoard}
 use Rattle.lock_free_owners.proofs.ContainerSet.Recoveries.{Standing}

@@ -11,6 +11,7 @@ use Rattle.lock_free_owners.specs.Container.RecoverTurns.{RecoverAt, RecoverEnds
 use Rattle.lock_free_owners.proofs.ContainerSet.RecoverTurns.{recover_keeps, recover_tells}
 use Rattle.lock_free_owners.proofs.mpmc.container.recovery.load_cell.Goals as goal
 
+-- the load of the cell is one that the rule of the table allows, and it tells what a step of the call tells
 pub load_for-requires-clause-owes : goal.load_for-requires-clause-owes
 load_for-requires-clause-owes g c =
     let met = g.met.T.Words in

@@ -1,8 +1,9 @@
+-- `load_cell` (src/mpmc/container/recovery.rt): what its load tells.
 use Rattle.lock_free_owners.proofs.Names.{◌≡◌, coding_by}
 use Rattle.lock_free_owners.specs.Container.RecoverTurns.{at_cell, RecoverTells}
 use Rattle.lock_free_owners.proofs.mpmc.container.recovery.load_cell.Given as given
 
--- it tells what a step of the call does
+-- the load keeps the capacity and tells what a step of the recovery at this cell tells
 abbrev pub ghosts-load_for : given.ghosts-load_for
 ghosts-load_for g a =
     record {

@@ -7,11 +7,13 @@ use Rattle.lock_free_owners.proofs.ContainerSet.RecoverCells.{comes_own, comes_n
 use Rattle.lock_free_owners.proofs.ContainerSet.Stays.{stays_then}
 use Rattle.lock_free_owners.proofs.mpmc.container.recovery.pass_over.Goals as goal
 
+-- by the invariant of the loop the recovery stands at this cell (requirement `at`)
 pub load_cell-found-requires-clause-at : goal.load_cell-found-requires-clause-at
 load_cell-found-requires-clause-at g c =
     let may = c.requires.at in
     (may.0, may.1, c.cells.invariant.goes may.0 may.1 may.2)
 
+-- at a cell of the owner the recovery goes on as clause `goes` says
 pub returns-then-found-owner-clause-goes : goal.returns-then-found-owner-clause-goes
 returns-then-found-owner-clause-goes g c base visits began =
     let code : Coding g.row.T.Denot = coding_by g.T.Words in
@@ -23,6 +25,7 @@ returns-then-found-owner-clause-goes g c base visits began =
     (c.if-found-owner.true ∙ c.value-owner.ensures.number)
     (found.ensures.goes base visits (c.cells.invariant.goes base visits began)))
 
+-- behind the last cell the recovery goes on as clause `goes` says
 pub returns-then-cell-capacity-clause-goes : goal.returns-then-cell-capacity-clause-goes
 returns-then-cell-capacity-clause-goes g c base visits began =
     let code : Coding g.row.T.Denot = coding_by g.T.Words in
@@ -36,6 +39,7 @@ returns-then-cell-capacity-clause-goes g c base visits began =
     (λ e. c.if-found-owner.false (e ∙ sym c.value-owner.ensures.number)) (omega arith)
     (found.ensures.goes base visits (c.cells.invariant.goes base visits began)))
 
+-- an iteration after which the loop goes on keeps its invariant
 pub cells-preserved : goal.cells-preserved
 cells-preserved g c =
     let code : Coding g.row.T.Denot = coding_by g.T.Words in

@@ -1,3 +1,5 @@
+-- `pass_over` (src/mpmc/container/recovery.rt): in its loop the recovery has passed the cells from
+-- `first` to this one, which were not the owner's.
 use Rattle.lock_free_owners.proofs.Names.{◌-◌, ◌<◌, ◌≤◌, coding_by, seen}
 use Rattle.lock_free_owners.specs.Container.Turns.{StaysAtBoard}
 use Rattle.lock_free_owners.specs.Container.RecoverTurns.{at_cell, RecoverPasses}
@@ -13,5 +15,6 @@ invariant-cells g l =
           (seen l.fn.seat) (at_cell l.fn.capacity l.fn.first) l.fn.room (at_cell l.fn.capacity l.cell) (seen l.seat);
     }
 
+-- Each iteration leaves fewer cells: the measure is the number of cells from the present one on.
 abbrev pub decreases-cells : given.decreases-cells
 decreases-cells g l = l.fn.capacity - l.cell

@@ -8,6 +8,7 @@ use Rattle.lock_free_owners.specs.Container.RecoverTurns.{RecoverAt, RecoverEnds
 use Rattle.lock_free_owners.proofs.ContainerSet.RecoverTurns.{recover_keeps, recover_tells}
 use Rattle.lock_free_owners.proofs.mpmc.container.recovery.step_recover.Goals as goal
 
+-- the rule of the table allows what the step writes, and it tells what a step of the recovery tells
 pub step_telling-requires-clause-owes : goal.step_telling-requires-clause-owes
 step_telling-requires-clause-owes g c =
     let met = g.met.T.Words in

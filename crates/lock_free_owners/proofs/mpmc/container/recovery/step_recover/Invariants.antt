@@ -1,8 +1,9 @@
+-- `step_recover` (src/mpmc/container/recovery.rt): what its step tells.
 use Rattle.lock_free_owners.proofs.Names.{◌≡◌, coding_by}
 use Rattle.lock_free_owners.specs.Container.RecoverTurns.{RecoverTells}
 use Rattle.lock_free_owners.proofs.mpmc.container.recovery.step_recover.Given as given
 
--- it tells what a step of the recovery does, whatever it has done
+-- the step keeps the capacity and tells what a step of the recovery tells, whatever its visits so far
 abbrev pub ghosts-step_telling : given.ghosts-step_telling
 ghosts-step_telling g a =
     record {

@@ -1,3 +1,5 @@
+-- `find_all` (src/mpmc/container/visits.rt): in its loop the seat stays at its table, and the find
+-- stands at one of its stages, with its closure as it was called. Each iteration leaves fewer steps.
 use Rattle.lock_free_owners.proofs.Names.{coding_by, seen}
 use Rattle.steps.specs.Container.Find.{find_left}
 use Rattle.lock_free_owners.specs.Container.Turns.{StaysAtBoard}
@@ -11,5 +13,6 @@ invariant-loop-next g l =
     (λ p x h a q. given.F-step g p x h a q) l.fn.capacity l.fn.owner l.fn.id (seen l.fn.seat)
     l.fn.visit (seen l.seat) l.call l.room l.visit
 
+-- Each iteration leaves the find fewer steps: the measure is how many it has left at its stage.
 abbrev pub decreases-loop-next : given.decreases-loop-next
 decreases-loop-next g l = find_left g.T.Words.WORDS l.call.capacity l.call.stage

@@ -12,6 +12,7 @@ use Rattle.lock_free_owners.proofs.ContainerSet.Counted.{counted_owes}
 use Rattle.lock_free_owners.proofs.ContainerSet.FindTurns.{find_keeps, find_tells, at_its_word}
 use Rattle.lock_free_owners.proofs.mpmc.container.visits.load_cell.Goals as goal
 
+-- the load of the cell is one that the rule of the table allows, and it tells what a step of the call tells
 pub load_for-requires-clause-owes : goal.load_for-requires-clause-owes
 load_for-requires-clause-owes g c =
     let met = g.met.T.Words in

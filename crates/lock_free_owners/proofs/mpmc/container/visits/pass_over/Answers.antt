@@ -7,11 +7,13 @@ use Rattle.lock_free_owners.proofs.ContainerSet.FindCells.{comes_own, comes_next
 use Rattle.lock_free_owners.proofs.ContainerSet.Stays.{stays_then}
 use Rattle.lock_free_owners.proofs.mpmc.container.visits.pass_over.Goals as goal
 
+-- by the invariant of the loop the find stands at this cell (requirement `at`)
 pub load_cell-stands-requires-clause-at : goal.load_cell-stands-requires-clause-at
 load_cell-stands-requires-clause-at g c =
     let may = c.requires.at in
     (may.0, may.1, c.cells.invariant.goes may.0 may.1 may.2)
 
+-- at a cell of the owner the find goes on as clause `goes` says
 pub returns-then-stands-number-clause-goes : goal.returns-then-stands-number-clause-goes
 returns-then-stands-number-clause-goes g c base copies began =
     let code : Coding g.row.T.Denot = coding_by g.T.Words in
@@ -22,6 +24,7 @@ returns-then-stands-number-clause-goes g c base copies began =
     (c.if-stands-number.true ∙ c.value-number.ensures.number)
     (stands.ensures.goes base copies (c.cells.invariant.goes base copies began)))
 
+-- the find has come to a cell of the owner, within one operation for each cell (clause `passed`)
 pub returns-then-stands-number-clause-passed : goal.returns-then-stands-number-clause-passed
 returns-then-stands-number-clause-passed g c =
     let so_far = c.cells.invariant in
@@ -32,6 +35,7 @@ returns-then-stands-number-clause-passed g c =
     subst (λ (d : Find g.row.T.Denot (Buffer 128)). HasPassed c.args.capacity c.args.first c.args.found (GoOn d) (seen c.args.seat.now) (seen stands.new.seat))
     (sym c.at_stage.ensures) (refl, (so_far.onward, so_far.within, refl, omega arith))
 
+-- behind the last cell the find has ended, as clause `goes` says
 pub returns-then-cell-capacity-clause-goes : goal.returns-then-cell-capacity-clause-goes
 returns-then-cell-capacity-clause-goes g c base copies began =
     let code : Coding g.row.T.Denot = coding_by g.T.Words in
@@ -41,6 +45,7 @@ returns-then-cell-capacity-clause-goes g c base copies began =
     (λ e. c.if-stands-number.false (e ∙ sym c.value-number.ensures.number)) (omega arith)
     (stands.ensures.goes base copies (c.cells.invariant.goes base copies began))
 
+-- the find has passed the last cell, within one operation for each cell (clause `passed`)
 pub returns-then-cell-capacity-clause-passed : goal.returns-then-cell-capacity-clause-passed
 returns-then-cell-capacity-clause-passed g c =
     let so_far = c.cells.invariant in
@@ -51,6 +56,7 @@ returns-then-cell-capacity-clause-passed g c =
     let past = c.if-cell-capacity.true in
     (refl, omega arith)
 
+-- an iteration after which the loop goes on keeps its invariant
 pub cells-preserved : goal.cells-preserved
 cells-preserved g c =
     let code : Coding g.row.T.Denot = coding_by g.T.Words in

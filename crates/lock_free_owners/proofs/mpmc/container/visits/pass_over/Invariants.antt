@@ -1,3 +1,5 @@
+-- `pass_over` (src/mpmc/container/visits.rt): in its loop the find has passed the cells from `first` to
+-- this one, which were not the owner's, with one operation for each.
 use Rattle.lock_free_owners.proofs.Names.{◌-◌, ◌<◌, ◌≤◌, coding_by, GoOn, seen}
 use Rattle.history.specs.Steps.{TakesAtMost}
 use Rattle.lock_free_owners.specs.Container.FindTurns.{at_cell, FindPasses}
@@ -15,5 +17,6 @@ invariant-cells g l =
       steps : TakesAtMost (l.cell - l.fn.first) (seen l.fn.seat) (seen l.seat);
     }
 
+-- Each iteration leaves fewer cells: the measure is the number of cells from the present one on.
 abbrev pub decreases-cells : given.decreases-cells
 decreases-cells g l = l.fn.capacity - l.cell

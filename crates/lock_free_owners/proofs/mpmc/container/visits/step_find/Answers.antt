@@ -10,6 +10,7 @@ use Rattle.lock_free_owners.proofs.ContainerSet.Counted.{counted_owes}
 use Rattle.lock_free_owners.proofs.ContainerSet.FindTurns.{find_keeps, find_tells, at_its_word}
 use Rattle.lock_free_owners.proofs.mpmc.container.visits.step_find.Goals as goal
 
+-- the rule of the table allows what the step writes, and it tells what a step of the find tells
 pub step_telling-requires-clause-owes : goal.step_telling-requires-clause-owes
 step_telling-requires-clause-owes g c =
     let met = g.met.T.Words in

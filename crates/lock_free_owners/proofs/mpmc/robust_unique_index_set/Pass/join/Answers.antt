@@ -8,6 +8,7 @@ use Rattle.history.specs.Views.{LooksOnce}
 use Rattle.model.specs.declared.turn.Kind.TheVariants as kinds
 use Rattle.lock_free_owners.proofs.mpmc.robust_unique_index_set.Pass.join.Goals as goal
 
+-- Two seats with shares and no call under way may be joined: the rule of the table holds of the joined view.
 pub join-requires-clause-joins : goal.join-requires-clause-joins
 join-requires-clause-joins c =
     let mine = c.args.self.now in
@@ -20,6 +21,7 @@ Owed key words slots id v xs =
     OwesAsk (λ (z : View ℕ). z.asked) (IsMachine one_word kinds.Robust key) words slots id
     (λ u n w. LooksOnce one_word kinds.Robust u.capacity u w) 0 Load (v, xs)
 
+-- the load is one that the rule of the table allows, and it tells what a look tells
 pub look-requires-clause-owes : goal.look-requires-clause-owes
 look-requires-clause-owes c =
     let mine = c.args.self.now in
@@ -41,6 +43,7 @@ look-requires-clause-owes c =
     (subst (λ (z : View ℕ). Owed (key_of s) words slots id z []) (sym c.join.ensures.joined)
     (subst (λ k. Owed k words slots id w []) size owed))
 
+-- the joined pass is as clause `same` says
 pub returns-clause-same : goal.returns-clause-same
 returns-clause-same c =
     let v = c.args.self.now.seated.seat.me.0 in

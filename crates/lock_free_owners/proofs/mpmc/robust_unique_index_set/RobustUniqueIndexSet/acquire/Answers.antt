@@ -12,6 +12,7 @@ use Rattle.lock_free_owners.proofs.RobustSet.Facts.{same_pass, shut, acquire_tak
 use Rattle.lock_free_owners.proofs.RobustSet.CallAnswers.{acquire_done, acquire_refused}
 use Rattle.lock_free_owners.proofs.mpmc.robust_unique_index_set.RobustUniqueIndexSet.acquire.Goals as goal
 
+-- the acquire may begin at the pass
 pub acquire_all-requires-clause-at : goal.acquire_all-requires-clause-at
 acquire_all-requires-clause-at g c =
     let mine = c.args.pass.now in
@@ -25,6 +26,7 @@ returns-in-Ok-clause-same g c = same_pass (search rules) c.acquire_all.ensures.e
 pub returns-in-Err-clause-same : goal.returns-in-Err-clause-same
 returns-in-Err-clause-same g c = same_pass (search rules) c.acquire_all.ensures.ends
 
+-- an acquire that succeeds means what clause `acquired` says
 pub returns-in-Ok-clause-acquired : goal.returns-in-Ok-clause-acquired
 returns-in-Ok-clause-acquired g c =
     let v = seen c.args.pass.now.seated in
@@ -39,6 +41,7 @@ returns-in-Ok-clause-lock g c locked =
     let w = seen c.acquire_all.new.seat in
     subst (λ (a : Acquired). a ≡ Err Locked) c.in-Ok.is (shut v w tt c.args.pass.now.idle c.args.owner c.acquire_all.result c.acquire_all.ensures.ends locked)
 
+-- a refused acquire means what clause `refused` says
 pub returns-in-Err-clause-refused : goal.returns-in-Err-clause-refused
 returns-in-Err-clause-refused g c =
     let v = seen c.args.pass.now.seated in
@@ -46,6 +49,7 @@ returns-in-Err-clause-refused g c =
     subst (λ (a : Acquired). IfErr a (λ e. AcquireRefused c.args.owner e v w)) c.in-Err.is
     (acquire_refused v w c.args.pass.now.idle c.args.owner c.acquire_all.result c.acquire_all.ensures.ends)
 
+-- an acquire that begins where the lock was seen answers `IsLocked`
 pub returns-in-Err-clause-lock : goal.returns-in-Err-clause-lock
 returns-in-Err-clause-lock g c locked =
     let v = seen c.args.pass.now.seated in
@@ -53,6 +57,7 @@ returns-in-Err-clause-lock g c locked =
     subst (λ (a : Acquired). a ≡ Err Locked) c.in-Err.is (shut v w tt c.args.pass.now.idle c.args.owner c.acquire_all.result c.acquire_all.ensures.ends
     locked)
 
+-- the acquire took no more steps than clause `steps` says
 pub returns-in-Ok-clause-steps : goal.returns-in-Ok-clause-steps
 returns-in-Ok-clause-steps g c =
     let v = seen c.args.pass.now.seated in
@@ -60,6 +65,7 @@ returns-in-Ok-clause-steps g c =
     subst (λ n. TakesAlone (n + 3) (n + 1) v w) (c.args.pass.now.known ∙ ap (λ (z : SetId). z.capacity) c.requires)
     (acquire_takes v w c.args.pass.now.idle c.args.owner c.acquire_all.result tt c.acquire_all.ensures.ends)
 
+-- the acquire took no more steps than clause `steps` says
 pub returns-in-Err-clause-steps : goal.returns-in-Err-clause-steps
 returns-in-Err-clause-steps g c =
     let v = seen c.args.pass.now.seated in

@@ -13,6 +13,7 @@ pub find_all-requires-clause-asks : goal.find_all-requires-clause-asks
 find_all-requires-clause-asks g c =
     takes_places_at (ap (λ (z : SetId). z.capacity) (sym (c.is_locked.ensures.same.set ∙ c.requires.pass))) c.requires.indices
 
+-- what the pass knows goes on, and the pass keeps what clause `same` says
 pub returns-clause-same : goal.returns-clause-same
 returns-clause-same g c =
     let on = c.is_locked.ensures.same in
@@ -28,6 +29,7 @@ returns-clause-same g c =
       aside = omega arith;
     }
 
+-- the find has visited and counted what clause `found` says
 pub returns-clause-found : goal.returns-clause-found
 returns-clause-found g c =
     let same = ap (λ (z : SetId). z.capacity) (c.is_locked.ensures.same.set ∙ c.requires.pass) in
@@ -42,6 +44,7 @@ returns-clause-found g c =
           (seen c.is_locked.new.pass.seated).seen (seen c.find_all.new.seat).seen) same c.find_all.ensures.ends.found;
     }
 
+-- the find took no more steps than clause `steps` says
 pub returns-clause-steps : goal.returns-clause-steps
 returns-clause-steps g c =
     let same = ap (λ (z : SetId). z.capacity) (c.is_locked.ensures.same.set ∙ c.requires.pass) in

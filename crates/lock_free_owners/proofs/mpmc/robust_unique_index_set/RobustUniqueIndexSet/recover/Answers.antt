@@ -11,6 +11,7 @@ use Rattle.lock_free_owners.proofs.Rules.Robust.Recovering.{questions_at, freed_
 use Rattle.lock_free_owners.proofs.mpmc.robust_unique_index_set.RobustUniqueIndexSet.recover.Goals as goal
 use Rattle.lock_free_owners.proofs.mpmc.robust_unique_index_set.RobustUniqueIndexSet.recover.Given as given
 
+-- the recovery may begin at the pass, which has no call under way
 pub recover_all-requires-clause-begins : goal.recover_all-requires-clause-begins
 recover_all-requires-clause-begins g c =
     let mine = c.args.pass.now in
@@ -28,9 +29,11 @@ recover_all-requires-clause-questions g c free = questions_at (ap (λ (z : SetId
 pub recover_all-requires-clause-freed : goal.recover_all-requires-clause-freed
 recover_all-requires-clause-freed g c free = freed_at (ap (λ (z : SetId). z.capacity) (sym c.requires.pass)) (c.requires.freed free)
 
+-- the pass is of the same structure as before, and goes on from what it had seen (clause `same`)
 pub returns-clause-same : goal.returns-clause-same
 returns-clause-same g c = same_pass (search rules) c.recover_all.ensures.ends.1
 
+-- the recovery has asked and freed what clause `recovered` says
 pub returns-clause-recovered : goal.returns-clause-recovered
 returns-clause-recovered g c =
     let called = c.recover_all in
@@ -46,6 +49,7 @@ returns-clause-recovered g c =
       lock = recovered_lock v w idle c.args.mode called.result ends.0 ends.1;
     }
 
+-- the recovery took no more steps than clause `steps` says
 pub returns-clause-steps : goal.returns-clause-steps
 returns-clause-steps g c =
     let v = seen c.args.pass.now.seated in

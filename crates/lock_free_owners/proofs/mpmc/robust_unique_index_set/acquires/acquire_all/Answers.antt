@@ -5,6 +5,7 @@ use Rattle.lock_free_owners.specs.Robust.Turns.{AcquireAt, AcquireEnds}
 use Rattle.lock_free_owners.proofs.RobustSet.Turns.{stays_then, gone_on, has_ended}
 use Rattle.lock_free_owners.proofs.mpmc.robust_unique_index_set.acquires.acquire_all.Goals as goal
 
+-- where the first step has ended the acquire, clause `ends` holds of its end
 pub returns-in-Done-clause-ends : goal.returns-in-Done-clause-ends
 returns-in-Done-clause-ends g c =
     let base = seen c.args.seat.now in
@@ -12,6 +13,7 @@ returns-in-Done-clause-ends g c =
     (seen c.step_acquire-first.new.seat) c.new.result c.in-Done.end c.step_acquire-first.result c.step_acquire-first.ensures.goes
     c.in-Done.is (subst (λ d. AcquireAt c.args.owner base base d tt) (sym c.new.ensures) c.requires.at)
 
+-- where `acquire_next` is called the acquire is under way
 pub acquire_next-cells-requires-clause-at : goal.acquire_next-cells-requires-clause-at
 acquire_next-cells-requires-clause-at g c =
     let base = seen c.args.seat.now in (
@@ -21,6 +23,7 @@ acquire_next-cells-requires-clause-at g c =
           c.in-GoOn.is (subst (λ d. AcquireAt c.args.owner base base d tt) (sym c.new.ensures) c.requires.at),
     )
 
+-- where the steps over the first cells have ended the acquire, clause `ends` holds of its end
 pub returns-in-Done-cells-clause-ends : goal.returns-in-Done-cells-clause-ends
 returns-in-Done-cells-clause-ends g c =
     let base = seen c.args.seat.now in
@@ -31,6 +34,7 @@ returns-in-Done-cells-clause-ends g c =
     (seen c.step_acquire-first.new.seat) c.new.result c.in-GoOn.next c.step_acquire-first.result c.step_acquire-first.ensures.goes
     c.in-GoOn.is (subst (λ d. AcquireAt c.args.owner base base d tt) (sym c.new.ensures) c.requires.at))
 
+-- the invariant of the loop holds before its first iteration
 pub loop-init : goal.loop-init
 loop-init g c =
     let base = seen c.args.seat.now in (
@@ -43,6 +47,7 @@ loop-init g c =
           c.in-GoOn.is (subst (λ d. AcquireAt c.args.owner base base d tt) (sym c.new.ensures) c.requires.at)),
     )
 
+-- an iteration after which the loop goes on keeps its invariant
 pub loop-preserved : goal.loop-preserved
 loop-preserved g c =
     let base = seen c.args.seat.now in
@@ -54,6 +59,7 @@ loop-preserved g c =
           so_far.1,
     )
 
+-- where the steps of an iteration have ended the acquire, clause `ends` holds of its end
 pub returns-in-Done-after-clause-ends : goal.returns-in-Done-after-clause-ends
 returns-in-Done-after-clause-ends g c =
     let base = seen c.args.seat.now in

@@ -1,3 +1,5 @@
+-- `acquire_all` (src/mpmc/robust_unique_index_set/acquires.rt): in its loop the seat stays at its
+-- table, and the acquire is under way.
 use Rattle.lock_free_owners.proofs.Names.{seen}
 use Rattle.lock_free_owners.specs.Robust.Turns.{StaysAtBoard, AcquireAt}
 use Rattle.lock_free_owners.proofs.mpmc.robust_unique_index_set.acquires.acquire_all.Given as given

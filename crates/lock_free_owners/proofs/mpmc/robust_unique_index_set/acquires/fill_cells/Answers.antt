@@ -9,6 +9,7 @@ use Rattle.lock_free_owners.proofs.mpmc.robust_unique_index_set.acquires.fill_ce
 pub step_acquire-requires : goal.step_acquire-requires
 step_acquire-requires c = record { board = c.cells.invariant.0.board; at = (c.requires.at.0, c.cells.invariant.1 c.requires.at.0 c.requires.at.1) }
 
+-- an iteration after which the loop goes on keeps its invariant
 pub cells-preserved : goal.cells-preserved
 cells-preserved c =
     let so_far = c.cells.invariant in
@@ -23,6 +24,7 @@ cells-preserved c =
           c.in-GoOn.is (so_far.1 base at)),
     )
 
+-- where a step leads the acquire to another stage, clause `goes` holds
 pub returns-in_default-clause-goes : goal.returns-in_default-clause-goes
 returns-in_default-clause-goes c base at =
     let called = c.step_acquire in
@@ -30,6 +32,7 @@ returns-in_default-clause-goes c base at =
     (fills c.args.capacity c.args.counter c.cells.cell c.cells.cell) c.in-GoOn.next called.result called.ensures.goes c.in-GoOn.is
     (c.cells.invariant.1 base at)
 
+-- where a step ends the acquire, clause `goes` holds of its end
 pub returns-in-Done-clause-goes : goal.returns-in-Done-clause-goes
 returns-in-Done-clause-goes c base at =
     let called = c.step_acquire in

@@ -10,15 +10,18 @@ use Rattle.lock_free_owners.proofs.RobustSet.Turns.{passes, stays_then}
 use Rattle.lock_free_owners.proofs.mpmc.robust_unique_index_set.asks.ask_over.Goals as goal
 use Rattle.lock_free_owners.proofs.mpmc.robust_unique_index_set.asks.ask_over.Given as given
 
+-- by the invariant of the loop the cell is one of the set (requirement `within`)
 pub load_cell-found-requires-clause-within : goal.load_cell-found-requires-clause-within
 load_cell-found-requires-clause-within g c = c.cells.invariant.within
 
+-- By the loop's invariant the recovery stands at this cell, as `load_cell` requires.
 pub load_cell-found-requires-clause-at : goal.load_cell-found-requires-clause-at
 load_cell-found-requires-clause-at g c =
     let asks = c.requires.asks in
     let so = c.cells.invariant.goes asks.base asks.f asks.s asks.q asks.idle asks.stands in
     (asks.base, so.0, asks.idle, so.1)
 
+-- if the cell has an owner, the first closure may be asked about it
 pub ask_found-answer-requires : goal.ask_found-answer-requires
 ask_found-answer-requires g c low =
     let asks = c.requires.asks in
@@ -28,15 +31,18 @@ ask_found-answer-requires g c low =
     asks.base asks.idle asks.f asks.s (seen c.cells.seat)
     (seen found.new.seat) c.args.capacity c.cells.cell found.result found.ensures.goes c.cells.predicate asks.q so asks.takes low
 
+-- by the invariant of the loop the cell is one of the set
 pub passed_next-cell-requires : goal.passed_next-cell-requires
 passed_next-cell-requires g c = c.cells.invariant.within
 
+-- The index of the cell fits in 32 bits, as it is below the capacity.
 pub overflow_cast-cell-then-answer-ne0 : goal.overflow_cast-cell-then-answer-ne0
 overflow_cast-cell-then-answer-ne0 g c =
     let low = c.cells.invariant.within in
     let small = c.ranges.capacity.fits in
     omega arith
 
+-- where the first closure says yes, the recovery goes on behind its question as clause `goes` says
 pub returns-then-answer-ne0-clause-goes : goal.returns-then-answer-ne0-clause-goes
 returns-then-answer-ne0-clause-goes g c base f s q idle began =
     let mode = c.args.mode in
@@ -57,6 +63,7 @@ returns-then-answer-ne0-clause-goes g c base f s q idle began =
     (λ x o i t. given.S-step g x o i tt t) base.capacity mode base f s (seen found.new.seat)
     a asked.new.predicate q) (sym taken) yes.1
 
+-- behind the last cell the recovery loads the counter again, as clause `goes` says
 pub returns-then-cell-capacity-clause-goes : goal.returns-then-cell-capacity-clause-goes
 returns-then-cell-capacity-clause-goes g c base f s q idle began =
     let mode = c.args.mode in
@@ -76,6 +83,8 @@ returns-then-cell-capacity-clause-goes g c base f s q idle began =
     (λ x o i t. given.S-step g x o i tt t) base.capacity mode base f s (seen found.new.seat)
     a asked.new.predicate q) (c.past_last.ensures c.cells.cell (c.cells.cell + 1) (omega arith)) no
 
+-- a cell without an owner, or one about whose owner the closure says no, leads to the next cell and
+-- keeps the invariant of the loop
 pub cells-preserved : goal.cells-preserved
 cells-preserved g c =
     let mode = c.args.mode in
@@ -86,6 +95,7 @@ cells-preserved g c =
     record { fits = search rules; asked = asked.ensures.asked; passed = asked.ensures.passed } in
     let next = c.passed_next-cell.ensures.next in
     let inside = c.if-cell-capacity.false in
+    -- By the answer no, or without an owner, the recovery goes on to the next cell.
     let after = c.passed_next-cell.ensures.after (omega arith) in
     record {
       stays = stays_then so_far.stays found.ensures.stays;

@@ -7,6 +7,7 @@ use Rattle.lock_free_owners.specs.Robust.Turns.{size, RecoverTells}
 use Rattle.lock_free_owners.proofs.RobustSet.Turns.{passes}
 use Rattle.lock_free_owners.proofs.mpmc.robust_unique_index_set.asks.load_cell.Goals as goal
 
+-- the load of the cell is one that the rule of the table allows, and it tells what a step of the call tells
 pub load_for-requires-clause-owes : goal.load_for-requires-clause-owes
 load_for-requires-clause-owes c =
     let s = c.args.seat.now in

@@ -6,9 +6,11 @@ use Rattle.lock_free_owners.specs.Robust.Turns.{CountAt, CountEnds}
 use Rattle.lock_free_owners.proofs.RobustSet.Turns.{stays_then, gone_on, has_ended, loads_next, loads}
 use Rattle.lock_free_owners.proofs.mpmc.robust_unique_index_set.counts.count_cells.Goals as goal
 
+-- the step of the count is about to be taken at a cell of the set
 pub step_count-requires : goal.step_count-requires
 step_count-requires c = record { board = c.cells.invariant.0.board; at = (c.requires.at.0, c.cells.invariant.1 c.requires.at.0 c.requires.at.1) }
 
+-- an iteration after which the loop goes on keeps its invariant
 pub cells-preserved : goal.cells-preserved
 cells-preserved c =
     let so_far = c.cells.invariant in
@@ -23,6 +25,7 @@ cells-preserved c =
           c.in-GoOn.is (so_far.1 base at)),
     )
 
+-- where a step leads the count to another stage, clause `goes` holds
 pub returns-in_default-clause-goes : goal.returns-in_default-clause-goes
 returns-in_default-clause-goes c base at =
     let called = c.step_count in
@@ -30,6 +33,7 @@ returns-in_default-clause-goes c base at =
     (loads c.args.capacity c.args.counter c.cells.cell c.cells.found c.cells.cell c.cells.found) c.in-GoOn.next called.result called.ensures.goes
     c.in-GoOn.is (c.cells.invariant.1 base at)
 
+-- where a step ends the count, clause `goes` holds of its end
 pub returns-in-Done-clause-goes : goal.returns-in-Done-clause-goes
 returns-in-Done-clause-goes c base at =
     let called = c.step_count in

@@ -1,14 +1,17 @@
+-- `count_cells` (src/mpmc/robust_unique_index_set/counts.rt): in its loop the count stands at a cell,
+-- with each iteration at a higher one.
 use Rattle.lock_free_owners.proofs.Names.{ℕ, ◌-◌, View, seen}
 use Rattle.steps.specs.declared.indices.robust.parts.Count.TheVariants as stages
 use Rattle.lock_free_owners.specs.Robust.Turns.{StaysAtBoard, CountAt}
 use Rattle.lock_free_owners.proofs.mpmc.robust_unique_index_set.counts.count_cells.Given as given
 
--- whatever the view with which the count began
+-- whatever the view with which the count began, it stands at this cell
 abbrev pub invariant-cells : given.invariant-cells
 invariant-cells l =
     StaysAtBoard l.fn.seat l.seat
     × ((base : View ℕ) → CountAt base (seen l.fn.seat) (record { capacity = l.fn.capacity; count = stages.LoadsCell l.fn.counter l.fn.first l.fn.filled }) tt
     → CountAt base (seen l.seat) (record { capacity = l.fn.capacity; count = stages.LoadsCell l.fn.counter l.cell l.found }) tt)
 
+-- Each iteration leaves fewer cells: the measure is the number of cells from the present one on.
 abbrev pub decreases-cells : given.decreases-cells
 decreases-cells l = l.fn.capacity - l.cell

@@ -8,6 +8,7 @@ use Rattle.lock_free_owners.proofs.RobustSet.Turns.{stays_then}
 use Rattle.lock_free_owners.proofs.mpmc.robust_unique_index_set.finds.find_all.Goals as goal
 use Rattle.lock_free_owners.proofs.mpmc.robust_unique_index_set.finds.find_all.Given as given
 
+-- the invariant of the loop holds before its first iteration
 pub loop-next-init : goal.loop-next-init
 loop-next-init g c = (
   record { same = (refl, refl, refl); board = c.requires.ready.board },
@@ -15,6 +16,7 @@ loop-next-init g c = (
       c.requires.ready.known c.requires.ready.may_step c.requires.places,
 )
 
+-- the find may take its next turn: its stage is one that there is, and the closure may be called there
 pub find_next-requires-clause-may_turn : goal.find_next-requires-clause-may_turn
 find_next-requires-clause-may_turn g c =
     record {
@@ -26,6 +28,7 @@ find_next-requires-clause-may_turn g c =
 pub loop-next-smaller : goal.loop-next-smaller
 loop-next-smaller g c = subst (GoesDown c.args.capacity _) c.in-GoOn.is c.find_next.ensures.less
 
+-- an iteration after which the loop goes on keeps its invariant
 pub loop-next-preserved : goal.loop-next-preserved
 loop-next-preserved g c =
     let so_far = c.loop-next.invariant in
@@ -35,6 +38,7 @@ loop-next-preserved g c =
           called.new.visit) c.in-GoOn.is (called.ensures.goes (seen c.args.seat.now) c.args.visit.now so_far.1),
     )
 
+-- where a step has ended the call, its end is as clause `ends` says
 pub returns-in-Done-clause-ends : goal.returns-in-Done-clause-ends
 returns-in-Done-clause-ends g c =
     let called = c.find_next in

@@ -10,6 +10,7 @@ use Rattle.lock_free_owners.proofs.RobustSet.Finding.{heard}
 use Rattle.lock_free_owners.proofs.mpmc.robust_unique_index_set.finds.find_next.Goals as goal
 use Rattle.lock_free_owners.proofs.mpmc.robust_unique_index_set.finds.find_next.Given as given
 
+-- where the find stood at a cell, its steps over cells lead on as clause `goes` says
 pub returns-in-LoadsCell-clause-goes : goal.returns-in-LoadsCell-clause-goes
 returns-in-LoadsCell-clause-goes g c base f began =
     let stands = c.requires.may_turn.standing in
@@ -17,6 +18,7 @@ returns-in-LoadsCell-clause-goes g c base f began =
     c.pass_over.ensures.goes c.args.visit.now base f
     (subst (λ (d : Find). Searching (λ q x a r. given.F-step g q x a r) c.args.capacity c.args.owner base f (seen c.args.seat.now) d c.args.visit.now) is began)
 
+-- where the find stood at its question, the answer of the closure leads on as clause `goes` says
 pub returns-in-Asks-clause-goes : goal.returns-in-Asks-clause-goes
 returns-in-Asks-clause-goes g c base f began =
     let small : c.args.capacity < 2 ^ 32 = search rules in

@@ -12,6 +12,7 @@ Owed key words slots id word v xs =
     OwesAsk (λ (z : View ℕ). z.asked) (IsMachine one_word kinds.Robust key) words slots id
     (λ u n w. LooksAt one_word kinds.Robust u.capacity word u n w) word Load (v, xs)
 
+-- the load of the cell is one that the rule of the table allows, and it tells a look at the history
 pub look-requires-clause-owes : goal.look-requires-clause-owes
 look-requires-clause-owes c =
     let s = c.args.seat.now in

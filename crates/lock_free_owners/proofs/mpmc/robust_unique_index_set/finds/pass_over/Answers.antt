@@ -11,6 +11,7 @@ use Rattle.lock_free_owners.proofs.RobustSet.Turns.{stays_then}
 use Rattle.lock_free_owners.proofs.mpmc.robust_unique_index_set.finds.pass_over.Goals as goal
 use Rattle.lock_free_owners.proofs.mpmc.robust_unique_index_set.finds.pass_over.Given as given
 
+-- at a cell of the owner the find has fewer steps left (clause `less`)
 pub returns-then-stands-value-clause-less : goal.returns-then-stands-value-clause-less
 returns-then-stands-value-clause-less g c =
     let here = at_cell c.args.capacity c.args.so_many c.cells.cell in
@@ -19,6 +20,7 @@ returns-then-stands-value-clause-less g c =
     subst (GoesDown c.args.capacity (find_left c.args.capacity (stages.LoadsCell c.args.first c.args.so_many))) (sym taken)
     (load_down here c.args.capacity refl c.args.first c.args.so_many c.cells.cell c.args.so_many c.args.owner c.look_at-stands.result so_far.past so_far.inside)
 
+-- at a cell of the owner the find goes on as clause `goes` says
 pub returns-then-stands-value-clause-goes : goal.returns-then-stands-value-clause-goes
 returns-then-stands-value-clause-goes g c p base f began =
     let small : c.args.capacity < 2 ^ 32 = search rules in
@@ -32,6 +34,7 @@ returns-then-stands-value-clause-goes g c p base f began =
     (loaded (λ q x a r. given.F-step g q x a r) c.args.capacity c.args.owner base f small fits (seen c.cells.seat) (seen look.new.seat) here p searching
     c.cells.cell c.args.so_many look.result searching.so_far look.ensures.looks searching.steps look.ensures.counted)
 
+-- behind the last cell the find has ended (clause `less`)
 pub returns-then-cell-capacity-clause-less : goal.returns-then-cell-capacity-clause-less
 returns-then-cell-capacity-clause-less g c =
     let look = c.look_at-stands in
@@ -46,6 +49,7 @@ returns-then-cell-capacity-clause-less g c =
     subst (GoesDown c.args.capacity (find_left c.args.capacity (stages.LoadsCell c.args.first c.args.so_many))) (sym taken)
     (load_down here c.args.capacity refl c.args.first c.args.so_many c.cells.cell c.args.so_many c.args.owner look.result so_far.past so_far.inside)
 
+-- behind the last cell the find has ended, as clause `goes` says
 pub returns-then-cell-capacity-clause-goes : goal.returns-then-cell-capacity-clause-goes
 returns-then-cell-capacity-clause-goes g c p base f began =
     let small : c.args.capacity < 2 ^ 32 = search rules in
@@ -64,6 +68,7 @@ returns-then-cell-capacity-clause-goes g c p base f began =
     (loaded (λ q x a r. given.F-step g q x a r) c.args.capacity c.args.owner base f small fits (seen c.cells.seat) (seen look.new.seat) here p searching
     c.cells.cell c.args.so_many look.result searching.so_far look.ensures.looks searching.steps look.ensures.counted)
 
+-- an iteration after which the loop goes on keeps its invariant
 pub cells-preserved : goal.cells-preserved
 cells-preserved g c =
     let small : c.args.capacity < 2 ^ 32 = search rules in
@@ -75,6 +80,7 @@ cells-preserved g c =
     let next = c.next_cell-cell.ensures.next in
     let inside = c.if-cell-capacity.false in
     let here = at_cell c.args.capacity c.args.so_many c.cells.cell in
+    -- The cell is not the owner's, so the find goes on to the next cell.
     let after =
     c.next_cell-cell.ensures.after (omega arith) c.args.so_many c.args.owner look.result
     (λ e. c.if-stands-value.false (e ∙ sym c.value.ensures.number)) in

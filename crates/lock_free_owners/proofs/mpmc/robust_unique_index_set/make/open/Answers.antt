@@ -5,6 +5,7 @@ use Rattle.std.specs.Prelude.{replicate}
 use Rattle.lock_free_owners.proofs.RobustSet.Opens.{robust_opens}
 use Rattle.lock_free_owners.proofs.mpmc.robust_unique_index_set.make.open.Goals as goal
 
+-- the words at the opening are those of a machine with one more behind them, and the first view fits it
 pub open-requires : goal.open-requires
 open-requires c =
     let size = 1 + c.args.capacity in

@@ -1,3 +1,5 @@
+-- `recover_all` (src/mpmc/robust_unique_index_set/recovers.rt): in its loop the seat stays at its
+-- table, and the recovery is under way, with its closures as they were called.
 use Rattle.lock_free_owners.proofs.Names.{seen}
 use Rattle.lock_free_owners.specs.Robust.Recovering.{StandsSo}
 use Rattle.lock_free_owners.specs.Robust.Turns.{StaysAtBoard}

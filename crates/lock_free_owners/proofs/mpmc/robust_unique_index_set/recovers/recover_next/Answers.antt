@@ -12,6 +12,7 @@ use Rattle.lock_free_owners.proofs.mpmc.robust_unique_index_set.recovers.recover
 use Rattle.lock_free_owners.proofs.mpmc.robust_unique_index_set.recovers.recover_next.Goals as goal
 use Rattle.lock_free_owners.proofs.mpmc.robust_unique_index_set.recovers.recover_next.Given as given
 
+-- after the answer of the first closure the recovery goes on as clause `goes` says
 pub returns-after-yes-clause-goes : goal.returns-after-yes-clause-goes
 returns-after-yes-clause-goes g c =
     let k = number_of c.ask-yes.result in
@@ -33,6 +34,8 @@ returns-after-yes-clause-goes g c =
           (named, refl, (c.ask-yes.result, asked, refl), goes),
     )
 
+-- after the exchange of a cell, and the call of the second closure if it freed the index, the recovery
+-- goes on as clause `goes` says
 pub returns-in-EmptiesCell-clause-goes : goal.returns-in-EmptiesCell-clause-goes
 returns-in-EmptiesCell-clause-goes g c =
     let step = c.step_recover-after in

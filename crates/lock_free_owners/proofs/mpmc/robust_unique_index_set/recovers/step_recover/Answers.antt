@@ -8,6 +8,7 @@ use Rattle.model.specs.declared.turn.Kind.TheVariants as kinds
 use Rattle.lock_free_owners.specs.Robust.Turns.{size, RecoverSteps, RecoverTells}
 use Rattle.lock_free_owners.proofs.mpmc.robust_unique_index_set.recovers.step_recover.Goals as goal
 
+-- the rule of the table allows what the step writes, and it tells what a step of the recovery tells
 pub step_telling-requires-clause-owes : goal.step_telling-requires-clause-owes
 step_telling-requires-clause-owes c =
     let s = c.args.seat.now in
@@ -18,9 +19,11 @@ step_telling-requires-clause-owes c =
     (table_of s).words (table_of s).slots s.seat.id
     (RecoverTells c.args.mode c.args.call) (recover_want c.args.call) (seen s, xs)) (sym s.bare) owed
 
+-- a step of the recovery leaves the capacity that the pass knows (requirement `capacity`)
 pub step_telling-requires-clause-capacity : goal.step_telling-requires-clause-capacity
 step_telling-requires-clause-capacity c v n w h = h.0
 
+-- the recovery has gone on by what the step has heard (clause `goes`)
 pub returns-clause-goes : goal.returns-clause-goes
 returns-clause-goes c =
     let told = c.step_telling.ensures.told in (

@@ -5,6 +5,7 @@ use Rattle.threaded.specs.Seats.{seen}
 use Rattle.lock_free_queues.proofs.Queues.Measuring.{gone_on, has_ended}
 use Rattle.lock_free_queues.proofs.spsc.ring.lengths.count_on.Goals as goal
 
+-- by the invariant of the loop the count is under way (requirement `at`)
 pub step_count-requires-clause-at : goal.step_count-requires-clause-at
 step_count-requires-clause-at g c = (c.requires.at.0, c.loop.invariant.2 c.requires.at.0 c.requires.at.1)
 

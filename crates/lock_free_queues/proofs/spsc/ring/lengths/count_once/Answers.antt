@@ -4,6 +4,7 @@ use Rattle.threaded.specs.Seats.{seen}
 use Rattle.lock_free_queues.proofs.Queues.Measuring.{gone_on, has_ended}
 use Rattle.lock_free_queues.proofs.spsc.ring.lengths.count_once.Goals as goal
 
+-- the count is about to begin, or under way (requirement `at`)
 pub step_count-one-requires-clause-at : goal.step_count-one-requires-clause-at
 step_count-one-requires-clause-at g c = (seen c.args.seat.now, c.requires.at)
 

@@ -1,5 +1,5 @@
--- The closure was called with the places so far whose flag was found; the flags that are left are
--- those of the places from here on.
+-- `visit_word` (src/mpmc/bit_set/calls.rt): in its loop the closure was called with the places so far
+-- whose flag is set; the flags that are left are those of the further places.
 use Rattle.lock_free_sets.proofs.Names.{◌≡◌, ℕ, ◌+◌, ◌<◌, ◌≤◌, has_flag}
 use Rattle.lock_free_sets.specs.Bits.Callable.{Visited}
 use Rattle.lock_free_sets.proofs.mpmc.bit_set.calls.visit_word.Given as given

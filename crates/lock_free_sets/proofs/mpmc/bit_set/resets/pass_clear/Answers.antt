@@ -9,6 +9,7 @@ use Rattle.lock_free_sets.proofs.mpmc.bit_set.resets.pass_clear.Goals as goal
 pub step_reset-requires : goal.step_reset-requires
 step_reset-requires c = record { board = c.places.invariant.1; at = (c.requires.at.0, c.places.invariant.2 c.requires.at.0 c.requires.at.1) }
 
+-- an iteration after which the loop goes on keeps its invariant
 pub places-preserved : goal.places-preserved
 places-preserved c =
     let so_far = c.places.invariant in
@@ -23,12 +24,14 @@ places-preserved c =
           c.in-GoOn.is (so_far.2 base at)),
     )
 
+-- where a step has led to another stage, clause `goes` holds of that stage
 pub returns-in_default-clause-goes : goal.returns-in_default-clause-goes
 returns-in_default-clause-goes c base at =
     let called = c.step_reset in
     gone_on (seen c.places.seat) (seen called.new.seat) (loads c.args.capacity c.args.start c.places.so_many c.places.so_many)
     called.result called.ensures.goes base c.in-GoOn.next c.in-GoOn.is (c.places.invariant.2 base at)
 
+-- where the step has ended the call, clause `goes` holds of its end
 pub returns-in-Done-clause-goes : goal.returns-in-Done-clause-goes
 returns-in-Done-clause-goes c base at =
     let called = c.step_reset in

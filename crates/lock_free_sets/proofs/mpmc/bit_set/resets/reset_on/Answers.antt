@@ -4,9 +4,11 @@ use Rattle.lock_free_sets.proofs.Names.{◌∙◌, seen}
 use Rattle.lock_free_sets.proofs.Bits.Turns.{gone_on, has_ended}
 use Rattle.lock_free_sets.proofs.mpmc.bit_set.resets.reset_on.Goals as goal
 
+-- by the invariant of the loop the reset is under way (requirement `at`)
 pub reset_turn-after-requires-clause-at : goal.reset_turn-after-requires-clause-at
 reset_turn-after-requires-clause-at g c = (c.requires.at.0, c.loop.invariant.2 c.requires.at.0 c.requires.at.1)
 
+-- an iteration after which the loop goes on keeps its invariant
 pub loop-preserved : goal.loop-preserved
 loop-preserved g c =
     let so_far = c.loop.invariant in
@@ -17,6 +19,7 @@ loop-preserved g c =
           c.in-GoOn.is (so_far.2 base at),
     )
 
+-- where a step has ended the call, its end is as clause `ends` says
 pub returns-in-Done-clause-ends : goal.returns-in-Done-clause-ends
 returns-in-Done-clause-ends g c base at =
     let called = c.reset_turn-after in

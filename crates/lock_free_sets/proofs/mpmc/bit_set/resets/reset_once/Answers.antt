@@ -3,16 +3,19 @@ use Rattle.lock_free_sets.proofs.Names.{seen}
 use Rattle.lock_free_sets.proofs.Bits.Turns.{gone_on, has_ended, may_go_on}
 use Rattle.lock_free_sets.proofs.mpmc.bit_set.resets.reset_once.Goals as goal
 
+-- where the step has ended the call, clause `goes` holds of its end
 pub returns-in-Done-clause-goes : goal.returns-in-Done-clause-goes
 returns-in-Done-clause-goes c base at =
     let a = c.step_reset-loaded in
     has_ended (seen c.args.seat.now) (seen a.new.seat) c.args.first a.result a.ensures.goes base c.in-Done.end c.in-Done.is at
 
+-- after its first step the reset is under way (requirement `at`)
 pub reset_turn-came-requires-clause-at : goal.reset_turn-came-requires-clause-at
 reset_turn-came-requires-clause-at c =
     let a = c.step_reset-loaded in
     may_go_on (seen c.args.seat.now) (seen a.new.seat) c.args.first a.result a.ensures.goes c.in-GoOn.next c.in-GoOn.is c.requires.at
 
+-- where the steps past clear flags have ended the reset, clause `goes` holds of its end
 pub returns-in-Done-came-clause-goes : goal.returns-in-Done-came-clause-goes
 returns-in-Done-came-clause-goes c base at =
     let a = c.step_reset-loaded in
@@ -20,6 +23,7 @@ returns-in-Done-came-clause-goes c base at =
     has_ended (seen a.new.seat) (seen b.new.seat) c.in-GoOn.next b.result b.ensures.goes base c.in-Done-came.end c.in-Done-came.is
     (gone_on (seen c.args.seat.now) (seen a.new.seat) c.args.first a.result a.ensures.goes base c.in-GoOn.next c.in-GoOn.is at)
 
+-- after the steps past clear flags the reset is under way
 pub step_reset-taken-requires-clause-at : goal.step_reset-taken-requires-clause-at
 step_reset-taken-requires-clause-at c =
     let a = c.step_reset-loaded in
@@ -27,6 +31,7 @@ step_reset-taken-requires-clause-at c =
     may_go_on (seen a.new.seat) (seen b.new.seat) c.in-GoOn.next b.result b.ensures.goes c.in-GoOn-came.next c.in-GoOn-came.is
     (may_go_on (seen c.args.seat.now) (seen a.new.seat) c.args.first a.result a.ensures.goes c.in-GoOn.next c.in-GoOn.is c.requires.at)
 
+-- where the exchange of a flag has ended the reset, clause `goes` holds of its end
 pub returns-in-Done-taken-clause-goes : goal.returns-in-Done-taken-clause-goes
 returns-in-Done-taken-clause-goes c base at =
     let a = c.step_reset-loaded in
@@ -36,6 +41,7 @@ returns-in-Done-taken-clause-goes c base at =
     (gone_on (seen a.new.seat) (seen b.new.seat) c.in-GoOn.next b.result b.ensures.goes base c.in-GoOn-came.next c.in-GoOn-came.is
     (gone_on (seen c.args.seat.now) (seen a.new.seat) c.args.first a.result a.ensures.goes base c.in-GoOn.next c.in-GoOn.is at))
 
+-- after the exchange of a flag the reset is under way
 pub step_reset-requires-clause-at : goal.step_reset-requires-clause-at
 step_reset-requires-clause-at c =
     let a = c.step_reset-loaded in
@@ -45,6 +51,7 @@ step_reset-requires-clause-at c =
     (may_go_on (seen a.new.seat) (seen b.new.seat) c.in-GoOn.next b.result b.ensures.goes c.in-GoOn-came.next c.in-GoOn-came.is
     (may_go_on (seen c.args.seat.now) (seen a.new.seat) c.args.first a.result a.ensures.goes c.in-GoOn.next c.in-GoOn.is c.requires.at))
 
+-- the last step leads the reset on as clause `goes` says
 pub returns-clause-goes : goal.returns-clause-goes
 returns-clause-goes c base at =
     let a = c.step_reset-loaded in

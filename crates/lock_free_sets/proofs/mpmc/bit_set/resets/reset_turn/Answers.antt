@@ -3,6 +3,7 @@ use Rattle.lock_free_sets.proofs.Names.{sym, subst, seen}
 use Rattle.lock_free_sets.specs.Bits.Resetting.{ResetGoes}
 use Rattle.lock_free_sets.proofs.mpmc.bit_set.resets.reset_turn.Goals as goal
 
+-- where the reset stood at the load of a word, its steps over clear places lead on as clause `goes` says
 pub returns-in-LoadsElement-clause-goes : goal.returns-in-LoadsElement-clause-goes
 returns-in-LoadsElement-clause-goes c =
     subst (λ stage. ResetGoes (seen c.args.seat.now) (record { capacity = c.args.call.capacity; stage = stage })

@@ -8,9 +8,11 @@ use Rattle.lock_free_sets.proofs.Counts.Taken.{SoFar, first_so_far, within, so_f
 use Rattle.lock_free_sets.proofs.mpmc.counting_bit_set.calls.take_all.Goals as goal
 use Rattle.lock_free_sets.proofs.mpmc.counting_bit_set.calls.take_all.Given as given
 
+-- each step of the loop keeps the rule of the table (requirement `rule`)
 pub step-after-requires-clause-rule : goal.step-after-requires-clause-rule
 step-after-requires-clause-rule g c = keeps Counts
 
+-- by the invariant of the loop the call is under way (requirement `at`)
 pub step-after-requires-clause-at : goal.step-after-requires-clause-at
 step-after-requires-clause-at g c = (seen c.args.seated.now, c.loop-next.invariant.2.call.at)
 
@@ -54,7 +56,7 @@ loop-next-init g c =
           (sym c.counts-call.ensures) start,
     )
 
--- the pass is as each whole call on a set leaves it
+-- the call is over, and the pass is as a whole call on a set leaves it (clause `done`)
 pub returns-in-Done-clause-done : goal.returns-in-Done-clause-done
 returns-in-Done-clause-done g c =
     (taken_all (λ p x q. given.F-step g p x tt q) c.args.capacity c.args.visit.now (seen c.args.seated.now)

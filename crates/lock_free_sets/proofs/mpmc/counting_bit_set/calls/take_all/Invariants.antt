@@ -1,4 +1,5 @@
--- The closure was called with what the call has taken out so far.
+-- `take_all` (src/mpmc/counting_bit_set/calls.rt): in its loop the closure was called with just the
+-- counts that the call has taken out so far.
 use Rattle.lock_free_sets.proofs.Names.{◌≡◌, ◌-◌, seen}
 use Rattle.threaded.specs.Seats.{IsSame}
 use Rattle.lock_free_sets.proofs.Counts.Taken.{SoFar}
@@ -10,5 +11,6 @@ invariant-loop-next g l =
     × ((seen l.seated).capacity ≡ (seen l.fn.seated).capacity)
     × SoFar (λ p x q. given.F-step g p x tt q) l.fn.capacity l.fn.visit (seen l.fn.seated) (seen l.seated) l.call l.room l.visit
 
+-- Each iteration leaves fewer words: the measure is the number of words from the present one on.
 abbrev pub decreases-loop-next : given.decreases-loop-next
 decreases-loop-next g l = l.call.end - l.call.word

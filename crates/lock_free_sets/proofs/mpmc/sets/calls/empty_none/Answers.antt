@@ -30,17 +30,20 @@ look-requires-clause-owes g c =
     subst (λ (xs : List (ℕ × Unit {0})). Owed kind (key_of t) (table_of t).words (table_of t).slots t.seat.id (v, xs)) (sym t.bare)
     (subst (λ k. Owed kind k (table_of t).words (table_of t).slots t.seat.id (v, [])) c.requires.table.1 owed)
 
+-- The call has ended, as one that empties a set without places (clause `done`).
 pub returns-clause-done : goal.returns-clause-done
 returns-clause-done g c =
     done (machine_kind g.E.Kind.KIND) (empties_none g.E.Kind.KIND) (λ o p h. h) (seen c.args.seated.now) c.look.new.self.seat.me.0 tt
     (record { 0 = 0 }) c.look.ensures.told
 
+-- It is a call of the history that wrote no event of its own (clause `called`).
 pub returns-clause-called : goal.returns-clause-called
 returns-clause-called g c =
     let ends = c.look.ensures.told in
     has_made (machine_kind g.E.Kind.KIND) (empties_none g.E.Kind.KIND) (seen c.args.seated.now) c.look.new.self.seat.me.0 tt
     (record { 0 = 0 }) ends c.requires.idle.idle (λ by. []) ends.tells
 
+-- the operations that the call has asked for are within clause `steps`
 pub returns-clause-steps : goal.returns-clause-steps
 returns-clause-steps g c =
     none_takes g.E.Kind.KIND (seen c.args.seated.now) c.look.new.self.seat.me.0 (record { 0 = 0 }) c.requires.idle.idle

@@ -12,6 +12,7 @@ use Rattle.lock_free_sets.proofs.Unique.Facts.{apart, sound}
 use Rattle.lock_free_sets.proofs.Whole.Alone.{joined_done}
 use Rattle.lock_free_sets.proofs.mpmc.unique_index_set.Pass.join.Goals as goal
 
+-- Two seats with shares and no call under way may be joined: the rule of the table holds of the joined view.
 pub join-requires-clause-joins : goal.join-requires-clause-joins
 join-requires-clause-joins c =
     let mine = c.args.self.now in
@@ -33,6 +34,7 @@ look-requires-clause-owes c =
     look_owed kinds.Indices (table_of s).words (table_of s).slots s.seat.id 0 (key_of s) (joined_view v w) (seen s) s.seat.me.1
     below c.join.ensures.joined s.bare (mine.known ∙ (sym mine.keyed ∙ sym key)) mine.idle some
 
+-- the joined pass keeps its invariant `sound`: its claims and frees fit those of a set
 pub invariant_of-self-clause-sound : goal.invariant_of-self-clause-sound
 invariant_of-self-clause-sound c = sound _ c.look.new.self.seat.me.0 c.look.ensures.told.0.capacity c.look.ensures.told.0.history c.look.ensures.told.0.parties
 

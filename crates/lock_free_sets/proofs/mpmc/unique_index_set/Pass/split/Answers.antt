@@ -10,9 +10,12 @@ use Rattle.lock_free_sets.specs.Unique.Held.{IsSound, IsDone}
 use Rattle.lock_free_sets.proofs.Unique.Facts.{sound_same}
 use Rattle.lock_free_sets.proofs.mpmc.unique_index_set.Pass.split.Goals as goal
 
+-- a pass with a part of the share may be split: the rule of the table holds of both
+-- halves (requirement `splits`)
 pub split-requires-clause-splits : goal.split-requires-clause-splits
 split-requires-clause-splits c = splits one_word kinds.Indices _ c.args.self.now.seated.seat.id c.args.self.now.seated.seat.me.0
 
+-- The cases are whether the split has a result.
 by_result : {A : Type 0} {P : A → Type 0} {Q R : Type 0} (o : Option A) → IfSome o P → IfNone o Q → ((x : A) → P x → R) → (Q → R) → R
 by_result (Some x) some none f g = f x some
 by_result None some none f g = g none
@@ -25,6 +28,7 @@ invariant_of-self-clause-sound c =
     (λ t h. subst IsSound (sym h.2) (sound_same v (left_view v) refl refl refl c.args.self.now.sound))
     (λ same. subst IsSound (sym same) c.args.self.now.sound)
 
+-- the pass that was split keeps its invariant `done`: each call that it began has ended
 pub invariant_of-self-clause-done : goal.invariant_of-self-clause-done
 invariant_of-self-clause-done c =
     by_result c.split.result c.split.ensures.cut c.split.ensures.none

@@ -7,24 +7,30 @@ use Rattle.lock_free_sets.proofs.Unique.Whole.{borrowed_done, counted_done}
 use Rattle.lock_free_sets.proofs.Steps.{indices_take}
 use Rattle.lock_free_sets.proofs.mpmc.unique_index_set.UniqueIndexSet.borrowed_indices.Goals as goal
 
+-- each step of the call keeps the rule of the table (requirement `rule`)
 pub drive-requires-clause-rule : goal.drive-requires-clause-rule
 drive-requires-clause-rule c = count_keeps one_word
 
+-- the call is about to begin (requirement `at`)
 pub drive-requires-clause-at : goal.drive-requires-clause-at
 drive-requires-clause-at c = let mine = c.args.pass.now in count_first one_word (seen mine.seated) _ tt mine.idle mine.alone mine.some.0
 
+-- the returned pass keeps its invariant `sound`: its claims and frees fit those of a set
 pub invariant_of-pass-clause-sound : goal.invariant_of-pass-clause-sound
 invariant_of-pass-clause-sound c = sound_after c.drive.ensures.end
 
+-- the returned pass keeps its invariant `done`: each call that it began has ended
 pub invariant_of-pass-clause-done : goal.invariant_of-pass-clause-done
 invariant_of-pass-clause-done c =
     let mine = c.args.pass.now in
     counted_done (seen mine.seated) (seen c.drive.new.self) c.drive.result
     (counted (seen mine.seated) (seen c.drive.new.self) tt mine.idle c.drive.result c.drive.ensures.end) mine.done
 
+-- the returned pass keeps its invariant `knows`: it knows a run that gives all that it has seen
 pub invariant_of-pass-clause-knows : goal.invariant_of-pass-clause-knows
 invariant_of-pass-clause-knows c = knows_still c.args.pass.now.known c.drive.ensures.end.ran
 
+-- the pass is of the same structure as before, and goes on from what it had seen (clause `same`)
 pub returns-clause-same : goal.returns-clause-same
 returns-clause-same c = same_pass (search rules) c.drive.ensures.end
 
@@ -34,6 +40,7 @@ returns-clause-counted c =
     borrowed_done (seen mine.seated) (seen c.drive.new.self) tt mine.idle c.drive.result c.drive.ensures.end
     mine.done _ (same_size c.args.self.now mine c.requires)
 
+-- the operations that the call has asked for are within clause `steps`
 pub returns-clause-steps : goal.returns-clause-steps
 returns-clause-steps c =
     let mine = c.args.pass.now in

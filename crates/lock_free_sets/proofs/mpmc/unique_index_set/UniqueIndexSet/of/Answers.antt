@@ -10,7 +10,7 @@ use Rattle.history.proofs.Passes.{one_more}
 use Rattle.lock_free_sets.proofs.Unique.Opens.{indices_open}
 use Rattle.lock_free_sets.proofs.mpmc.unique_index_set.UniqueIndexSet.of.Goals as goal
 
--- one number more
+-- A range with one number more is the range and that number at its end.
 longer : (n a : ℕ) → range_with_len a (suc n) ≡ range_with_len a n ++ (a + n) ∷ []
 longer zero a = let e : a ≡ a + 0 = omega arith in ap (λ x. x ∷ []) e
 longer (suc n) a =

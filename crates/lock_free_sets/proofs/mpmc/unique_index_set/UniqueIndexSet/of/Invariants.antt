@@ -1,4 +1,5 @@
--- Behind the head stand the numbers from 1 on.
+-- `UniqueIndexSet::of` (src/mpmc/unique_index_set/make.rt): in its loop the words are the head and,
+-- behind it, the numbers from 1 on.
 use Rattle.lock_free_sets.proofs.Names.{◌≡◌, ◌∷◌, ◌+◌, ◌≤◌, range_with_len}
 use Rattle.std.specs.Prelude.{vec_len, vec_capacity}
 use Rattle.lock_free_sets.proofs.mpmc.unique_index_set.UniqueIndexSet.of.Given as given

@@ -8,6 +8,7 @@ use Rattle.lock_free_sets.proofs.Unique.Whole.{given_done, release_done}
 use Rattle.lock_free_sets.proofs.Steps.{indices_take}
 use Rattle.lock_free_sets.proofs.mpmc.unique_index_set.UniqueIndexSet.release_raw_index.Goals as goal
 
+-- each step of the call keeps the rule of the table (requirement `rule`)
 pub drive-requires-clause-rule : goal.drive-requires-clause-rule
 drive-requires-clause-rule c = release_keeps one_word c.args.index
 
@@ -22,26 +23,32 @@ drive-requires-clause-at c =
     (release_first one_word c.args.index v tt mine.idle mine.alone mine.some.0
     (mine.sound.within c.args.index c.requires.held) c.requires.held)
 
+-- the returned pass keeps its invariant `sound`: its claims and frees fit those of a set
 pub invariant_of-pass-clause-sound : goal.invariant_of-pass-clause-sound
 invariant_of-pass-clause-sound c = sound_after c.drive.ensures.end
 
+-- the returned pass keeps its invariant `done`: each call that it began has ended
 pub invariant_of-pass-clause-done : goal.invariant_of-pass-clause-done
 invariant_of-pass-clause-done c =
     let mine = c.args.pass.now in
     given_done (seen mine.seated) (seen c.drive.new.self) c.args.index c.drive.result
     (given (seen mine.seated) (seen c.drive.new.self) tt mine.idle c.args.index c.drive.result c.drive.ensures.end) mine.done
 
+-- the returned pass keeps its invariant `knows`: it knows a run that gives all that it has seen
 pub invariant_of-pass-clause-knows : goal.invariant_of-pass-clause-knows
 invariant_of-pass-clause-knows c = knows_still c.args.pass.now.known c.drive.ensures.end.ran
 
+-- the pass is of the same structure as before, and goes on from what it had seen (clause `same`)
 pub returns-clause-same : goal.returns-clause-same
 returns-clause-same c = same_pass (search rules) c.drive.ensures.end
 
+-- the release is a call of the history, which did what its answer says (clause `given`)
 pub returns-clause-given : goal.returns-clause-given
 returns-clause-given c =
     let mine = c.args.pass.now in
     release_done (seen mine.seated) (seen c.drive.new.self) tt mine.idle c.args.index c.drive.result c.drive.ensures.end
 
+-- the operations that the call has asked for are within clause `steps`
 pub returns-clause-steps : goal.returns-clause-steps
 returns-clause-steps c =
     let mine = c.args.pass.now in

@@ -65,12 +65,13 @@ open-requires g c =
     value_opens code law x v c.ranges.version.fits c.as_slice.result.now
     (c.as_slice.ensures.value ∙ (inv.words ∙ (ap (filling code x v) done ∙ ends code law x v)))
 
+-- The first pass has seen a store, as its invariant `begun` says.
 pub invariant_of-token-clause-begun : goal.invariant_of-token-clause-begun
 invariant_of-token-clause-begun g c =
     let me : c.in_ok-home.seated.seat.me.0 ≡ opened_view c.args.value g.T.Words.WORDS c.args.version = search rules in
     subst (λ (w : View g.row.T.Denot). 0 < length (stored w.seen)) (sym me) (opened_some c.args.value g.T.Words.WORDS c.args.version)
 
--- the first pass knows the run that leads there
+-- the first pass knows the run of the stores with which the value opens
 pub invariant_of-token-clause-knows : goal.invariant_of-token-clause-knows
 invariant_of-token-clause-knows g c =
     let met = g.met.T.Words in

@@ -1,4 +1,5 @@
--- So many words of both cells are filled in.
+-- `UnrestrictedAtomic::of` (src/spmc/unrestricted_atomic/make.rt): in its loop the first words of both
+-- cells are filled in with the value's words.
 use Rattle.std.proofs.Common.{◌≡◌, ◌+◌}
 use Rattle.lock_free_value.proofs.Names.{coding_by}
 use Rattle.lock_free_value.proofs.Opens.{filling}

@@ -1,4 +1,4 @@
--- The load stands at a word of the cell.
+-- `copy_words` (src/spmc/unrestricted_atomic/loads.rt): in its loop the load stands at a word of the cell.
 use Rattle.std.proofs.Common.{◌-◌}
 use Rattle.lock_free_value.proofs.Names.{at_load, first_load, coding_by, View}
 use Rattle.steps.specs.declared.atomic.LoadStage.TheVariants as stages
@@ -16,5 +16,6 @@ invariant-words g l =
     → LoadAt (coding_by g.T.Words) g.R.Room.words_in base (seen l.seat)
     (at_load first_load (stages.LoadsCell l.of l.start l.place)) l.room)
 
+-- Each iteration leaves fewer words: the measure is the number of words from the present one on.
 abbrev pub decreases-words : given.decreases-words
 decreases-words g l = g.T.Words.WORDS - l.place

@@ -7,7 +7,7 @@ use Rattle.threaded.specs.Seats.{seen}
 use Rattle.lock_free_value.specs.Loads.{LoadNext}
 use Rattle.lock_free_value.proofs.spmc.unrestricted_atomic.loads.load_all.Goals as goal
 
--- after each turn of the loop the load stands at its next stage
+-- After each iteration the load stands at its next stage.
 pub loop-preserved : goal.loop-preserved
 loop-preserved g c =
     let so_far = c.loop.invariant in
@@ -22,7 +22,7 @@ loop-preserved g c =
           (called.ensures.goes base so_far.2),
     )
 
--- where a turn of the loop ends the load, it has ended with a step of its own
+-- An iteration whose step ends the load returns, as clause `ends` says.
 pub returns-in-Done-clause-ends : goal.returns-in-Done-clause-ends
 returns-in-Done-clause-ends g c =
     let called = c.load_next in

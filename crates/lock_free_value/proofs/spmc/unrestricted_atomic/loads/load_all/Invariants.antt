@@ -1,4 +1,4 @@
--- The load stands at one of its stages.
+-- `load_all` (src/spmc/unrestricted_atomic/loads.rt): in its loop the load stands at one of its stages.
 use Rattle.lock_free_value.proofs.Names.{coding_by}
 use Rattle.threaded.specs.Seats.{seen, IsSame}
 use Rattle.lock_free_value.specs.Loads.{IsBoard, LoadAt}

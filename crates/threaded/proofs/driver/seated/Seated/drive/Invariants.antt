@@ -1,3 +1,5 @@
+-- `Seated::drive` (src/driver/drive.rt): in its loop the seat stays at its table, and the call is under
+-- way. Each step makes the measure of the call smaller.
 use Rattle.std.proofs.Common.{◌≡◌}
 use Rattle.threaded.specs.Driver.{Told}
 use Rattle.threaded.specs.Seats.{seen, IsSame}
@@ -8,10 +10,11 @@ invariant-loop-next g l =
     IsSame l.fn.self l.self × (g.Q.Rule.capacity_seen (seen l.self) ≡ g.Q.Rule.capacity_seen (seen l.fn.self))
     × g.D.Drives.at l.fn.given (seen l.fn.self) (seen l.self) l.call l.room
 
+-- Each step leaves the call fewer steps, by the measure that the call itself gives.
 abbrev pub decreases-loop-next : given.decreases-loop-next
 decreases-loop-next g l = g.C.Ends.left l.call
 
--- what the seat is told of the call when it has been driven once
+-- one step tells what `Told` says of the call with which `once` is called
 abbrev pub ghosts-once : given.ghosts-once
 ghosts-once g a =
     record {

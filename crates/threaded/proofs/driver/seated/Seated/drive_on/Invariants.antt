@@ -1,3 +1,5 @@
+-- `Seated::drive_on` (src/driver/drive.rt): in both loops the seat stays at its table, and
+-- the call is under way.
 use Rattle.std.proofs.Common.{◌≡◌}
 use Rattle.threaded.specs.Driver.{Told}
 use Rattle.threaded.specs.Seats.{seen, IsSame}
@@ -13,7 +15,7 @@ invariant-alike g l =
     IsSame l.fn.self l.self × (g.Q.Rule.capacity_seen (seen l.self) ≡ g.Q.Rule.capacity_seen (seen l.fn.self))
     × g.D.Drives.at l.fn.given (seen l.fn.self) (seen l.self) l.call l.room
 
--- what the seat is told of the call when it has been driven once
+-- one step tells what `Told` says of the call with which `once` is called
 abbrev pub ghosts-once : given.ghosts-once
 ghosts-once g a =
     record {

@@ -1,7 +1,8 @@
+-- `Seated::step` (src/driver/drive.rt): what its step tells.
 use Rattle.threaded.specs.Driver.{Told}
 use Rattle.threaded.proofs.driver.seated.Seated.step.Given as given
 
--- what the seat is told of the call when it has been driven once
+-- the step tells what `Told` says of the call with which `once` is called
 abbrev pub ghosts-once : given.ghosts-once
 ghosts-once g a =
     record {

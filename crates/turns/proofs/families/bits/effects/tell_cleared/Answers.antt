@@ -7,7 +7,8 @@ use Rattle.turns.proofs.Places.{clears_so_far, stood_more, clear_more}
 use Rattle.turns.proofs.families.bits.effects.tell_cleared.Goals as goal
 use Rattle.turns.proofs.families.bits.effects.tell_cleared.Goals.{then-has_flag, else-has_flag}
 
--- with each bit the events are those of the bits so far whose flag was found, and there is room for the rest
+-- after one bit more the events are those of the bits up to it whose flag was found, and they still have room
+-- for one of each bit
 pub bits-preserved : goal.bits-preserved
 bits-preserved g c =
     let number = c.args.number in
@@ -17,6 +18,7 @@ bits-preserved g c =
     let few = c.bits.invariant.1 in
     let same = c.bits.invariant.2 in
     elim c.if-has_flag.branch [
+      -- the flag of this bit was found: its event is written
       | then-has_flag w ↦
           let stood = sym c.has_flag.ensures ∙ w.if-has_flag.true in
           let now =
@@ -30,6 +32,7 @@ bits-preserved g c =
           let longer = w.push_reserved.ensures.len in
           let kept = w.push_reserved.ensures.capacity in
           (now, omega arith, omega arith)
+      -- the flag of this bit was not found: no event is written
       | else-has_flag w ↦
           let clear = sym c.has_flag.ensures ∙ w.if-has_flag.false in
           let now =

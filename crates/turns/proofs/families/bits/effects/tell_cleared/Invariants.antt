@@ -1,4 +1,5 @@
--- The events are those of the bits so far whose flag was found, and there is room for the rest.
+-- The invariant of the loop of `tell_cleared`: the events are those of the first bits of the element whose
+-- flag was found, and as many more may be written as there are bits.
 use Rattle.std.proofs.Common.{◌≡◌, ◌≤◌, ◌+◌, ◌++◌}
 use Rattle.std.specs.Prelude.{vec_len, vec_capacity}
 use Rattle.turns.proofs.Places.{clears_so_far}

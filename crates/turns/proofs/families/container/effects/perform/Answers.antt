@@ -5,7 +5,7 @@ use Rattle.model.specs.declared.event.Event.{Event}
 use Rattle.turns.proofs.families.container.effects.perform.Goals as goal
 use Rattle.turns.proofs.families.container.effects.perform.Goals.{in-Some, in_default, in-Some-question, in_default-question}
 
--- two lists were added, one after another
+-- of a list to which one list and then another was added: it is longer by both
 both : {E : Type 0} (old between new xs ys told asked : List E) → told ≡ xs → asked ≡ ys → between ≡ old ++ told → new ≡ between ++ asked
     → new ≡ old ++ (xs ++ ys)
 both old between new xs ys told asked is_told is_asked first second =
@@ -15,9 +15,11 @@ both old between new xs ys told asked is_told is_asked first second =
     ∙ ap (λ l. old ++ (l ++ asked)) is_told
     ∙ ap (λ l. old ++ (xs ++ l)) is_asked
 
+-- the look of a state, if the step has one, comes to what `feed` ensures
 pub returns-clause-after : goal.returns-clause-after
 returns-clause-after g c = c.feed-done.ensures.after
 
+-- the states after the step are those that `feed` ensures
 pub returns-clause-states : goal.returns-clause-states
 returns-clause-states g c = c.feed-done.ensures.states
 

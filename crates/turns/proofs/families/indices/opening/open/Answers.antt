@@ -7,7 +7,7 @@ use Rattle.std.specs.List.{range_with_len}
 use Rattle.std.specs.Prelude.{vec_len, replicate}
 use Rattle.turns.proofs.families.indices.opening.open.Goals as goal
 
--- one number more
+-- a range that is one number longer has that number behind the others
 one_more : (n a : ℕ) → range_with_len a (suc n) ≡ range_with_len a n ++ (a + n) ∷ []
 one_more zero a = let e : a ≡ a + 0 = omega arith in ap (λ x. x ∷ []) e
 one_more (suc n) a =

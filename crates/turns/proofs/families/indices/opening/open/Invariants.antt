@@ -1,4 +1,5 @@
--- Behind the head stand the numbers from 1 on, and there is room for the rest.
+-- The invariant of the loop of `open` of a unique index set: behind the head stand the numbers from 1 on, one
+-- for each cell written, and there is room for the words that are left.
 use Rattle.std.proofs.Common.{◌≡◌, ◌∷◌, ◌+◌, ◌≤◌}
 use Rattle.std.specs.List.{range_with_len}
 use Rattle.std.specs.Prelude.{vec_len, vec_capacity}

@@ -5,6 +5,7 @@ use Rattle.lock_free_owners.specs.Container.Entries.{entries_from}
 use Rattle.lock_free_owners.proofs.ContainerSet.Entries.{entries_give, entries_pass}
 use Rattle.lock_free_owners.proofs.mpmc.container.listing.StateEntriesIterator.next.Goals as goal
 
+-- an index that shows a value yields its entry, and the entries behind it are left
 pub returns-in-Some-clause-steps : goal.returns-in-Some-clause-steps
 returns-in-Some-clause-steps g c =
     let index = c.loop-self.self-inside.index in
@@ -18,6 +19,7 @@ returns-in-Some-clause-goes g c =
     ∙ entries_give c.self.inside.state.now c.loop-self.self-inside.index c.in-Some.value.now (search rules) (search rules) in
     search rules
 
+-- an index that shows nothing leaves the entries that are still to come
 pub loop-self-preserved : goal.loop-self-preserved
 loop-self-preserved g c = (
   c.loop-self.invariant.0,

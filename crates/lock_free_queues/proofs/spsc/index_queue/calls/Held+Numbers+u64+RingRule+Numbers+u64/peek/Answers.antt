@@ -11,6 +11,7 @@ use Rattle.lock_free_queues.specs.Queues.Contracts.{HasPeeked}
 use Rattle.lock_free_queues.proofs.Queues.Paid.{peek_takes}
 use Rattle.lock_free_queues.proofs.spsc.index_queue.calls.Held+Numbers+u64+RingRule+Numbers+u64.peek.Goals as goal
 
+-- each step of the call keeps the rule of the table (requirement `rule`)
 pub drive-end-requires-clause-rule : goal.drive-end-requires-clause-rule
 drive-end-requires-clause-rule c base v call m key = peek_keep_all one_word base v call m key.capacity
 
@@ -33,10 +34,12 @@ returns-clause-peeked c =
     (has_peeked one_word IndexQueue x w mine.idle tt index_of in_room peeks_index index_peek c.drive-end.result
     c.drive-end.new.room c.drive-end.ensures.end)
 
+-- the call moves no role (clause `roles`)
 pub returns-clause-roles : goal.returns-clause-roles
 returns-clause-roles c r =
     peeked_moves (seen c.args.self.now.seated) (seen c.drive-end.new.self) (option_map index_of c.answer.result) (returns-clause-peeked c) r
 
+-- the operations that the call has asked for are within clause `steps`
 pub returns-clause-steps : goal.returns-clause-steps
 returns-clause-steps c =
     let mine = c.args.self.now in

@@ -10,6 +10,7 @@ use Rattle.lock_free_queues.specs.Queues.Contracts.{HasPopped, HasTakenOut, WasE
 use Rattle.lock_free_queues.proofs.Queues.Paid.{pop_takes}
 use Rattle.lock_free_queues.proofs.spsc.index_queue.calls.Held+Numbers+u64+RingRule+Numbers+u64.pop.Goals as goal
 
+-- each step of the call keeps the rule of the table (requirement `rule`)
 pub drive-end-requires-clause-rule : goal.drive-end-requires-clause-rule
 drive-end-requires-clause-rule c base v call m key = pop_keep_all one_word base v call m key.capacity
 
@@ -56,6 +57,7 @@ returns-clause-taken c =
     (taken_if one_word of_indices index_of x.capacity x w ends.history o
     (has_popped one_word IndexQueue x w mine.idle index_of in_room pops_index index_pop c.drive-end.result c.drive-end.new.room ends))
 
+-- the operations that the call has asked for are within clause `steps`
 pub returns-clause-steps : goal.returns-clause-steps
 returns-clause-steps c =
     let mine = c.args.self.now in

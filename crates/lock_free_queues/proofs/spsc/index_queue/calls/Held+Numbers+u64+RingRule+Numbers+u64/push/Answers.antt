@@ -11,6 +11,7 @@ use Rattle.lock_free_queues.specs.Queues.Contracts.{HasPushed, WasFull, WasAtEnd
 use Rattle.lock_free_queues.proofs.Queues.Paid.{push_takes}
 use Rattle.lock_free_queues.proofs.spsc.index_queue.calls.Held+Numbers+u64+RingRule+Numbers+u64.push.Goals as goal
 
+-- each step of the call keeps the rule of the table (requirement `rule`)
 pub drive-end-requires-clause-rule : goal.drive-end-requires-clause-rule
 drive-end-requires-clause-rule c base v call m key = push_keeps one_word c.args.value base v call m key.capacity
 
@@ -70,6 +71,7 @@ returns-clause-same c =
           aside_over one_word kinds.IndexQueue (pushes_index c.args.value) v w c.drive-end.result tt c.drive-end.ensures.end;
     }
 
+-- the operations that the call has asked for are within clause `steps`
 pub returns-clause-steps : goal.returns-clause-steps
 returns-clause-steps c =
     let mine = c.args.self.now in

@@ -84,6 +84,7 @@ returns-clause-same g c =
           aside_over code kinds.Queue (pushes_value code c.args.value.now) v w c.drive-end.result tt c.drive-end.ensures.end;
     }
 
+-- the operations that the call has asked for are within clause `steps`
 pub returns-clause-steps : goal.returns-clause-steps
 returns-clause-steps g c =
     let mine = c.args.self.now in

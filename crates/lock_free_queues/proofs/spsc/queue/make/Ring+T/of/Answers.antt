@@ -28,7 +28,7 @@ loop-at-init g c =
           same);
     }
 
--- with each word more that is written the cells have the words of so many pushes of the value
+-- after each further word the first words of the cells are those of the value, pushed again and again
 pub loop-at-preserved : goal.loop-at-preserved
 loop-at-preserved g c =
     let inv = c.loop-at.invariant in
@@ -40,6 +40,7 @@ loop-at-preserved g c =
     let below = c.loop-at-test.true in
     let used = inv.used in
     let most : size * min c.args.position capacity ≤ size * capacity = mul-le-mul_left size (omega arith) in
+    -- The word is the one of the value at this place of the cells.
     let word = c.word-word.ensures ∙ ap (λ n. slice_index (g.T.Words.words_of value) (at % n)) inv.size in
     record {
       position = inv.position;
@@ -70,7 +71,7 @@ of_words-requires-clause-opens g c =
     (inv.words ∙ (ap (λ x. start ∷ start ∷ 1 ∷ 1 ∷ (filled (code.words_of x) code.size capacity c.loop-at.at ++ 0 ∷ [])) inv.value
     ∙ ap (λ n. start ∷ start ∷ 1 ∷ 1 ∷ (filled (code.words_of value) code.size capacity n ++ 0 ∷ [])) done))
 
--- the first pass knows the run that leads there
+-- the first pass knows the run of the pushes and pops with which the queue opens
 pub of_words-requires-clause-knows : goal.of_words-requires-clause-knows
 of_words-requires-clause-knows g c =
     let met = g.met.T.Words in

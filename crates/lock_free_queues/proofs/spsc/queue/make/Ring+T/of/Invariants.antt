@@ -1,4 +1,5 @@
--- The words up to the next one are those of the queue's machine at this position.
+-- `Ring::of` (src/spsc/queue/make.rt): in its loop the words below the next one are those of the
+-- queue's machine at this position.
 use Rattle.lock_free_queues.proofs.Names.{◌≡◌, ◌≤◌, ◌*◌, ◌∷◌, ◌++◌, [], min, replicate}
 use Rattle.lock_free_queues.specs.Queues.Opened.{position_at}
 use Rattle.lock_free_queues.proofs.Queues.Filled.{filled}

@@ -50,12 +50,14 @@ returns-clause-peeked g c =
     (peeks_value code g.R.Room.words_in) (value_peek code g.R.Room.words_in) c.drive-end.result c.drive-end.new.room
     c.drive-end.ensures.end)
 
+-- the call moves no role (clause `roles`)
 pub returns-clause-roles : goal.returns-clause-roles
 returns-clause-roles g c r =
     let code : Coding g.row.T.Denot = coding_by g.T.Words in
     peeked_moves (token_view c.args.self.now) c.drive-end.new.self.seat.me.0 (option_map (value_of code) c.answer.result)
     (returns-clause-peeked g c) r
 
+-- the operations that the call has asked for are within clause `steps`
 pub returns-clause-steps : goal.returns-clause-steps
 returns-clause-steps g c =
     let mine = c.args.self.now in

@@ -28,16 +28,19 @@ drive-requires-clause-at g c =
     (sym (c.WORD.ensures ∙ g.R.Side.there))
     (look_first_on code g.E.Kind.KIND v tt mine.idle mine.alone mine.some.0 g.R.Side.ROLE)
 
+-- the answer is right by what came before the end of the call (clause `answer`)
 pub returns-clause-answer : goal.returns-clause-answer
 returns-clause-answer g c =
     let mine = c.args.self.now in
     seen_role (coding_by g.T.Words) g.E.Kind.KIND (token_view mine)
     c.drive.new.self.seat.me.0 mine.idle g.R.Side.ROLE c.drive.result tt c.drive.ensures.end
 
+-- the call moves no role (clause `roles`)
 pub returns-clause-roles : goal.returns-clause-roles
 returns-clause-roles g c r =
     seen_moves (token_view c.args.self.now) c.drive.new.self.seat.me.0 g.R.Side.ROLE c.drive.result (returns-clause-answer g c) r
 
+-- the operations that the call has asked for are within clause `steps`
 pub returns-clause-steps : goal.returns-clause-steps
 returns-clause-steps g c =
     let mine = c.args.self.now in

@@ -28,24 +28,29 @@ drive-requires-clause-at g c =
     (sym (c.WORD.ensures ∙ g.R.Side.there))
     (release_first_on code g.E.Kind.KIND v tt mine.idle mine.alone mine.some.0 g.R.Side.ROLE c.requires)
 
+-- a release of the role is a call of the history (clause `left`)
 pub returns-clause-left : goal.returns-clause-left
 returns-clause-left g c =
     let mine = c.args.self.now in
     released (coding_by g.T.Words) g.E.Kind.KIND (token_view mine)
     c.drive.new.self.seat.me.0 mine.idle g.R.Side.ROLE c.drive.result tt c.drive.ensures.end
 
+-- the release publishes and takes out nothing (clause `list`)
 pub returns-clause-list : goal.returns-clause-list
 returns-clause-list g c =
     let mine = c.args.self.now in
     left_marked (coding_by g.T.Words) (token_view mine)
     c.drive.new.self.seat.me.0 mine.idle c.drive.result tt g.E.Kind.KIND g.R.Side.ROLE c.drive.ensures.end
 
+-- the role is given back once (clause `mine`)
 pub returns-clause-mine : goal.returns-clause-mine
 returns-clause-mine g c = (released_moves (token_view c.args.self.now) c.drive.new.self.seat.me.0 g.R.Side.ROLE (returns-clause-left g c)).0
 
+-- the other role stays as it was (clause `other`)
 pub returns-clause-other : goal.returns-clause-other
 returns-clause-other g c = (released_moves (token_view c.args.self.now) c.drive.new.self.seat.me.0 g.R.Side.ROLE (returns-clause-left g c)).1
 
+-- the operations that the call has asked for are within clause `steps`
 pub returns-clause-steps : goal.returns-clause-steps
 returns-clause-steps g c =
     let mine = c.args.self.now in

@@ -28,23 +28,28 @@ drive-requires-clause-at g c =
     (sym (c.WORD.ensures ∙ g.R.Side.there))
     (acquire_first_on code g.E.Kind.KIND v tt mine.idle mine.alone mine.some.0 g.R.Side.ROLE)
 
+-- the acquire of the role is a call of the history (clause `acquired`)
 pub returns-clause-acquired : goal.returns-clause-acquired
 returns-clause-acquired g c =
     let mine = c.args.self.now in
     acquired (coding_by g.T.Words) g.E.Kind.KIND (token_view mine)
     c.drive.new.self.seat.me.0 mine.idle g.R.Side.ROLE c.drive.result tt c.drive.ensures.end
 
+-- a taken role is one that the pass has once more (clause `taken`)
 pub returns-clause-taken : goal.returns-clause-taken
 returns-clause-taken g c is =
     (acquired_moves (token_view c.args.self.now) c.drive.new.self.seat.me.0 g.R.Side.ROLE c.drive.result (returns-clause-acquired g c)).0 is
 
+-- an acquire of the role that is refused moves no role (clause `refused`)
 pub returns-clause-refused : goal.returns-clause-refused
 returns-clause-refused g c is =
     (acquired_moves (token_view c.args.self.now) c.drive.new.self.seat.me.0 g.R.Side.ROLE c.drive.result (returns-clause-acquired g c)).1 is
 
+-- the other role stays as it was (clause `other`)
 pub returns-clause-other : goal.returns-clause-other
 returns-clause-other g c = (acquired_moves (token_view c.args.self.now) c.drive.new.self.seat.me.0 g.R.Side.ROLE c.drive.result (returns-clause-acquired g c)).2
 
+-- the operations that the call has asked for are within clause `steps`
 pub returns-clause-steps : goal.returns-clause-steps
 returns-clause-steps g c =
     let mine = c.args.self.now in

@@ -1,4 +1,4 @@
--- What the load of a look tells.
+-- `look` of a pass (src/spsc/ring/passes.rt): what its load of a word tells the pass.
 use Rattle.lock_free_queues.proofs.Names.{coding_by, LooksAt}
 use Rattle.lock_free_queues.specs.Queues.Bounded.{machine_kind}
 use Rattle.lock_free_queues.proofs.spsc.ring.passes.Held+E+T+RingRule+E+T.look.Given as given

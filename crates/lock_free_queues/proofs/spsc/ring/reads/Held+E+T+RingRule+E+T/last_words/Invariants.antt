@@ -1,4 +1,5 @@
--- The write position was read as the pass stands now; each turn that finds another finds a higher one.
+-- `last_words` (src/spsc/ring/reads.rt): in its loop the write position was read as the pass stands
+-- now. An iteration that finds another position finds a higher one.
 use Rattle.lock_free_queues.proofs.Names.{◌≡◌, ◌<◌, ◌-◌, ◌^◌, length, coding_by}
 use Rattle.lock_free_queues.specs.Queues.Bounded.{machine_kind}
 use Rattle.lock_free_queues.specs.Queues.Rings.{token_queue, token_view}
@@ -16,5 +17,6 @@ invariant-loop-write g l =
       long : length l.words.items ≡ l.fn.count;
     }
 
+-- An iteration that finds another write position finds a higher one, and positions are below 2^64.
 abbrev pub decreases-loop-write : given.decreases-loop-write
 decreases-loop-write g l = 2 ^ 64 - l.write

@@ -22,12 +22,14 @@ returns-clause-read g c =
     c.args.word c.look.result mine.seated.seat.me.0 c.look.new.self.seat.me.0 mine.known c.requires c.look.ensures.told
     mine.alone
 
+-- the word had the number that was read, at the moment of the load (clause `found`)
 pub returns-clause-found : goal.returns-clause-found
 returns-clause-found g c =
     let mine = c.args.self.now in
     was_read (coding_by g.T.Words) g.E.Kind.KIND mine.capacity
     c.args.word c.look.result mine.seated.seat.me.0 c.look.new.self.seat.me.0 mine.known c.requires c.look.ensures.told
 
+-- the word has this number as the pass stands now (clause `last`)
 pub returns-clause-last : goal.returns-clause-last
 returns-clause-last g c =
     let mine = c.args.self.now in

@@ -1,4 +1,4 @@
--- What the load of a word tells.
+-- `read` (src/spsc/ring/reads.rt): what its load of a word tells the pass.
 use Rattle.lock_free_queues.proofs.Names.{coding_by, LooksAt}
 use Rattle.lock_free_queues.specs.Queues.Bounded.{machine_kind}
 use Rattle.lock_free_queues.proofs.spsc.ring.reads.Held+E+T+RingRule+E+T.read.Given as given

@@ -54,6 +54,7 @@ loop-at-preserved g c =
     let high = inv.past in
     let here : WasRead code (machine_kind g.E.Kind.KIND) mine.capacity w x at found =
     subst (λ n. WasRead code (machine_kind g.E.Kind.KIND) n w x at found) same c.read-word.ensures.found in
+    -- The read of the word adds it to the words below the next place.
     record {
       queue = c.read-word.ensures.queue ∙ inv.queue;
       read = then_read v w x inv.read r;
@@ -63,6 +64,7 @@ loop-at-preserved g c =
       within = omega arith;
     }
 
+-- behind the loop all words of the cells were read (clause `cells`)
 pub returns-clause-cells : goal.returns-clause-cells
 returns-clause-cells g c word high low =
     (let past = c.loop-at-test.false in let all = c.loop-at.invariant.long in c.loop-at.invariant.cells word high (omega arith))

@@ -1,4 +1,5 @@
--- The words of the cells up to the next one were read, and nothing else has changed.
+-- `read_cells` (src/spsc/ring/reads.rt): in its loop the words of the cells below the next one were
+-- read, and nothing else has changed.
 use Rattle.lock_free_queues.proofs.Names.{◌≡◌, ◌≤◌, length, coding_by}
 use Rattle.lock_free_queues.specs.Queues.Bounded.{machine_kind}
 use Rattle.lock_free_queues.specs.Queues.Rings.{token_queue, token_view}

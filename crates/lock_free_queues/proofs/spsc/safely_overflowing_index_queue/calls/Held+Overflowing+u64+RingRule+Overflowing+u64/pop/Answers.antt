@@ -11,6 +11,7 @@ use Rattle.lock_free_queues.proofs.Queues.OverEnded.{over_popped, over_taken_if,
 use Rattle.lock_free_queues.proofs.Queues.Paid.{over_pop_takes}
 use Rattle.lock_free_queues.proofs.spsc.safely_overflowing_index_queue.calls.Held+Overflowing+u64+RingRule+Overflowing+u64.pop.Goals as goal
 
+-- each step of the call keeps the rule of the table (requirement `rule`)
 pub drive_on-end-requires-clause-rule : goal.drive_on-end-requires-clause-rule
 drive_on-end-requires-clause-rule g c base v call m key = over_pop_keeps one_word base v call m key.capacity
 

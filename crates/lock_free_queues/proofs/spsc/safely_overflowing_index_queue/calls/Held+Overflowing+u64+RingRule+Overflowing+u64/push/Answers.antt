@@ -14,6 +14,7 @@ use Rattle.lock_free_queues.proofs.Queues.Sums.{over_push_moves}
 use Rattle.lock_free_queues.proofs.Queues.Paid.{over_push_takes}
 use Rattle.lock_free_queues.proofs.spsc.safely_overflowing_index_queue.calls.Held+Overflowing+u64+RingRule+Overflowing+u64.push.Goals as goal
 
+-- each step of the call keeps the rule of the table (requirement `rule`)
 pub drive-end-requires-clause-rule : goal.drive-end-requires-clause-rule
 drive-end-requires-clause-rule c base v call m key = over_push_keeps one_word c.args.value base v call m key.capacity
 
@@ -72,6 +73,7 @@ returns-clause-handed_back c =
     (over_pushed one_word x w mine.idle v mine.alone mine.some.0 c.requires.role c.drive-end.result
     c.drive-end.new.room c.drive-end.ensures.end))
 
+-- the operations that the call has asked for are within clause `steps`
 pub returns-clause-steps : goal.returns-clause-steps
 returns-clause-steps c =
     let mine = c.args.self.now in

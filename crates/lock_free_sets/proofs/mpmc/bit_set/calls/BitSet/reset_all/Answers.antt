@@ -10,10 +10,12 @@ use Rattle.lock_free_sets.proofs.mpmc.bit_set.calls.BitSet.reset_all.Goals as go
 pub clear_all-requires-clause-visits : goal.clear_all-requires-clause-visits
 clear_all-requires-clause-visits g c = takes_places_at (ap (λ (z : SetId). z.capacity) (sym c.requires.pass)) c.requires.places
 
+-- a set without places has no place to clear (clause `cleared`)
 pub returns-then-capacity-eq0-clause-cleared : goal.returns-then-capacity-eq0-clause-cleared
 returns-then-capacity-eq0-clause-cleared g c =
     reset_none (same_size c.args.self.now c.args.pass.now c.requires.pass) c.empty_none.ensures.done (search rules) c.empty_none.ensures.called
 
+-- behind the loop all places of the set were cleared (clause `cleared`)
 pub returns-else-capacity-eq0-clause-cleared : goal.returns-else-capacity-eq0-clause-cleared
 returns-else-capacity-eq0-clause-cleared g c =
     reset_all (same_size c.args.self.now c.args.pass.now c.requires.pass) c.clear_all.ensures.done

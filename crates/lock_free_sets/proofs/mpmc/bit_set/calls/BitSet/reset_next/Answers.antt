@@ -34,12 +34,14 @@ returns-in-None-clause-clear g c =
     found_nothing (seen mine.seated) (seen end.new.seat) end.result tt mine.idle end.ensures.ends _
     (same_size c.args.self.now mine c.requires) (sym c.answer.ensures ∙ c.in-None.is)
 
+-- where a place was found, the operations of the reset are within clause `steps`
 pub returns-in-Some-clause-steps : goal.returns-in-Some-clause-steps
 returns-in-Some-clause-steps g c =
     let mine = c.args.pass.now in
     bits_take resets_next (seen mine.seated) (seen c.reset_all-end.new.seat) c.reset_all-end.result tt
     mine.idle _ (same_size c.args.self.now mine c.requires) (omega arith) c.reset_all-end.ensures.ends
 
+-- where nothing was found, the operations of the reset are within clause `steps`
 pub returns-in-None-clause-steps : goal.returns-in-None-clause-steps
 returns-in-None-clause-steps g c =
     let mine = c.args.pass.now in

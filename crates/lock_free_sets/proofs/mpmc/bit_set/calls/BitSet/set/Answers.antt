@@ -10,6 +10,7 @@ use Rattle.lock_free_sets.proofs.Sets.Passes.{same_pass, same_size}
 use Rattle.lock_free_sets.proofs.Steps.{bits_take}
 use Rattle.lock_free_sets.proofs.mpmc.bit_set.calls.BitSet.set.Goals as goal
 
+-- each step of the call keeps the rule of the table (requirement `rule`)
 pub drive_on-end-requires-clause-rule : goal.drive_on-end-requires-clause-rule
 drive_on-end-requires-clause-rule g c = set_keeps c.args.id
 
@@ -22,6 +23,7 @@ drive_on-end-requires-clause-at g c =
     (set_first c.args.id v _ (record { known = refl; idle = mine.idle; alone = mine.alone; some = mine.some.0 })
     (subst (λ n. c.args.id < n) (sym (same_size c.args.self.now mine c.requires.pass)) c.requires.place))
 
+-- the pass is of the same structure as before, and goes on from what it had seen (clause `same`)
 pub returns-clause-same : goal.returns-clause-same
 returns-clause-same g c =
     let end = c.drive_on-end in
@@ -37,6 +39,7 @@ returns-clause-added g c =
     subst (λ b. SetDone c.args.id b base w) (sym c.answer.ensures)
     (set_done c.args.id base w c.drive_on-end.result c.drive_on-end.new.room c.args.pass.now.idle c.drive_on-end.ensures.end)
 
+-- the operations that the call has asked for are within clause `steps`
 pub returns-clause-steps : goal.returns-clause-steps
 returns-clause-steps g c =
     let mine = c.args.pass.now in

@@ -9,6 +9,7 @@ use Rattle.lock_free_sets.proofs.Sets.Passes.{same_pass, same_size}
 use Rattle.lock_free_sets.proofs.Steps.{counts_take}
 use Rattle.lock_free_sets.proofs.mpmc.counting_bit_set.calls.CountingBitSet.count.Goals as goal
 
+-- each step of the call keeps the rule of the table (requirement `rule`)
 pub drive-end-requires-clause-rule : goal.drive-end-requires-clause-rule
 drive-end-requires-clause-rule c = look_keeps c.args.id
 
@@ -20,6 +21,7 @@ drive-end-requires-clause-at c =
     (record { known = refl; idle = mine.idle; alone = mine.alone; some = mine.some.0 })
     (subst (λ n. c.args.id < n) (sym (same_size c.args.self.now mine c.requires.pass)) c.requires.place)
 
+-- the pass is of the same structure as before, and goes on from what it had seen (clause `same`)
 pub returns-clause-same : goal.returns-clause-same
 returns-clause-same c =
     let end = c.drive-end in
@@ -34,6 +36,7 @@ returns-clause-answer c =
     subst (λ answer. CountDone c.args.id answer base w) (sym c.answer.ensures)
     (looked c.args.id base w c.drive-end.result c.drive-end.new.room c.args.pass.now.idle c.drive-end.ensures.end)
 
+-- the operations that the call has asked for are within clause `steps`
 pub returns-clause-steps : goal.returns-clause-steps
 returns-clause-steps c =
     let mine = c.args.pass.now in

@@ -10,10 +10,12 @@ use Rattle.lock_free_sets.proofs.mpmc.counting_bit_set.calls.CountingBitSet.rese
 pub take_all-requires-clause-states : goal.take_all-requires-clause-states
 take_all-requires-clause-states g c = takes_counts_at (ap (λ (z : SetId). z.capacity) (sym c.requires.pass)) c.requires.states
 
+-- a set without places has no count to take out (clause `taken`)
 pub returns-then-capacity-eq0-clause-taken : goal.returns-then-capacity-eq0-clause-taken
 returns-then-capacity-eq0-clause-taken g c =
     reset_none (same_size c.args.self.now c.args.pass.now c.requires.pass) c.empty_none.ensures.done (search rules) c.empty_none.ensures.called
 
+-- behind the loop all counts of the set were taken out (clause `taken`)
 pub returns-else-capacity-eq0-clause-taken : goal.returns-else-capacity-eq0-clause-taken
 returns-else-capacity-eq0-clause-taken g c =
     reset_all (same_size c.args.self.now c.args.pass.now c.requires.pass) c.take_all.ensures.done

@@ -10,6 +10,7 @@ use Rattle.lock_free_sets.proofs.Sets.Passes.{same_pass, same_size}
 use Rattle.lock_free_sets.proofs.Steps.{counts_take}
 use Rattle.lock_free_sets.proofs.mpmc.counting_bit_set.calls.CountingBitSet.set.Goals as goal
 
+-- each step of the call keeps the rule of the table (requirement `rule`)
 pub drive-old-requires-clause-rule : goal.drive-old-requires-clause-rule
 drive-old-requires-clause-rule c = count_keeps c.args.id
 
@@ -21,6 +22,7 @@ drive-old-requires-clause-at c =
     (record { known = refl; idle = mine.idle; alone = mine.alone; some = mine.some.0 })
     (subst (λ n. c.args.id < n) (sym (same_size c.args.self.now mine c.requires.pass)) c.requires.place)
 
+-- the pass is of the same structure as before, and goes on from what it had seen (clause `same`)
 pub returns-clause-same : goal.returns-clause-same
 returns-clause-same c =
     let old = c.drive-old in
@@ -35,6 +37,7 @@ returns-clause-counted c =
     subst (λ n. SetDone c.args.id n base w) (sym c.answer.ensures)
     (set_done c.args.id base w c.drive-old.result c.drive-old.new.room c.args.pass.now.idle c.drive-old.ensures.end)
 
+-- the operations that the call has asked for are within clause `steps`
 pub returns-clause-steps : goal.returns-clause-steps
 returns-clause-steps c =
     let mine = c.args.pass.now in

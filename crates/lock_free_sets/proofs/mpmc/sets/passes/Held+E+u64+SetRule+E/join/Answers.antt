@@ -6,6 +6,7 @@ use Rattle.lock_free_sets.specs.Sets.Kinds.{machine_kind}
 use Rattle.lock_free_sets.proofs.Looks.{look_owed}
 use Rattle.lock_free_sets.proofs.mpmc.sets.passes.Held+E+u64+SetRule+E.join.Goals as goal
 
+-- Two seats with shares and no call under way may be joined: the rule of the table holds of the joined view.
 pub join-requires-clause-joins : goal.join-requires-clause-joins
 join-requires-clause-joins g c =
     let mine = c.args.self.now in

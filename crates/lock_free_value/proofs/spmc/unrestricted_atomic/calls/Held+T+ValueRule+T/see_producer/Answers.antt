@@ -8,26 +8,31 @@ use Rattle.history.proofs.ValueCalls.{look_keeps, look_first}
 use Rattle.lock_free_value.proofs.Facts.{seen_producer, seen_producer_moves, takes_here}
 use Rattle.lock_free_value.proofs.spmc.unrestricted_atomic.calls.Held+T+ValueRule+T.see_producer.Goals as goal
 
+-- each step of the call keeps the rule of the table (requirement `rule`)
 pub drive-requires-clause-rule : goal.drive-requires-clause-rule
 drive-requires-clause-rule g c base v call m key = look_keeps (coding_by g.T.Words) base v call m 1
 
+-- the call is about to begin (requirement `at`)
 pub drive-requires-clause-at : goal.drive-requires-clause-at
 drive-requires-clause-at g c =
     let mine = c.args.self.now in
     look_first (coding_by g.T.Words) (seen mine) tt mine.idle mine.alone mine.some.0
 
+-- the answer is right by what came before the end of the call (clause `answer`)
 pub returns-clause-answer : goal.returns-clause-answer
 returns-clause-answer g c =
     let mine = c.args.self.now in
     seen_producer (coding_by g.T.Words) (seen mine)
     c.drive.new.self.seat.me.0 mine.idle mine.known c.drive.result tt c.drive.ensures.end
 
+-- the call moves no role (clause `role`)
 pub returns-clause-role : goal.returns-clause-role
 returns-clause-role g c =
     let mine = c.args.self.now in
     seen_producer_moves (coding_by g.T.Words) (seen mine)
     c.drive.new.self.seat.me.0 mine.idle mine.known c.drive.result tt c.drive.ensures.end
 
+-- the operations that the call has asked for are within clause `steps`
 pub returns-clause-steps : goal.returns-clause-steps
 returns-clause-steps g c =
     let mine = c.args.self.now in

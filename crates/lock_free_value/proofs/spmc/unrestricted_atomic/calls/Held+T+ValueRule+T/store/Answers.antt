@@ -59,6 +59,7 @@ returns-clause-same g c =
           (stores_value code c.args.value.now) c.drive-end.result tt c.drive-end.ensures.end).aside;
     }
 
+-- the operations that the call has asked for are within clause `steps`
 pub returns-clause-steps : goal.returns-clause-steps
 returns-clause-steps g c =
     let mine = c.args.self.now in
