@@ -24,7 +24,8 @@ def an_end_at_any_moment(room, command):
     def killed(folder, count, names):
         return run(command, folder, "mpmc", before=lambda: stops_after(count, signal.SIGKILL, names))[0]
 
-    # each rename, since renames put a copy in place, and some of the calls before and after
+    # A run is killed before each rename, since renames put a copy in place, and before some of the other
+    # calls.
     undone = 0
     for names, step in ((("rename",), 1), (("mkdir", "rmdir", "unlink"), 9)):
         for count in range(0, 10000, step):
@@ -37,7 +38,8 @@ def an_end_at_any_moment(room, command):
             check(status == -signal.SIGKILL, f"{names[0]} {count}: {status}")
             check({it: earlier[it] for it in ("crates/own/src/lib.rt", "crates/steps/out/kept")}.items() <= files(folder).items(), f"{count}: lost")
             if count % 4 == 3:
-                # a run that is refused because of a crate of the user's repairs as well
+                # A run that is refused because of a crate of the user also puts back what a killed run has
+                # moved.
                 write(f"{folder}/crates/zero_copy_slots/src/lib.rt", "mine")
                 status, _, errors = run(command, folder, "slots")
                 undone += errors.startswith("bin/vendor: an earlier run was killed while it moved files; what it had moved was put back\n")
@@ -48,7 +50,7 @@ def an_end_at_any_moment(room, command):
             check(status == 0 and files(folder) == later, f"{names[0]} {count}: the next run ends with {status} {errors}")
             shutil.rmtree(folder)
     check(undone > 4, f"only {undone} runs were undone")
-    # a repair that is killed in turn
+    # A run that puts back what another has moved is killed as well.
     for count in range(1, 10000, 4):
         folder = f"{room}/repaired/{count}"
         shutil.copytree(start, folder)
@@ -97,6 +99,7 @@ def a_failure(room, command):
         folder = f"{room}/failed/{count}"
         shutil.copytree(start, folder)
 
+        # Lets one rename of the run fail, after `count` others, as if the disk was full.
         def fails(count=count):
             rename, left = os.rename, [count]
 

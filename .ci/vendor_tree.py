@@ -11,7 +11,7 @@ import tempfile
 import traceback
 
 TOP = os.path.realpath(os.path.join(os.path.dirname(os.path.realpath(__file__)), ".."))
-# a tree like Paglunet's, in few files
+# The lines of crates.txt of a tree like Paglunet's, in few files; and below the text of each file.
 CRATES = """# each crate with the crates that it stands on
 steps: thiserror
 model: steps
@@ -55,10 +55,12 @@ FILES = {
     "LICENSE-MIT": "licence\n",
     "crates.txt": CRATES,
 }
+# The crates of the choice `mpmc`, and the comment that marks a copied line of crates.txt.
 MPMC = ["steps", "model", "history", "lock_free_sp", "lock_free"]
 COMMENT = "  # copied by bin/vendor of Paglunet\n"
 
 
+# Fails the test, with what `said` tells, where this does not hold.
 def check(holds, said):
     if not holds:
         raise AssertionError(said)
@@ -124,7 +126,8 @@ def run(command, *words, before=lambda: None):
                 os.dup2(errors.fileno(), 2)
                 sys.stdout, sys.stderr = io.TextIOWrapper(os.fdopen(1, "wb")), io.TextIOWrapper(os.fdopen(2, "wb"))
                 try:
-                    # (a disk at work elsewhere would make the tests wait)
+                    # A disk at work for another program would make the tests wait, so nothing waits for the
+                    # disk.
                     os.fsync = lambda _: None
                     before()
                     status = made.main([*words])
@@ -143,6 +146,7 @@ def stops_after(count, number, names=("rename", "mkdir", "rmdir", "unlink")):
     """Has the process send itself a signal before it calls one of these functions once more than so often."""
     left = [count]
 
+    # The function, which sends the signal when its call comes.
     def stopping(call):
         def stopped(*given, **named):
             left[0] -= 1
@@ -156,6 +160,7 @@ def stops_after(count, number, names=("rename", "mkdir", "rmdir", "unlink")):
         setattr(os, name, stopping(getattr(os, name)))
 
 
+# Runs the command, which has to succeed and tell no error, and returns what it printed.
 def copied(command, folder, *words):
     status, said, errors = run(command, folder, *words)
     check((status, errors) == (0, ""), f"{' '.join(words)}: {status} {errors}")

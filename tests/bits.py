@@ -1,9 +1,11 @@
 """Bit sets, with 64 flags a word behind the place where the next reset starts, and sets of counts."""
 from machine import NOTHING, Machine, Refused
 
+# The place of the word where the next reset starts, and that of the first word of flags.
 START, FLAGS = range(2)
 
 
+# A bit set. Each method with the name of a call is a generator of the steps of that call (`machine.py`).
 class BitSet(Machine):
     def __init__(self, capacity, parties):
         super().__init__(parties, [0] + [0] * ((capacity + 63) // 64))
@@ -27,7 +29,8 @@ class BitSet(Machine):
         return False
 
     def set(self, call, place):
-        # (the event belongs to the step that exchanges, which is the last)
+        # The event belongs to the step that exchanges the word, which is the last step of a call that set the
+        # flag.
         is_flipped = yield from self.flips(place, True)
         if is_flipped:
             call.tells("set", place)
@@ -37,6 +40,8 @@ class BitSet(Machine):
         yield
         return bool(self.words[FLAGS + place // 64] >> place % 64 & 1)
 
+    # Clears the next flag that is set, from the start word's place on and then from 0, and stores the place
+    # behind it.
     def reset_next(self, call):
         yield
         start = min(self.words[START], self.capacity)
@@ -48,6 +53,7 @@ class BitSet(Machine):
                 return f"some {place}"
         return "none"
 
+    # Takes all flags of one word out in a step, one word after another.
     def reset_all(self, call):
         for at in range(FLAGS, len(self.words)):
             yield
@@ -60,6 +66,8 @@ class BitSet(Machine):
         return "done"
 
 
+# A counting bit set, with a word for each count. A set adds 1 in one step, and a reset takes out one count in
+# a step.
 class CountingBitSet(Machine):
     def __init__(self, capacity, parties):
         super().__init__(parties, [0] * capacity)
@@ -79,6 +87,7 @@ class CountingBitSet(Machine):
         yield
         return self.words[place]
 
+    # Takes out one count after another. A set without places asks for one turn that touches no word.
     def reset_all(self, call):
         for place in range(self.capacity):
             yield

@@ -1,12 +1,15 @@
 """The most steps of a call alone, and how many more for each time that it begins again, of a capacity C: those of
 docs/FIELD.md, for values of two words."""
 
+# The bounds of calls that several kinds have. Each is a function of the capacity that gives the steps of a
+# call alone, and the further steps for each time that it begins again.
 LENGTHS = dict.fromkeys(("len", "is_empty", "is_full"), lambda C: (4, 4))
 ROLES = dict.fromkeys(
     (f"{verb}_{role}" for verb in ("acquire", "release", "has") for role in ("producer", "consumer")), lambda C: (1, 0)
 )
 COUNTS = dict.fromkeys(("borrowed_indices", "len", "is_empty"), lambda C: (C + 2, C + 2))
 LOCKED = {"is_locked": lambda C: (1, 0)}
+# The bounds of each kind's calls. A call in mode `lock` has a row of its own where its bound differs.
 BOUNDS = {
     "index_queue": {**ROLES, **LENGTHS, "push": lambda C: (4, 0), "pop": lambda C: (4, 0), "peek": lambda C: (3, 0)},
     "queue": {**ROLES, **LENGTHS, "push": lambda C: (5, 0), "pop": lambda C: (5, 0), "peek": lambda C: (4, 0)},

@@ -4,7 +4,8 @@ import re
 
 from contents import MAX
 
-# The capacities that types of the program have, for each kind.
+# For each kind the capacities that types of the program have, and the greatest one of them. Of the loan
+# channel they are its slots and the places of its two queues.
 LARGE = 1 << 32
 FIXED = {
     "index_queue": (0, 1, 2, 4, 5, 8, 9, 128, LARGE),
@@ -16,9 +17,11 @@ FIXED = {
     "container": (0, 1, 3, 4, 5, 9, 139, LARGE),
     "loan": ((1, 0, 1), (1, 1, 1), (2, 1, 2), (3, 3, 8)),
 }
+# The name of the form between threads, for the kinds that have one form only beside `plain`.
 THREADED = {"queue": "type", "atomic": "threads"}
 # Which roles a call needs, which the text takes only where it says so.
 NEEDS = {"push": "producer", "store": "producer", "pop": "consumer", "peek": "consumer"}
+# The words of a text for the answers of a recovery, and the masks of the program.
 WIDE = {"none": 0, "all": MAX, "every_other": MAX // 3}
 
 
@@ -88,7 +91,8 @@ class Calls:
         self.kind, self.form = head.split()[:2]
         self.state, self.held = 0, set()
         self.numbers = [int(it) for it in head.split()[3:]]
-        # A value of threads begins at version 2, where no other is given.
+        # Between threads a value begins at version 2 if the text gives none, which is one more than the text
+        # says.
         self.ahead = self.kind == "atomic" and self.form != "plain" and self.numbers[1:] in ([], [1])
 
     def of(self, words):
@@ -104,6 +108,7 @@ class Calls:
             return first, [self.role(name, given[0])]
         return first, [" ".join(map(str, it)) for it in getattr(self, f"of_{self.kind}", self.as_it_is)(name, given)]
 
+    # The name of a call on a role, as the program has it. It also notes which roles are held after the call.
     def role(self, name, role):
         if name == "take":
             self.held.add(role)
@@ -113,11 +118,13 @@ class Calls:
             self.held.discard("consumer" if role == "producer" else "producer")
         return f"{name}_{role}"
 
+    # The calls of a line that the program has by the same name. `looks` makes three calls.
     def as_it_is(self, name, given):
         if name == "looks":
             return ["len"], ["is_empty"], ["is_full"]
         return ([name, *given],)
 
+    # The calls of a line of `facts`: a failure of an `add` has a call for each reason.
     def of_facts(self, name, given):
         if name == "add_failure":
             return (["add_locked" if given == ["IsLocked"] else "add_out_of_indices"],)
@@ -132,6 +139,7 @@ class Calls:
             return MAX if words[1] == owner else 0
         return WIDE[words[0]] if words[0] in WIDE else sum(1 << it for it in words)
 
+    # The calls of a line about a robust set: the words for modes and answers become numbers.
     def of_robust(self, name, given):
         if name == "release":
             return ([name, *given[:2], int(given[2] == "lock")],)
@@ -142,6 +150,8 @@ class Calls:
             return ([name, locks, self.frees(given)] if "of" not in given else ["recover_of", locks, given[-1]],)
         return ([name, *given],)
 
+    # The calls of a line about a container. Those about a state get its number, and a line that takes or
+    # updates one also lists what it shows.
     def of_container(self, name, given):
         stop = given[given.index("stop") + 1] if "stop" in given else MAX
         if name == "state":

@@ -11,10 +11,14 @@ class State:
         self.changes, self.numbers, self.shown = 0, [0] * capacity, {}
 
 
+# A container. Its calls are generators of their steps, made of those of a robust index set and of steps on
+# the elements.
 class Container(RobustIndexSet):
     full, stranger = "OutOfSpace", "ContainerHandleNotOwnedByContainer"
     of_living = {"add": 1, "remove": 1, "replace": 2}
 
+    # The words behind those of the set are the number of changes, an element number for each index, and two
+    # words for each value.
     def __init__(self, capacity, parties):
         super().__init__(capacity, parties, [0] * (1 + 3 * capacity))
         self.changes = CELLS + capacity
@@ -28,19 +32,24 @@ class Container(RobustIndexSet):
         if call.name == "recover" and call.given[0] not in self.dead:
             raise Refused("OwnerLives")
 
+    # A container's recovery names its owner as it begins, so no answer to a question can be refused.
     def allows(self, call):
         pass
 
+    # Loads the element number of an index.
     def number(self, index):
         yield
         return self.words[self.numbers + index]
 
+    # Makes an element number even, if it is odd and has not changed, so that no value stands there any more.
     def hides(self, call, index, number):
         if number % 2:
             yield
             if self.exchange(self.numbers + index, number, number + 1) == number:
                 call.tells("hidden", index)
 
+    # Stores the two words of a value and raises the element number, by which the value stands there, and then
+    # the number of changes.
     def places(self, call, index, value):
         for at, word in enumerate(halves(value)):
             yield
@@ -51,6 +60,7 @@ class Container(RobustIndexSet):
             call.tells("placed", index, value)
         yield from self.changed()
 
+    # Raises the number of changes, by which looks find that something is new.
     def changed(self):
         yield
         self.words[self.changes] += 1
@@ -68,6 +78,7 @@ class Container(RobustIndexSet):
             call.tells("copied", index, call.copy)
         return found
 
+    # Takes an index for the owner, and puts the value there. Answers why there is no index.
     def add(self, call, value, owner):
         index = yield from self.acquired(call, owner)
         if isinstance(index, str):
@@ -77,6 +88,7 @@ class Container(RobustIndexSet):
         yield from self.places(call, index, value)
         return index
 
+    # Frees the index of this owner, and then hides its value, if it is still the one that stood there.
     def remove(self, call, index, owner, mode):
         if index >= self.capacity:
             yield NOTHING
@@ -88,6 +100,8 @@ class Container(RobustIndexSet):
             yield from self.changed()
         return answer
 
+    # Puts another value at an index of this owner. A handle of another owner is refused in a turn that
+    # changes no word.
     def replace(self, call, index, value, owner):
         yield NOTHING if index >= self.capacity else None
         if index >= self.capacity or self.words[CELLS + index] != owner:
@@ -97,6 +111,7 @@ class Container(RobustIndexSet):
         yield from self.places(call, index, value)
         return "done"
 
+    # Copies each value of the owner, and asks after each whether to go on.
     def find(self, call, owner):
         found = 0
         for index in range(self.capacity):
@@ -124,6 +139,8 @@ class Container(RobustIndexSet):
         yield from self.changed()
         return answer
 
+    # Asks about each value of the dead owner, and frees those that are answered with yes. Answers whether the
+    # container is locked.
     def recovered(self, call, owner, mode):
         yield
         if self.words[COUNTER] == LOCKED:

@@ -7,7 +7,9 @@ fills up or runs empty, and `last` are those that show what is left. A structure
 from collections import deque
 
 MAX = (1 << 64) - 1
-# More than a number of 16 bits counts, at one capacity, and more than one of 12 bits does, at all others.
+# How many numbers go through a queue of capacity 8, which are more than 16 bits count; how often one place of
+# a counting bit set of capacity 5 is set, which is as well; and how often at other capacities, which is more
+# than 12 bits count.
 ROUNDS, MANY, SOME = 200_000, 70_000, 5_000
 
 
@@ -23,6 +25,8 @@ def joined(*words):
     return " ".join(map(str, words))
 
 
+# What all structures have in common: whether a lock has ended it, whether it can be closed, and calls to
+# begin with and for each place alone, of which there are none here.
 class Structure:
     locked = closes = False
 
@@ -39,6 +43,7 @@ class Roles(Structure):
     def __init__(self, has_roles):
         self.has_roles, self.held = has_roles, {"producer": not has_roles, "consumer": not has_roles}
 
+    # What a call on a role answers, by whether the role is held.
     def role(self, name):
         call, role = name.rsplit("_", 1)
         held = self.held[role]
@@ -72,6 +77,7 @@ class Queue(Roles):
         super().__init__(not is_plain)
         self.capacity, self.left, self.list = capacity, MAX - position, deque()
 
+    # A push by whoever has the producer's role: appends the value, if there is room and a position is left.
     def push(self, value):
         if not self.held["producer"]:
             return "refused"
@@ -106,6 +112,8 @@ class Queue(Roles):
             yield "push", number
             yield ("pop",)
 
+    # A call on a role, at times; else a look, a push or a pop. While the queue fills up pushes are more
+    # often, and pops while it runs empty.
     def draw(self, draws, fills):
         if self.has_roles and (call := self.drawn_role(draws, ("producer", "consumer"))):
             return call
@@ -128,6 +136,7 @@ class Queue(Roles):
 class Overflowing(Queue):
     """A push that finds it full hands out the oldest value, or its own where no position is left."""
 
+    # A push that takes its value, and answers the oldest one if there are more than the capacity.
     def push(self, value):
         if not self.held["producer"]:
             return "refused"
@@ -148,6 +157,7 @@ class Value(Roles):
         super().__init__(not is_plain)
         self.value, self.number = first, version or 2 - is_plain
 
+    # A store by whoever has the producer's role. The last version takes no value.
     def store(self, value):
         if not self.held["producer"]:
             return "refused"
@@ -162,6 +172,7 @@ class Value(Roles):
     def version(self):
         return str(self.number)
 
+    # A release of the role also answers the value, which the pass of the producer has loaded.
     def role(self, name):
         if name == "release_producer":
             held, self.held["producer"] = self.held["producer"], False
@@ -175,6 +186,7 @@ class Value(Roles):
         """Many versions, where the first one was not given."""
         return [("store", number) for number in range(SOME * (self.number < SOME))]
 
+    # A call on the role, at times; else a look at the version, a store or a load.
     def draw(self, draws, _):
         if self.has_roles and (call := self.drawn_role(draws, ("producer",))):
             return call
@@ -186,6 +198,7 @@ class Value(Roles):
         return [("load",), ("version",)]
 
 
+# A bit set: the flags as the bits of one number, and the place behind the last one that was reset.
 class Bits(Structure):
     def __init__(self, capacity, _):
         self.capacity, self.bits, self.next = capacity, 0, 0
@@ -216,6 +229,7 @@ class Bits(Structure):
         for place in range(self.capacity):
             yield from (("set", place), ("reset_next",), ("set", place), ("reset_all",))
 
+    # A set or a reset, as the set fills up or runs empty; at times a look or a reset of all.
     def draw(self, draws, fills):
         place = draws.randrange(self.capacity + (draws.randrange(64) == 0 or not self.capacity))
         if draws.randrange(512) == 0:
@@ -228,6 +242,7 @@ class Bits(Structure):
         return [("reset_next",), ("reset_all",), ("reset_next",), ("capacity",)]
 
 
+# A counting bit set: the counts of its places.
 class Counts(Structure):
     def __init__(self, capacity, _):
         self.capacity, self.counts = capacity, [0] * capacity
@@ -257,7 +272,7 @@ class Counts(Structure):
     def draw(self, draws, _):
         if draws.randrange(512) == 0:
             return ("reset_all",)
-        # one place far more often than the others
+        # One place is set far more often than each other one.
         place = self.capacity // 2 if draws.randrange(4) == 0 else draws.randrange(self.capacity + 1)
         return ("count", place) if draws.randrange(8) == 0 else ("set", place)
 

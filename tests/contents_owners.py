@@ -3,10 +3,12 @@ from heapq import heapify, heappop, heappush
 
 from contents import MAX, Structure, joined, some, truth
 
+# The owners of drawn calls, with the least and the greatest number.
 OWNERS = (0, MAX - 1, 12345, 1, 2)
 PERIOD = 62  # a mask says the answers to so many questions, and then again
 
 
+# Whether the question of this number is answered with yes by the mask, as the program reads it.
 def is_yes(mask, question):
     return mask >> question % PERIOD & 1 == 1
 
@@ -25,6 +27,7 @@ class Indices(Structure):
         self.capacity, self.is_plain = capacity, is_plain
         self.free, self.out, self.locked = [*range(capacity - 1, -1, -1)], {}, False
 
+    # The index on top of the stack, noted with whether a guard holds it, or why there is none.
     def taken(self, is_held):
         if self.locked:
             return "locked"
@@ -40,6 +43,7 @@ class Indices(Structure):
     def hold(self):
         return self.taken(True)
 
+    # Gives an index back, which comes on top of the stack. It locks at the last index if `locks` is true.
     def release(self, index, locks=False):
         if index not in self.out:
             return "refused"
@@ -72,6 +76,7 @@ class Indices(Structure):
         for at, (comes, index) in enumerate(turns(self.capacity)):
             yield ("hold" if at % 2 else "acquire",) if comes else ("release" if at % 2 else "drop", index)
 
+    # A look, at times; else an acquire or a release, as the set fills up or runs empty.
     def draw(self, draws, fills):
         index, which = draws.randrange(self.capacity + (draws.randrange(32) == 0)), draws.randrange(64)
         if which < 10:
@@ -109,6 +114,7 @@ class Robust(Structure):
         self.owners[index] = owner
         return index
 
+    # Frees an index, and locks if `locks` is true and no index is out then.
     def frees(self, index, locks):
         del self.owners[index]
         heappush(self.free, index)
@@ -123,6 +129,7 @@ class Robust(Structure):
     def acquire(self, owner):
         return str(self.taken(owner))
 
+    # A release by an owner, which is refused unless that owner has the index.
     def release(self, index, owner, locks):
         if index >= self.capacity:
             return "refused"
@@ -135,6 +142,8 @@ class Robust(Structure):
         found = self.of(owner)[: stop or None]
         return joined(*found, "found", len(found))
 
+    # Asks about each index that is out, in order, and frees those that are answered with yes: by the mask, or
+    # those of the owner `of`.
     def recover(self, locks, mask, of=None):
         asked, told = [], []
         for question, index in enumerate(sorted(self.owners) if not self.locked else ()):
@@ -161,6 +170,7 @@ class Robust(Structure):
         for comes, index in turns(self.capacity):
             yield ("acquire", OWNERS[index % 5]) if comes else ("release", index, OWNERS[index % 5], 0)
 
+    # A look or a recovery, at times; else an acquire or a release, as the set fills up or runs empty.
     def draw(self, draws, fills):
         owner, which = draws.choice(OWNERS), draws.randrange(64)
         if which < 3:
@@ -174,7 +184,7 @@ class Robust(Structure):
         if (draws.randrange(8) < 6) == fills:
             return "acquire", owner
         index = draws.randrange(self.capacity + (draws.randrange(64) == 0))
-        # (of the right owner half of the times)
+        # Half of the releases name the owner that has the index.
         return "release", index, self.owners.get(index, owner) if draws.randrange(2) else owner, int(draws.randrange(4) == 0)
 
     def last(self):
@@ -197,6 +207,7 @@ class Container(Robust):
         super().frees(index, locks)
         del self.values[index]
 
+    # Adds a value at the least free index, and answers its handle, or why there is no index.
     def add(self, value, owner):
         index = self.taken(owner)
         if isinstance(index, str):
@@ -205,9 +216,11 @@ class Container(Robust):
         self.changes += 1
         return joined(index, owner, self.number)
 
+    # Whether this handle is one of the container: its number is right, and the owner has the index.
     def has(self, index, owner, container):
         return container == self.number and self.owners.get(index) == owner
 
+    # Removes the value of a handle and frees its index, if the handle is right.
     def remove(self, index, owner, container, locks):
         if not self.has(index, owner, container):
             return "not_owned"
@@ -215,6 +228,7 @@ class Container(Robust):
         self.changes += 1
         return self.state()
 
+    # Replaces the value of a handle, if the handle is right.
     def replace(self, index, owner, container, value):
         if not self.has(index, owner, container):
             return "not_owned"
@@ -243,6 +257,8 @@ class Container(Robust):
         found = self.of(owner)[: stop or None]
         return joined(*(f"{it} {owner} {self.number} {self.values[it]}" for it in found), "found", len(found))
 
+    # Asks about each value of the owner, in order of the indices, and frees those that the mask answers with
+    # yes.
     def recover(self, owner, locks, mask):
         asked = []
         for question, index in enumerate(self.of(owner) if not self.locked else ()):
@@ -263,8 +279,10 @@ class Container(Robust):
             owner = OWNERS[index % 5]
             yield ("add", at, owner) if comes else ("remove", index, owner, self.number, 0)
 
+    # A look, a state or a recovery, at times; else an add, a remove or a replace, as the container fills up
+    # or runs empty.
     def draw(self, draws, fills):
-        # one of two owners far more often
+        # One of two owners adds far more often than the other.
         owner, which = 12345 if draws.randrange(8) else MAX - 1, draws.randrange(32)
         stop, state = draws.choice((MAX, draws.randrange(1, 8))), draws.randrange(3)
         if which < 3:

@@ -1,11 +1,14 @@
 """What has to come among the schedules of a kind: each answer of each call, and each refusal."""
 
+# Words for several answers: `N` stands for any number.
 TRUTHS, DONE, NUMBER = "true false", "done", "N"
 ROLES = dict.fromkeys(("acquire_producer", "acquire_consumer"), TRUTHS)
 ROLES |= dict.fromkeys(("release_producer", "release_consumer"), DONE)
 ROLES |= dict.fromkeys(("has_producer", "has_consumer"), TRUTHS)
 LENGTHS = {"len": NUMBER, "is_empty": TRUTHS, "is_full": TRUTHS}
 REFUSALS = "NoParty Busy Idle Undecided"
+# For each kind, the answers that each of its calls has to give somewhere among the schedules, and the
+# refusals that have to come.
 ANSWERS = {
     "index_queue": {
         **ROLES,

@@ -2,7 +2,7 @@
 from kinds import made
 
 LARGE = (1 << 64) - 1
-# A line that is malformed, and the cause.
+# Lines that are malformed, each with the cause that has to be told.
 CAUSES = {
     "x next": "bad value",
     "0 go": "unknown turn",
@@ -19,6 +19,7 @@ CAUSES = {
 }
 
 
+# A value to push or to store: small, at the bound, or any of 64 bits, or of 128 if `is_wide`.
 def value(draw, is_wide):
     large = draw.getrandbits(128) if is_wide else draw.getrandbits(64)
     return draw.choice((0, draw.randrange(9), LARGE, large, large))
@@ -29,6 +30,7 @@ def below(draw, bound):
     return draw.randrange(bound + (draw.random() < 0.06)) if bound else 0
 
 
+# A call on a queue, mostly one for which the party has the role.
 def queue_call(draw, machine, party):
     roles = [f"{verb}_{role}" for verb in ("acquire", "release") for role in ("producer", "consumer")]
     pops = ["pop", "peek"][: 2 - machine.spare]
@@ -39,6 +41,7 @@ def queue_call(draw, machine, party):
     return f"push {value(draw, machine.width == 2)}" if name == "push" else name
 
 
+# A call on the single value, mostly one for which the party has the role.
 def value_call(draw, machine, party):
     is_ours = machine.producer == party
     names = ["load"] * 4 + ["store"] * 5 * is_ours + ["acquire_producer"] * 3 * (machine.producer is None)
@@ -91,6 +94,8 @@ def is_left(machine):
     return any(owner in machine.dead for _, owner in filled(machine))
 
 
+# A call on a robust set: mostly for owners who live, and a recovery mostly where a dead owner has left an
+# index.
 def robust_call(draw, machine, _):
     recovers = ["recover"] * (8 if is_left(machine) else 1)
     name = draw.choice(["acquire"] * 7 + ["release"] * 6 + recovers + ["find", "borrowed_indices", "is_locked"])
@@ -104,6 +109,7 @@ def robust_call(draw, machine, _):
     return name + given.get(name, "")
 
 
+# A call on a container: mostly for owners who live, and a recovery mostly for a dead one.
 def container_call(draw, machine, _):
     looks = ["find", "get_state", "update_state", draw.choice(("len", "is_empty", "is_locked"))]
     recovers = ["recover"] * (10 if is_left(machine) else 1)
@@ -120,6 +126,7 @@ def container_call(draw, machine, _):
     return name + given.get(name, "")
 
 
+# A call on a loan channel, mostly one that the party may make. A `reclaim` comes where the receiver is dead.
 def loan_call(draw, machine, party):
     ours = [index for index, holder in machine.holders.items() if holder == party]
     has = bool(ours) + (draw.random() < 0.05)
@@ -133,11 +140,13 @@ def loan_call(draw, machine, party):
             names = ["reclaim"]
         if draw.random() < 0.02:
             names = ["reclaim", f"give_back {index}"]
-    # (so that a reclaim finds much: of some channels nothing is taken back, and of some nothing is received)
+    # So that a reclaim finds much, one of these two calls is never drawn for some channels, by their number
+    # of parties.
     leaves = ("take_back", "receive", "")[machine.parties % 3]
     return draw.choice([it for it in names if it != leaves] or ["loan"])
 
 
+# What draws a call, for each kind; and below the capacities from which those of a schedule are drawn.
 CALLS = {
     "index_queue": queue_call,
     "queue": queue_call,
@@ -155,12 +164,14 @@ CAPACITIES |= dict.fromkeys(("index_queue", "queue", "overflow"), (0, 1, 1, 2, 2
 CAPACITIES |= dict.fromkeys(("robust", "container"), (1, 1, 2, 3, 4))
 
 
+# The first line of a schedule: its kind, its capacity or sizes, and its parties.
 def first_line(draw, kind):
     if kind == "loan":
         return f"loan {draw.randint(1, 4)} {draw.choice((1, 1, 2, 5))} {draw.randint(2, 5)}"
     return f"{kind} {draw.choice(CAPACITIES[kind])} {draw.choice((2, 2, 3, 4))}"
 
 
+# A line by which an owner dies: mostly one whose death changes something.
 def death(draw, machine):
     if machine.is_own:
         owner = machine.receiver if draw.random() < 0.8 else draw.randrange(machine.parties + 1)

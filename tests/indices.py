@@ -4,6 +4,7 @@ The head is one word: 24 bits of the index that it proposes, 16 of a number that
 indices are borrowed, which are all set once the set is locked."""
 from machine import Machine, Refused
 
+# The places of the head and of the first next index.
 HEAD, NEXT = range(2)
 LOCKED = 0xFFFFFF
 
@@ -13,15 +14,19 @@ def parts_of(head):
     return head >> 40, head >> 24 & 0xFFFF, head & LOCKED
 
 
+# The head word of these three parts. The number keeps its low 16 bits.
 def head_of(proposed, number, borrowed):
     return proposed << 40 | (number & 0xFFFF) << 24 | borrowed
 
 
+# A unique index set. Its calls are generators of their steps, and `holders` says which party holds which
+# index.
 class UniqueIndexSet(Machine):
     def __init__(self, capacity, parties):
         super().__init__(parties, [0, *range(1, capacity + 1)] + [0] * ((capacity + 63) // 64))
         self.capacity, self.holders = capacity, {}
 
+    # Refuses a release of an index that does not exist or that the party does not hold.
     def permits(self, call):
         if call.name == "release":
             if call.given[0] >= self.capacity:
@@ -36,6 +41,7 @@ class UniqueIndexSet(Machine):
         self.words[at] |= flag
         return is_free
 
+    # Clears the claim flag of an index, and notes that nobody holds it.
     def frees(self, index):
         self.words[NEXT + self.capacity + index // 64] &= ~(1 << index % 64)
         self.holders.pop(index, None)
@@ -60,6 +66,8 @@ class UniqueIndexSet(Machine):
                 return proposed
             head = found
 
+    # Takes an index: it claims the proposed one, or else scans the claim flags from 0 on, again and again,
+    # until one is free.
     def acquired(self, call):
         proposed = yield from self.proposal()
         if isinstance(proposed, str):
@@ -79,6 +87,8 @@ class UniqueIndexSet(Machine):
             self.holders[index] = call.party
         return index
 
+    # Frees the claim flag, puts the index in front of the list, and lowers the count. In mode `lock` the last
+    # index locks. In mode `default` a count that has changed meanwhile is lowered in a step of its own.
     def released(self, call, index, mode):
         yield
         self.frees(index)

@@ -10,6 +10,7 @@ from promises_owners import OwnersReading
 from queues import IndexQueue, OverflowingQueue, QueueOfValues
 from values import Value
 
+# The machine and the reading of each kind, by the name that schedules have for it.
 KINDS = {
     "index_queue": (IndexQueue, QueueReading),
     "queue": (QueueOfValues, QueueReading),

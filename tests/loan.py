@@ -5,6 +5,7 @@ from indices import UniqueIndexSet
 from machine import Machine, Refused, some
 from queues import IndexQueue, OverflowingQueue
 
+# The calls of the receiver, and the calls about an index that their party has to hold.
 RECEIVES = ("receive", "give_back")
 OF_INDEX = ("send", "give_up", "give_back")
 
@@ -18,9 +19,12 @@ class Completion(IndexQueue):
         pass
 
 
+# The channel: three structures whose words stand one after another. Its calls are made of theirs. `holders`
+# has the indices that a party holds, and `sent` those that were sent and not freed.
 class LoanChannel(Machine):
     has_owners = is_own = True
 
+    # Only its parts have words of their own.
     def __init__(self, slots, queue, parties):
         super().__init__(parties, [])
         self.slots, self.receiver = slots, 1
@@ -31,6 +35,8 @@ class LoanChannel(Machine):
     def all_words(self):
         return self.free.words + self.submission.words + self.completion.words
 
+    # Refuses a call of a party that is not its sender or receiver, about an index that does not exist or that
+    # the party does not hold, of a dead party, and a `reclaim` while the receiver lives.
     def permits(self, call):
         if call.name in OF_INDEX and call.given[0] >= self.slots:
             raise Refused("BadIndex")
@@ -46,6 +52,7 @@ class LoanChannel(Machine):
         if call.party in self.dead:
             raise Refused("OwnerIsDead")
 
+    # Frees an index that was sent or loaned.
     def released(self, call, index):
         self.sent.discard(index)
         yield from self.free.released(call, index, "default")
@@ -61,6 +68,7 @@ class LoanChannel(Machine):
         yield from self.released(call, index)
         return "done"
 
+    # Sends an index that the sender holds, and frees the one that the full queue hands back.
     def send(self, call, index):
         del self.holders[index]
         self.sent.add(index)
@@ -85,10 +93,13 @@ class LoanChannel(Machine):
             yield from self.released(call, index)
         return some(index)
 
+    # Pops a queue until nothing waits.
     def drained(self, queue, call):
         while (yield from queue.popped(call)) is not None:
             pass
 
+    # Empties both queues of a dead receiver, and frees all that was sent, ascending. From then on the next
+    # party receives.
     def reclaim(self, call):
         yield from self.drained(self.submission, Silent(call))
         yield from self.drained(self.completion, call)

@@ -84,6 +84,8 @@ class Machine:
         for other in self.calls.values():
             other.others += changes if other is not call else 0
 
+    # Begins a call: refuses it if the party has one under way or the kind does not permit it, and runs it up
+    # to its first step.
     def begins(self, party, words):
         if party in self.calls:
             raise Refused("Busy")
@@ -94,6 +96,8 @@ class Machine:
         call.steps = getattr(self, call.name)(call, *call.given)
         call.waits = next(call.steps)
 
+    # The party's call that is under way. Refuses the turn if there is none, or if a decision is due where
+    # none comes, or the other way round.
     def under_way(self, party, asks):
         call = self.calls.get(party)
         if not call:
@@ -112,6 +116,7 @@ class Machine:
             self.allows(call)
         self.goes_on(call, said)
 
+    # Declares an owner dead. Refuses it where the kind has no owners, and where the owner is dead already.
     def dies(self, owner):
         if not self.has_owners:
             raise Refused("WrongCall")

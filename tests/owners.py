@@ -2,14 +2,17 @@
 cell with its owner."""
 from machine import ASKS, Machine, Refused
 
+# The places of the counter and of the first cell; what stands in a locked counter and in an empty cell.
 COUNTER, CELLS = range(2)
 LOCKED = EMPTY = (1 << 64) - 1
 
 
+# A robust index set. Its calls are generators of their steps, and owners of `dead` may not begin calls for
+# the living.
 class RobustIndexSet(Machine):
     has_owners = True
     full, stranger = "OutOfIndices", "IndexIsNotOwnedByProvidedOwner"
-    # the calls for a living owner alone, with the place of their owner
+    # The calls that only a living owner may make, with the place of the owner among what they are given.
     of_living = {"acquire": 0, "release": 1}
 
     def __init__(self, capacity, parties, more=()):
@@ -21,10 +24,12 @@ class RobustIndexSet(Machine):
             raise Refused("BadIndex")
         self.stops(call)
 
+    # Refuses a turn of a call whose owner is dead, if that call is for living owners alone.
     def stops(self, call):
         if call.name in self.of_living and call.given[self.of_living[call.name]] in self.dead:
             raise Refused("OwnerIsDead")
 
+    # Refuses a yes to the question about an index of an owner who lives.
     def allows(self, call):
         if call.name == "recover" and call.owner not in self.dead:
             raise Refused("OwnerLives")
@@ -69,6 +74,8 @@ class RobustIndexSet(Machine):
                 call.tells("locked")
                 return "Locked"
 
+    # Fills the first empty cell, and raises the counter, by which the index is granted. Answers the index or
+    # why there is none; before it says that all are filled, the counter may not have moved.
     def acquired(self, call, owner):
         yield
         counter = self.words[COUNTER]
@@ -95,6 +102,7 @@ class RobustIndexSet(Machine):
         call.tells("freed", index, owner)
         return True
 
+    # Empties the cell and raises the counter. In mode `lock` it locks the set if no cell is filled.
     def released(self, call, index, owner, mode):
         yield
         if not self.empties(call, index, owner):
@@ -108,6 +116,7 @@ class RobustIndexSet(Machine):
     def release(self, call, index, owner, mode):
         return self.released(call, index, owner, mode)
 
+    # Visits each cell of the owner, and asks after each whether to go on.
     def find(self, _, owner):
         found = 0
         for index in range(self.capacity):
@@ -118,6 +127,8 @@ class RobustIndexSet(Machine):
                     break
         return found
 
+    # Asks about each filled cell, and empties those that are answered with yes. Answers whether the set is
+    # locked.
     def recover(self, call, mode):
         yield
         if self.words[COUNTER] == LOCKED:

@@ -5,6 +5,7 @@ class Broken(Exception):
     """Its argument is the promise that is broken."""
 
 
+# Raises the promise as broken where `is_so` is false.
 def want(is_so, promise):
     if not is_so:
         raise Broken(promise)
@@ -16,7 +17,8 @@ class Span:
     def __init__(self, call, stands):
         self.call, self.name, *self.given = call, *((int(it) if it.isdecimal() else it) for it in call.split())
         self.is_open, self.acted, self.did = True, [], []
-        # what stood at a moment of it, what stood at each, and what stood at a moment since it took something away
+        # `ever` is what stood at some moment of the call, `always` what stood at each of its moments, and
+        # `since` what stood at a moment after it took something away.
         self.ever, self.always, self.since = set(stands), set(stands), set()
 
     def done(self, *whats):
@@ -40,6 +42,8 @@ class Reading:
     def __init__(self, capacity, _, machine):
         self.capacity, self.machine, self.spans, self.stands, self.is_locked = capacity, machine, {}, set(), False
 
+    # Takes a line that was printed: a begin, an act, an end, or something that a call did. It checks what
+    # holds of any kind, calls the method of the line's sort, and brings each span up to date.
     def take(self, line):
         words = line.split()
         if words[0] == "refused":
@@ -73,6 +77,8 @@ class Reading:
     def begun(self, party, span):
         pass
 
+    # A call takes effect: it may do so once, and with the answer that the list or the value of the kind
+    # gives.
     def act(self, _, span, answer):
         want(span.name in self.acting and not span.acted, "pushes, pops, stores and loads act, and once")
         want(self.acts(span) == answer, "acts answer as those of one list or one value")
@@ -98,6 +104,7 @@ class RolesReading(Reading):
         super().__init__(*given)
         self.holders = {}
 
+    # The promises about roles, as a call on a role ends.
     def ends(self, party, span, answer):
         verb, _, role = span.name.partition("_")
         if role in ("producer", "consumer"):
@@ -111,16 +118,19 @@ class RolesReading(Reading):
                     self.holders[role] = party
 
 
+# The promises of a bounded queue. `list` is the list by the acts, and `waits` what was published and not
+# handed out.
 class QueueReading(RolesReading):
     acting = ("push", "pop")
     overflows = False
 
     def __init__(self, *given):
         super().__init__(*given)
-        # the list by the acts, and what was published and not handed out
+        # The list by the acts, and what was published and not handed out.
         self.list, self.waits = [], []
         self.stands = {0}  # (how many wait)
 
+    # What a push or pop that takes effect now has to answer, by the list of the acts.
     def acts(self, span):
         if span.name == "pop":
             want(self.list or not self.waits or self.overflows, "a pop finds nothing where nothing waits")
@@ -144,6 +154,7 @@ class QueueReading(RolesReading):
         want(self.waits and self.waits.pop(0) == value, "what is handed out is the oldest that was published")
         self.stands = {len(self.waits)}
 
+    # The promises about what a call did and answers, as it ends.
     def ends(self, party, span, answer):
         super().ends(party, span, answer)
         if span.name == "push" and self.capacity:
@@ -166,10 +177,12 @@ class QueueReading(RolesReading):
         want(self.list == self.waits[: self.capacity], "the list by the acts is what waits")
 
 
+# The promises of an overflowing queue: a full queue hands its oldest value out to the push.
 class OverflowReading(QueueReading):
     overflows = True
 
 
+# The promises of the single value: a load answers what was stored last, and a version counts the stores.
 class ValueReading(RolesReading):
     acting = ("store", "load")
     value = stores = 0
@@ -186,6 +199,7 @@ class ValueReading(RolesReading):
             want(int(answer) == self.stores + 1, "a version is 1 more than the number of stores as the look ends")
 
 
+# The promises of a bit set. `stands` has the places that are set.
 class BitsReading(Reading):
     def set(self, _, span, place):
         want(span.name == "set" and span.given == [place], "a set sets its own flag")
@@ -198,6 +212,7 @@ class BitsReading(Reading):
         self.stands.discard(place)
         span.always.discard(place)
 
+    # The promises about what a call did and answers, as it ends.
     def ends(self, _, span, answer):
         cleared = [place for (place,) in span.done("cleared")]
         if span.name == "set":
@@ -213,11 +228,13 @@ class BitsReading(Reading):
             want(span.name == "reset_all" or not cleared, "none where nothing was cleared")
 
 
+# The promises of a counting bit set. `stands` has the places whose count is not 0.
 class CountsReading(Reading):
     def __init__(self, *given):
         super().__init__(*given)
         self.counts = [0] * self.capacity
 
+    # A set adds 1 to its own place; what was there before is noted for its answer.
     def counted(self, _, span, place):
         want(span.name == "set" and span.given == [place], "a set counts its own place")
         want(place < self.capacity, "a place below the capacity is counted")
@@ -231,6 +248,7 @@ class CountsReading(Reading):
         self.counts[place] = 0
         self.stands.discard(place)
 
+    # The promises about what a call did and answers, as it ends.
     def ends(self, _, span, answer):
         if span.name == "set":
             want(len(span.did) == 1 and str(span.before) == answer, "a set answers the count before it")
@@ -241,6 +259,7 @@ class CountsReading(Reading):
             want(not span.always, "what was counted as a reset began was taken out since")
 
 
+# The promises of a unique index set. `stands` has the indices that are claimed.
 class IndicesReading(Reading):
     def claimed(self, _, span, index):
         want(span.name == "acquire", "an acquire claims")
@@ -265,11 +284,12 @@ class IndicesReading(Reading):
         taking = sum(span.name == "acquire" and not span.did for span in spans)
         return len(self.stands) + taking + sum(bool(span.done("freed")) for span in spans)
 
+    # The promises about what a call did and answers, as it ends.
     def ends(self, _, span, answer):
         if span.name == "acquire":
             claimed = [str(index) for (index,) in span.done("claimed")]
             want(claimed == [answer] * answer.isdecimal(), "an acquire answers what it claimed")
-            # (its own wish is one of those)
+            # The call itself counts as one that uses an index.
             want(answer != "OutOfIndices" or self.in_use() > self.capacity, "as many are in use as there are")
             want(answer != "IsLocked" or self.is_locked, "IsLocked once the set is locked")
         elif span.name == "release":

@@ -1,7 +1,8 @@
 """What a loan channel promises: each index is in one place, goes from place to place as the calls move it, and in order."""
 from promises import Reading, want
 
-# Where a call takes an index from and to. With and passing are places of a party.
+# From which place to which an index goes, for each sort of event and the call that causes it. The places
+# `with` and `passing` belong to a party.
 MOVES = {
     ("begun", "send"): ("with", "passing"),
     ("begun", "give_up"): ("with", "passing"),
@@ -33,18 +34,23 @@ DOES = {
     ("receive", "none"): [],
     ("give_back", "true"): [("returned", "own")],
 }
+# What a reclaim does, in this order.
 RECLAIMS = ["handed_out", "taken_back", "freed"]
 
 
+# The promises of a loan channel. `places` has the place of each index.
 class LoanReading(Reading):
     acting = ("send", "receive")
 
     def __init__(self, slots, queue, _, machine):
         super().__init__(queue, 0, machine)
         self.places, self.receiver, self.dead = ["free"] * slots, 1, set()
-        # the list by the acts, what was published and not handed out, and what was returned and not taken back
+        # The list by the acts, what was published and not handed out, and what was returned and not taken
+        # back.
         self.list, self.sent, self.returns = [], [], []
 
+    # After each line an index that a party has may only be with the sender or the receiver, and one in
+    # passing only in a call under way.
     def take(self, line):
         super().take(line)
         for place in self.places:
@@ -56,6 +62,7 @@ class LoanReading(Reading):
         want(owner not in self.dead, "a party dies once")
         self.dead.add(owner)
 
+    # Moves an index as the call of this name may move it. A reclaim may also take what the dead receiver had.
     def moves(self, what, party, span, index):
         wanted = MOVES.get((what, span.name))
         want(wanted, "a call moves an index as calls of its name do")
@@ -99,6 +106,7 @@ class LoanReading(Reading):
     def freed(self, party, span, index):
         self.moves("freed", party, span, index)
 
+    # The promises about what a call moved and answers, as it ends.
     def ends(self, party, span, answer):
         if span.name == "reclaim":
             return self.ends_reclaim(span, answer)
@@ -115,6 +123,7 @@ class LoanReading(Reading):
         is_empty = span.name == "take_back" and answer == "none"
         want(not is_empty or not self.returns, "a take-back of nothing finds nothing returned")
 
+    # The promises about a reclaim, as it ends: it takes all that was sent, and leaves nothing in a queue.
     def ends_reclaim(self, span, answer):
         sorts = [RECLAIMS.index(it[0]) for it in span.did]
         freed = [index for (index,) in span.done("freed")]

@@ -2,8 +2,10 @@
 or its value replaced, by one call at a time, and after the call has ended by which it was acquired."""
 from promises import Reading, said, want
 
+# The calls that give an index back, or replace its value.
 GIVES_BACK = ("release", "remove", "replace")
-# Behind what a call of a container may do something at the same index; "" is nothing yet.
+# For each call, after which of its events each further one may come at the same index; "" is the begin of the
+# call.
 ORDER = {
     "add": {"filled": [""], "granted": ["filled"], "hidden": ["granted"], "placed": ["granted", "hidden"]},
     "acquire": {"filled": [""], "granted": ["filled"]},
@@ -20,13 +22,18 @@ ROUNDS = {
 }
 
 
+# The promises of a robust set and of a container. `is_well_formed` becomes false once the run is none, and
+# promises that need it are not asked from then on.
 class OwnersReading(Reading):
     def __init__(self, *given):
         super().__init__(*given)
-        # the owner at each index: who fills it, who holds it, and whose call has ended by which he acquired it
+        # The owner at each index: who has filled it, who holds it, and whose call has ended by which it was
+        # acquired.
         self.filled_by, self.held_by, self.settled, self.dead, self.is_well_formed = {}, {}, {}, set(), True
         self.values, self.stays, self.copies, self.now = {}, [], {}, 0
 
+    # Brings what is known of each call up to date after a line: what its owner had at a moment and at each
+    # moment, and where a value stood.
     def take(self, line):
         super().take(line)
         self.now += 1
@@ -46,6 +53,8 @@ class OwnersReading(Reading):
         want(owner not in self.dead, "an owner dies once")
         self.dead.add(owner)
 
+    # Notes the owner and the index of a call that begins, whether it is alone, and whether the index was
+    # acquired by a call that has ended.
     def begun(self, party, span):
         places = {"acquire": 0, "add": 1, "release": 1, "remove": 1, "replace": 2, "find": 0, "recover": 0}
         span.index = span.given[0] if span.name in GIVES_BACK else None
@@ -81,6 +90,7 @@ class OwnersReading(Reading):
             want(span.index_at in (None, index), "a call does all at one index")
         span.index_at = index
 
+    # An acquire or an `add` has filled a cell, for its own living owner, and has begun before the lock.
     def filled(self, _, span, index, owner):
         self.does(span, "filled", index)
         want(span.owner == owner and owner not in self.dead, "an index is filled for the owner of the call, who lives")
@@ -89,6 +99,7 @@ class OwnersReading(Reading):
         self.filled_by[index] = owner
         self.stands.add(index)
 
+    # The index is granted to the owner, before the lock. In a well-formed run nobody holds it.
     def granted(self, _, span, index, owner):
         self.does(span, "granted", index)
         want(span.owner == owner and owner not in self.dead, "an index is granted to the owner of the call, who lives")
@@ -96,6 +107,7 @@ class OwnersReading(Reading):
         self.wants_formed(index not in self.held_by, "no index is granted that is held")
         self.held_by[index] = owner
 
+    # A cell is emptied: by a call of its owner, who lives, or by a recovery of a dead owner that was told to.
     def freed(self, _, span, index, owner):
         self.does(span, "freed", index)
         want(self.filled_by.pop(index, None) == owner, "an index is freed that was the owner's")
@@ -110,6 +122,8 @@ class OwnersReading(Reading):
         span.since = set()
         self.is_well_formed &= span.is_settled
 
+    # The set is locked, once, by a call in that mode that has freed an index. In a well-formed run no index
+    # is held.
     def locked(self, _, span):
         self.does(span, "locked", None)
         want(not self.is_locked and span.may_lock, "the lock comes once, by a call in that mode")
@@ -117,6 +131,7 @@ class OwnersReading(Reading):
         self.wants_formed(not self.held_by, "no index is held where the set is locked")
         self.is_locked = True
 
+    # A recovery asks about an index that its owner has filled, once, and only if it began before the lock.
     def asked(self, _, span, index, owner):
         self.does(span, "asked", index)
         want(span.was_unlocked, "a recovery asks before the lock")
@@ -129,6 +144,7 @@ class OwnersReading(Reading):
         want(owner in self.dead, "a recovery is told to free what a dead owner had")
         want(span.did[-1] == ("asked", index, owner), "it is told what it has just asked")
 
+    # A value is placed that the call was given, in a well-formed run where none stands.
     def placed(self, party, span, index, value):
         self.does(span, "placed", index)
         want(value in span.given, "an add or a replace places its own value")
@@ -136,6 +152,7 @@ class OwnersReading(Reading):
         self.values[index] = value
         self.stays.append({"party": party, "index": index, "value": value, "settled": None, "hidden": None})
 
+    # A value is hidden, in a well-formed run one that stands.
     def hidden(self, _, span, index):
         self.does(span, "hidden", index)
         self.wants_formed(index in self.values, "a value is hidden that stands")
@@ -174,11 +191,14 @@ class OwnersReading(Reading):
         else:
             want(not filled and len(span.ever) == self.capacity, "each was filled at a moment of the call")
 
+    # An add answers as an acquire, and has placed its value where it answers an index.
     def ends_add(self, party, span, answer):
         self.ends_acquire(party, span, answer)
         if answer.isdecimal():
             self.wants_formed(len(span.done("placed")) == 1, "an add has placed its value")
 
+    # A release or remove that is refused does nothing, and is refused rightly. Another one has freed its
+    # index once.
     def ends_release(self, _, span, answer):
         if answer.endswith(("NotOwnedByProvidedOwner", "NotOwnedByContainer")):
             want(not span.did, "what is refused does nothing")
@@ -189,6 +209,7 @@ class OwnersReading(Reading):
 
     ends_remove = ends_release
 
+    # The promises about the lock in what a release, a remove or a recovery answers.
     def ends_lock(self, span, answer):
         if answer == "Locked":
             want(self.is_locked, "Locked once the set is locked")
@@ -198,6 +219,7 @@ class OwnersReading(Reading):
             want(span.was_unlocked or not (is_recover or may_lock), "Unlocked where it was so at a moment of the call")
             want(not may_lock or span.since, "Unlocked where another was filled since")
 
+    # A replace is done where its owner has the index, and fails where not.
     def ends_replace(self, _, span, answer):
         if answer == "done":
             want(span.index in span.its, "a replace is done where the index was its owner's")
@@ -209,6 +231,8 @@ class OwnersReading(Reading):
     def ends_find(self, _, span, answer):
         want(int(answer) <= len(span.its), "a find counts what its owner filled")
 
+    # A recovery that leaves the set unlocked has asked about, or was shown, all that its owner kept, and left
+    # nothing that it was told to free.
     def ends_recover(self, _, span, answer):
         self.ends_lock(span, answer)
         told = {(index, owner) for index, owner in span.done("told")}
@@ -219,6 +243,7 @@ class OwnersReading(Reading):
             stayed = span.still_its if isinstance(span.owner, int) else span.always
             want(stayed <= seen, "it asked about or was shown all that stayed")
 
+    # A number of indices that are out was right at a moment of the call; it is 0 once the set is locked.
     def ends_len(self, _, span, answer):
         is_so = answer == "0" if self.is_locked else len(span.always) <= int(answer) <= len(span.ever)
         want(is_so, "so many were filled at a moment of the call")
@@ -232,6 +257,7 @@ class OwnersReading(Reading):
     def ends_is_locked(self, _, span, answer):
         want(said(self.is_locked) == answer, "is_locked answers what is so")
 
+    # A new state shows just what the call has copied.
     def ends_get_state(self, party, span, answer):
         shown = self.machine.looks.pop(0)
         copied = {index for index, _ in span.done("copied")}

@@ -1,6 +1,8 @@
 """The queues: a write and a read position, a word for each role, which is 1 while it is free, and cells."""
 from machine import NOTHING, Machine, Refused, halves, some, whole
 
+# The places of the two positions, of the roles' words and of the first cell; and the role that each call
+# needs.
 WRITE, READ, PRODUCER, CONSUMER, CELLS = range(5)
 NEEDS = dict.fromkeys(("push", "release_producer"), PRODUCER) | dict.fromkeys(("pop", "peek", "release_consumer"), CONSUMER)
 
@@ -23,6 +25,7 @@ class Queue(Machine):
     def is_held(self, role, party):
         return self.holders.get(role) == party
 
+    # Takes a role, if it is free, in one step.
     def acquires(self, call, role):
         yield
         if self.exchange(role, 1, 0) != 1:
@@ -62,11 +65,13 @@ class Queue(Machine):
         """The first word of the cell of a position."""
         return CELLS + self.width * (position % self.cells)
 
+    # Stores the words of a value into the cell of a position, one in each step.
     def put(self, position, value):
         for at, word in enumerate([value] if self.width == 1 else halves(value)):
             yield
             self.words[self.cell(position) + at] = word
 
+    # Loads the words of the cell of a position, one in each step, and answers the value.
     def get(self, position):
         words = []
         for at in range(self.width):
@@ -77,6 +82,8 @@ class Queue(Machine):
     def acted(self, call, answer):
         call.acts(answer)
 
+    # Loads both positions, and then stores the value and the next write position, by which it is published;
+    # or answers that the queue is full.
     def pushed(self, call, value):
         yield
         write = self.words[WRITE]
@@ -91,6 +98,8 @@ class Queue(Machine):
         self.acted(call, "true")
         return True
 
+    # Loads both positions, and then the value, and stores the next read position, by which it is handed out;
+    # or answers that nothing waits.
     def popped(self, call):
         yield
         read = self.words[READ]
@@ -111,6 +120,7 @@ class Queue(Machine):
     def pop(self, call):
         return some((yield from self.popped(call)))
 
+    # Loads both positions and the oldest value, and changes nothing.
     def peek(self, _):
         yield
         read = self.words[READ]
@@ -157,6 +167,8 @@ class OverflowingQueue(Queue):
     spare = 1
     waits = None  # the push that has published and not acted
 
+    # Publishes the value, and then takes the oldest one out if the queue was full. `waits` notes such a push
+    # until it acts.
     def pushed(self, call, value):
         if self.capacity == 0:
             yield NOTHING
@@ -188,6 +200,8 @@ class OverflowingQueue(Queue):
         self.acted(call, some(oldest))
         return (yield from self.get(read))
 
+    # Takes the oldest value out by an exchange of the read position, and begins again where a push was
+    # faster. It also lets a push act that waits for this.
     def popped(self, call):
         if self.capacity == 0:
             yield NOTHING

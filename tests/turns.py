@@ -25,7 +25,7 @@ Only over written words:
 """
 import resource
 
-# A machine of more memory is not made.
+# The memory of the program, in bytes. A machine that needs more is not made.
 ROOM = 1 << 30
 ENDLESS = 10**9
 SHOWN = 8  # so many parties and places
@@ -48,9 +48,11 @@ def joined(*words):
     return " ".join(map(str, words))
 
 
+# One turn of the output, or one line over written words: the number of its line, its events and its refusal.
 class Block:
     """What the program tells of one turn, or of one line over written words."""
 
+    # Reads the text of a turn, and appends its events to those of all turns.
     def __init__(self, text, events):
         line, *self.lines = text.split("\n")
         self.line, self.refusal = int(line), None
@@ -69,6 +71,8 @@ class Block:
 class Turns:
     """A machine, by the first line of a schedule, or with `bare` calls over written words."""
 
+    # A block that begins with this head. `run` runs a program, and `machine` makes the machine of `kinds.py`,
+    # which tells where calls ask.
     def __init__(self, head, run, machine):
         self.is_bare, self.head, self.run = head.startswith("bare "), head.removeprefix("bare "), run
         self.lines, self.checks, self.next = [self.head], [], 0
@@ -100,6 +104,7 @@ class Turns:
 
         return taken
 
+    # Appends the lines of a row about a party, and notes its check.
     def row_of(self, party, word, rest):
         call, _, end = rest.partition(" -> ")
         if word in ("call", "part"):
@@ -118,6 +123,7 @@ class Turns:
             return self.bare_row_of(party, word, rest)
         raise ValueError("no such row")
 
+    # The check that the turns were taken and the last event is the end of the call, with this answer.
     def ended(self, party, taken, call, answer):
         def check():
             head, _, last = self.last_event().rpartition(" -> ")
@@ -126,10 +132,12 @@ class Turns:
 
         self.later(check)
 
+    # The check that the turns were taken and the call has not ended.
     def stays(self, party, taken):
         at = self.look(party)
         self.later(lambda: taken() and self.progress(at, party)[3] == "going")
 
+    # Appends turns with this decision at each question: as many as the row says, or until the call ends.
     def says(self, party, said, turns):
         if turns == "end":
             for _ in range(int(self.head.split(" ")[1]) + 2):
@@ -152,6 +160,7 @@ class Turns:
             for line in self.lines[1:]:
                 self.reference.turn(line)
 
+    # A row about a party over written words: it holds an index, or its call is asked something.
     def bare_row_of(self, party, word, rest):
         if word == "holds":
             return self.silent(self.adds(f"{party} holds {rest}"))
@@ -169,6 +178,7 @@ class Turns:
         """A line that says nothing, where it can be done."""
         self.later(lambda: self.block(at).refusal is None)
 
+    # Reads a row: appends its lines and notes its check. An unknown row raises `ValueError`.
     def row(self, line):
         word, rest = line.split(" ", 1)
         if word.isdecimal():
@@ -189,6 +199,7 @@ class Turns:
             return self.silent(self.adds(joined(word, *numbers(rest))))
         raise ValueError("no such row")
 
+    # A row that says from where on the next rows are compared with events, or that no event is left.
     def events(self, rest):
         if rest == "end":
             at = self.next
@@ -196,6 +207,7 @@ class Turns:
         self.next = int(rest.removeprefix("from "))
         return self.later(lambda: True)
 
+    # A row of a refused turn: the refusal is this one, and no event and no word has changed.
     def refused(self, refusal, line):
         self.has_words = True
         at, before = self.adds(line), len(self.lines) - 1
@@ -211,6 +223,7 @@ class Turns:
         """Where the words and the call of a party can be seen."""
         return self.adds(f"{party} shows") if self.is_bare else len(self.lines)
 
+    # A row about what stands: the last events, the words, how far a call has come, or what a state shows.
     def shows(self, word, rest):
         if word in ("last", "before"):
             return self.later(lambda: self.event(self.number_of_events() - 1 - (word == "before")) == rest)
@@ -256,6 +269,7 @@ class Turns:
         """The last turn of a line, or of those before it."""
         return self.blocks[self.upto[line]]
 
+    # The only turn of a line; a `ValueError` says that there is none or more than one.
     def block(self, line):
         (only,) = self.of(line)
         return only
@@ -269,9 +283,11 @@ class Turns:
     def last_event(self):
         return self.event(self.number_of_events() - 1) or ""
 
+    # What the last turn of a line shows behind this word, line by line.
     def seen(self, at, word):
         return [it[len(word) :] for it in self.before(at).shown if it.startswith(word)]
 
+    # The words that stand after a line.
     def words(self, at):
         return [[*map(int, it.split())] for it in self.seen(at, "words")]
 
@@ -286,6 +302,7 @@ class Turns:
         steps, backs, others, *ended = found.removeprefix(word).split(" ")
         return int(steps), int(backs), int(others), "done" if ended else "going"
 
+    # Whether what stands after a line is what the row says, for each kind of `shows`.
     def is_shown(self, word, rest, party, at):
         words = (self.words(at) or [[]])[0]
         state = dict(it.split(" ") for it in self.seen(at, f"state {party} "))
@@ -312,6 +329,7 @@ class Turns:
     def capacity(self):
         return int(self.head.split(" ")[1])
 
+    # The number of a place, unless it is one that the output does not show.
     def place(self, text):
         if SHOWN <= int(text) < self.capacity():
             raise ValueError("this place is not shown")
@@ -323,6 +341,7 @@ class Turns:
         return sum(it[1] == "freed" and len(it) == 4 for it in events) - sum(it[1] == "hidden" for it in events)
 
 
+# The values that a row gives, by their places.
 def places(values):
     return {str(at): it for at, it in enumerate(values) if it != "none"}
 
@@ -352,5 +371,6 @@ class Numbers:
         return wanted in NAMES and cause == wanted
 
 
+# Limits the memory of a program that is started.
 def bound():
     resource.setrlimit(resource.RLIMIT_AS, (ROOM, ROOM))

@@ -1,9 +1,11 @@
 """The one value: a version, the word of the role, and two cells of two words, of which a version says the current one."""
 from machine import Machine, Refused, halves, whole
 
+# The places of the version, of the role's word and of the first cell.
 VERSION, PRODUCER, CELLS = range(3)
 
 
+# The single value. Its calls are generators of their steps.
 class Value(Machine):
     def __init__(self, _, parties):
         super().__init__(parties, [1, 1] + [0] * 4)
@@ -13,6 +15,7 @@ class Value(Machine):
         if call.name in ("store", "release_producer") and self.producer != call.party:
             raise Refused("NoRole")
 
+    # Takes the producer's role, if it is free, in one step.
     def acquire_producer(self, call):
         yield
         if self.exchange(PRODUCER, 1, 0) != 1:
@@ -34,6 +37,8 @@ class Value(Machine):
         yield
         return self.words[VERSION]
 
+    # Writes the two words into the cell that is not current, and raises the version, by which the store takes
+    # effect.
     def store(self, call, value):
         yield
         cell = CELLS + 2 * (self.words[VERSION] % 2)
@@ -45,6 +50,7 @@ class Value(Machine):
         call.acts("true")
         return True
 
+    # Copies the current cell, and checks that the version has not moved; otherwise copies again.
     def load(self, call):
         yield
         version = self.words[VERSION]

@@ -8,9 +8,10 @@ TREE = os.path.realpath(os.path.join(os.path.dirname(os.path.realpath(__file__))
 PARTS = ("src", "specs", "proofs")
 LICENCES = ("LICENSE", "LICENSE-APACHE", "LICENSE-MIT")
 CALLING = ("crates/lock_free/CALLING.md", "crates/lock_free/CALLS.md")
-# of the bus, the loan channel, the pool and the slots, with their places in a copy
+# The pages that are copied with a crate: those of the bus, the loan channel, the pool and the slots, with
+# their places in a copy.
 USES = {"docs/BUS.md": "docs/BUS.md", "crates/zero_copy_bus/CALLS.md": "docs/BUS_CALLS.md"}
-# texts of schedules are read by commands, which are not copied
+# The pages that are not copied: texts of schedules are read by commands, which are not copied either.
 NOT_FOR_CALLERS = ("docs/SCHEDULE.md",)
 MARK = "PAGLUNET"
 COMMENT = "# copied by bin/vendor of Paglunet"
@@ -79,7 +80,7 @@ def renamed(text, kind, names, prefix):
     if kind != ".antt":
         text = re.sub(rf"(?<![\w:.])(?=({any_of})::)", prefix, text)
     if kind == ".md":
-        # (a name of one word, as history, has other meanings too)
+        # A name of one word, as history, has other meanings too, and is renamed in paths alone.
         whole = "|".join(it for it in names if "_" in it) or any_of
         text = re.sub(rf"(?<![\w.])(?=({whole})\b(?!::))", prefix, text)
         text = re.sub(rf"(?<=crates/)(?=({any_of})\b)", prefix, text)
@@ -102,6 +103,8 @@ def pages(goals, at):
 def page_text(page, places, names, prefix):
     """Returns a page whose links lead to pages of the copy, or are words."""
 
+    # A link of a page as it has to be in the copy: to the place there, or the label alone where the page is
+    # not copied.
     def link(found):
         label, to, rest = found[1], found[2], found[3] or ""
         if "://" in to or not to:

@@ -44,6 +44,7 @@ class Labels:
     def height(self):
         return len(self.ends) * LINE
 
+    # Puts a label at the highest level on which it fits beside the labels before it.
     def add(self, x, text, kind):
         width = len(text) * LETTER + LETTER
         start = min(x, max(self.right - width, 0))
@@ -59,6 +60,7 @@ class Labels:
             drawn += (line_at("l", x, at - 8, x, y) if level else "") + text_at(kind, start + 3, at, text)
         return drawn
 
+    # Draws all labels below this height, each with a line up to the turn that it is of.
     def below(self, y):
         drawn = ""
         for x, start, level, kind, text in self.labels:
@@ -88,6 +90,7 @@ class Page:
                 right = self.x(call.end) + 8 if self.has(call.end) else self.x(max(self.end - 1, 0)) + PITCH // 2
                 yield call, left, right
 
+    # Draws the bar of a call. It is open on a side that lies on another page.
     def bar(self, call, left, right, top):
         low = top + BAR
         drawn = f'<rect class="b" x="{left}" y="{top}" width="{max(right - left, 0)}" height="{BAR}"/>\n'
@@ -105,6 +108,7 @@ class Page:
         kind = {"step": "k", "nothing": "s", "said": "s"}.get(did)
         return line_at(kind, x, top, x, low) if kind else ""
 
+    # Draws the numbered dots of a lane, one for each turn in which something acts.
     def acts(self, lane, y):
         drawn, last = "", None
         for own, turn, number, _ in self.story.acts:

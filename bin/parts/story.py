@@ -28,6 +28,7 @@ class Contents:
         if item[1] is not None or item[3] is not None:
             self.items = sorted([*self.items, item], key=lambda it: it[0])
 
+    # What waits after an act of a queue, or what the value is after a store.
     def act(self, call, answer):
         name, *given = call.split()
         if name in ("push", "store") and answer != "false":
@@ -59,6 +60,7 @@ class Contents:
             return False
         return True
 
+    # An item as the picture writes it: its number, what belongs to it, and its value.
     def item_text(self, item):
         key, number, surely, value = item
         text = str(key)
@@ -92,6 +94,7 @@ class Story:
     """A run, told. Turns are lanes with what was done: begin, step, back, nothing, said or died, and whether it was refused.
     Marks are [lane, turn, text, refused], acts (lane, turn, number, text) and contents (turn, text)."""
 
+    # Reads the lines of a schedule and what was printed of its turns, and collects what there is to draw.
     def __init__(self, lines, turns):
         kind, *numbers = lines[0].split()
         names = ("slots", "queue", "parties") if kind == "loan" else ("capacity", "parties")
@@ -148,6 +151,7 @@ class Story:
             return "nothing"
         return "back" if after[1] > before[1] else "step" if after[0] > before[0] else "nothing"
 
+    # Takes one turn in: its lane, what it did, its refusal, and each event that was printed of it.
     def tell(self, words, party, printed):
         lane, acts = self.lane_of(party), len(self.acts)
         refusal = next((line.split()[1] for line in printed if line.startswith("refused ")), None)
