@@ -106,11 +106,11 @@ module _ {T : Type 0} where
       (Rattle.atomic_table.proofs.Lists.at_set views id j w u at)
 
   -- a seat with a share that has now seen all events holds what `Known` says
-  pub known_step : (views : List (View T)) (events : List (Event T)) (id : ℕ) (v w : View T) → id < length views
+  pub known_step : {views : List (View T)} {events : List (Event T)} (id : ℕ) (v w : View T) → id < length views
       → get_elem? views id ≡ some v → w.share ≡ v.share → 0 < v.share.part → w.seen ≡ events
       → sum_by (λ e. of_none (whose e)) events ≡ 0 → SpentIn views → Shares share_of views
       → Known (set views id w) events
-  known_step views events id v w low has_view same part seen someone spent shares =
+  known_step {views} id v w low has_view same part seen someone spent shares =
       record {
         shares = shares_stay share_of views id v w has_view same shares;
         by = id;
@@ -123,9 +123,9 @@ module _ {T : Type 0} where
       }
 
   -- where one seat has the whole share, it has seen all events
-  pub known_whole : (views : List (View T)) (events : List (Event T)) (id : ℕ) (v : View T)
+  pub known_whole : {views : List (View T)} {events : List (Event T)} (id : ℕ) {v : View T}
       → get_elem? views id ≡ some v → IsAll v.share → Known views events → HasSeen v events
-  known_whole views events id v has_view whole known = ⊎_elim mine theirs (cases_eq known.by id)
+  known_whole {views} {events} id {v} has_view whole known = ⊎_elim mine theirs (cases_eq known.by id)
     where
       -- the seat that has seen all is this one, since no other has a share
       mine : known.by ≡ id → HasSeen v events
@@ -156,10 +156,10 @@ module _ {T : Type 0} where
           spent_owned owner t j u.0 one (fits j u.0 ne u.1) gone.0 gone.1
 
   -- after a split some seat with a share has seen all events
-  pub known_split : (views : List (View T)) (events : List (Event T)) (id : ℕ) (v : View T) → id < length views
+  pub known_split : {views : List (View T)} {events : List (Event T)} (id : ℕ) (v : View T) → id < length views
       → get_elem? views id ≡ some v → Known views events
       → Known (set views id (left_view v) ++ right_view v ∷ []) events
-  known_split views events id v low has_view known = ⊎_elim mine theirs (cases_eq known.by id)
+  known_split {views} {events} id v low has_view known = ⊎_elim mine theirs (cases_eq known.by id)
     where
       -- the views after the split, without the new seat
       cut : List (View T)
@@ -211,11 +211,11 @@ module _ {T : Type 0} where
           }
 
   -- after a join some seat with a share has seen all events
-  pub known_join : (views : List (View T)) (events : List (Event T)) (id other : ℕ) (v w : View T)
+  pub known_join : {views : List (View T)} {events : List (Event T)} (id other : ℕ) (v w : View T)
       → get_elem? views id ≡ some v → ¬ (other ≡ id) → get_elem? views other ≡ some w → 0 < v.share.part
       → IsBeginning v.seen events → v.other ≡ [] → w.other ≡ [] → Known views events
       → Known (set (set views id (joined_view v w)) other spent_view) events
-  known_join views events id other v w first_has_view apart second_has_view part mine_seen alone alone' known =
+  known_join {views} {events} id other v w first_has_view apart second_has_view part mine_seen alone alone' known =
       ⊎_elim mine (λ ne. ⊎_elim theirs (third ne) (cases_eq known.by other)) (cases_eq known.by id)
     where
       -- the views after the join

@@ -286,9 +286,9 @@ module _ {T : Type 0} (machine : OneMachine T) where
   all_of ts es = record { share = (omega arith, omega arith); most = omega arith; all = λ whole. omega arith }
 
   -- the view of the only pass gains all turns and events from the opening on
-  gains_so : (words : List ℕ) (ts : List (Turn T)) (es : List (Event T)) → (h : Here words ts es None)
+  gains_so : {words : List ℕ} {ts : List (Turn T)} {es : List (Event T)} → (h : Here words ts es None)
       → Gains (first_view {T = T} capacity ∷ []) (first_view {T = T} capacity) (nexts ts) 0 (steps_of_run code kind capacity h.one.turns)
-  gains_so words ts es h =
+  gains_so {ts = ts} h =
       record {
         old = 0;
         n = nexts ts;
@@ -301,7 +301,7 @@ module _ {T : Type 0} (machine : OneMachine T) where
   -- the only pass knows the run of these turns
   pub knows_so : (words : List ℕ) (ts : List (Turn T)) (es : List (Event T)) → Here words ts es None → Knows code kind capacity (maker ts es)
   knows_so words ts es here =
-      knows_all code kind capacity (first_view capacity ∷ []) here.u (maker ts es) here.one here.between.run
+      knows_all code kind capacity here.one here.between.run
       (sym here.turns) (sym here.events) (sym here.others)
       (subst (λ n. HasAsked (maker ts es) n) (sym here.steps) (all_of ts es))
 
@@ -317,9 +317,9 @@ module _ {T : Type 0} (machine : OneMachine T) where
       ∙ (ap (λ o. so here.one.turns es o (state_in here.u.world.kept 0) (others_in here.u.world 0)) here.there
       ∙ (ap (λ z. so here.one.turns es None z (others_in here.u.world 0)) (stateless_none here.u.world.kept 0 (laws.stateless here.u here.between.run))
       ∙ (ap (λ xs. so xs es None None (others_in here.u.world 0)) here.turns ∙ ap (λ n. so ts es None None n) here.others))))
-      (settle_with code kind capacity 0 0 same_seat (nexts ts) 0 0 words (alone words) first es here.u refl (omega arith)
+      (settle_with code kind capacity 0 0 0 words (alone words) refl (omega arith)
       (λ call is. (let no : ◌≡◌ {A = Option (Start T × Flight T)} None (Some call) = sym here.there ∙ is in absurd (cc)))
-      here.between here.one (gains_so words ts es here))
+      here.between here.one (gains_so here))
     where
       -- the view of the only pass, with a call under way, a state and a number of changes by others that its
       -- fields take over

@@ -78,8 +78,8 @@ aside_of v = v.aside
 
 module _ {T : Type 0} where
   -- the share of a seat is a part of the whole
-  pub part_of : (views : List (View T)) (id : ℕ) (v : View T) → get_elem? views id ≡ some v → Shares (λ (v : View T). v.share) views → IsPart v.share
-  part_of views id v has_view shares =
+  pub part_of : {views : List (View T)} (id : ℕ) (v : View T) → get_elem? views id ≡ some v → Shares (λ (v : View T). v.share) views → IsPart v.share
+  part_of {views} id v has_view shares =
       let fit = shares.fits id v has_view in
       let few : shares.each id ≤ shares.whole = (omega (arith, shares.sum, at_most_all shares.each (length views) id (at_below views id v has_view))) in
       let scaled : v.share.parts * shares.each id ≤ v.share.parts * shares.whole = mul-le-mul_left v.share.parts few in
@@ -87,13 +87,13 @@ module _ {T : Type 0} where
 
   -- what one seat has asked for is at most what it has aside and the steps, and just that
   -- with the whole share
-  pub asked_at : (views : List (View T)) (steps id : ℕ) (v : View T) → get_elem? views id ≡ some v → Shares (λ (v : View T). v.share) views
+  pub asked_at : {views : List (View T)} {steps : ℕ} (id : ℕ) {v : View T} → get_elem? views id ≡ some v → Shares (λ (v : View T). v.share) views
       → HaveAsked views steps → HasAsked v steps
-  asked_at views steps id v has_view shares have_asked =
+  asked_at {views} id {v} has_view shares have_asked =
       let most = sum_rest aside_of asked_of views id v has_view (λ j x ne there. have_asked.each j x there) in
       let sum = have_asked.sum in
       record {
-        share = part_of views id v has_view shares;
+        share = part_of id v has_view shares;
         most = omega arith;
         all = λ whole. (
             let spent : (j : ℕ) (x : View T) → j ≢ id → get_elem? views j ≡ some x → x.asked ≡ x.aside =
@@ -103,8 +103,8 @@ module _ {T : Type 0} where
       }
 
   -- with n steps more of the run, the pass has asked for n more operations that are not aside
-  pub has_more : (v w : View T) (old n : ℕ) → HasAsked v old → w.share ≡ v.share → w.asked + v.aside ≡ v.asked + w.aside + n → HasAsked w (old + n)
-  has_more v w old n asked same own =
+  pub has_more : {v w : View T} {old : ℕ} (n : ℕ) → HasAsked v old → w.share ≡ v.share → w.asked + v.aside ≡ v.asked + w.aside + n → HasAsked w (old + n)
+  has_more n asked same own =
       record {
         share = subst IsPart (sym same) asked.share;
         most = omega (arith, asked.most);
@@ -139,13 +139,13 @@ module _ {T : Type 0} where
     pub own : asked + v.aside ≡ v.asked + aside + n
 
   -- the seat's own operations are still counted right
-  pub gains_has : (views : List (View T)) (v w : View T) (steps : ℕ) → Gains views v w.asked w.aside steps → w.share ≡ v.share → HasAsked w steps
-  gains_has views v w steps gains same = subst (λ n. HasAsked w n) (sym gains.more) (has_more v w gains.old gains.n gains.has same gains.own)
+  pub gains_has : {views : List (View T)} {v w : View T} {steps : ℕ} → Gains views v w.asked w.aside steps → w.share ≡ v.share → HasAsked w steps
+  gains_has {v = v} {w = w} gains same = subst (λ n. HasAsked w n) (sym gains.more) (has_more gains.n gains.has same gains.own)
 
   -- after the gain all seats have asked for what they have aside and the steps of the run
-  pub gains_have : (views : List (View T)) (id : ℕ) (v w : View T) (steps : ℕ) → get_elem? views id ≡ some v → Gains views v w.asked w.aside steps
+  pub gains_have : {views : List (View T)} (id : ℕ) {v : View T} (w : View T) {steps : ℕ} → get_elem? views id ≡ some v → Gains views v w.asked w.aside steps
       → 0 < w.share.part → HaveAsked (set views id w) steps
-  gains_have views id v w steps has_view gains some_share =
+  gains_have {views} id {v} w has_view gains some_share =
       subst (λ n. HaveAsked (set views id w) n) (sym gains.more)
       (have_more views id v w gains.old gains.n has_view gains.have gains.own (λ none. absurd (omega arith)))
 
@@ -169,9 +169,9 @@ module _ {T : Type 0} where
       }
 
   -- the new pass of a split, which has asked for nothing yet, keeps `HasAsked`
-  pub right_asked : (old right : View T) (steps : ℕ) → HasAsked old steps → right.share ≡ half_of old.share → right.asked ≡ 0 → right.aside ≡ 0
+  pub right_asked : {old right : View T} {steps : ℕ} → HasAsked old steps → right.share ≡ half_of old.share → right.asked ≡ 0 → right.aside ≡ 0
       → HasAsked right steps
-  right_asked old right steps has_asked share asked aside =
+  right_asked {old} has_asked share asked aside =
       record {
         share = subst IsPart (sym share) (half_part old.share has_asked.share);
         most = omega arith;
@@ -201,10 +201,10 @@ module _ {T : Type 0} where
   -- ---- a join
 
   -- a joined pass has asked for what both asked for and one operation, which is aside
-  pub have_both : (views : List (View T)) (steps id other : ℕ) (v w : View T) → get_elem? views id ≡ some v → other ≢ id → get_elem? views other ≡ some w
+  pub have_both : {views : List (View T)} {steps : ℕ} (id other : ℕ) (v w : View T) → get_elem? views id ≡ some v → other ≢ id → get_elem? views other ≡ some w
       → 0 < v.share.part → Shares (λ (v : View T). v.share) views → HaveAsked views steps
       → HaveAsked (set (set views id (joined_view v w)) other spent_view) steps
-  have_both views steps id other v w has_view apart theirs any shares have_asked =
+  have_both {views} id other v w has_view apart theirs any shares have_asked =
       record {
         -- the sums change by what the two seats had, and by the one operation of the join
         sum = (

@@ -142,7 +142,7 @@ module _ {T C M E : Type 0} (machines : Machines T) (call : Calling T C M E) whe
     nothing_else all alone =
         ⊎_elim (λ (e : v.seen ≡ r.trace.events). no_rest v.seen here.seen.rest (e ∙ here.seen.is))
         (λ (e : v.other ≡ r.trace.events). none_after v.seen here.seen.rest (sym (sym here.seen.is ∙ (sym e ∙ alone))))
-        (known_whole s.views r.trace.events id v at all r.known)
+        (known_whole id at all r.known)
 
     -- a pass with a share has seen all events of its parties, but for what is late
     not_seen : (p : ℕ) → events_by p v.seen ++ events_by p here.late ≡ events_by p r.trace.events → events_by p here.seen.rest ≡ events_by p here.late
@@ -154,7 +154,7 @@ module _ {T C M E : Type 0} (machines : Machines T) (call : Calling T C M E) whe
 
     -- what the seat has asked for is counted right
     pub has_asked : HasAsked v (steps_of_run code kind key r.one.turns)
-    has_asked = asked_at s.views (steps_of_run code kind key r.one.turns) id v at r.known.shares r.asked
+    has_asked = asked_at id at r.known.shares r.asked
 
     -- what is late may come late for the seat's call
     late_here : IsLate kind v.going here.late
@@ -176,17 +176,17 @@ module _ {T C M E : Type 0} (machines : Machines T) (call : Calling T C M E) whe
 
     -- of a call under way: since it began, or since the drive began, its party has written what the call
     -- tells and what is late, and nothing else
-    later_prior : (p : ℕ) → r.owner p ≡ id → v.party ≡ Some p → (base : View T)
+    later_prior : {p : ℕ} → r.owner p ≡ id → v.party ≡ Some p → {base : View T}
         → v.going ≡ Some (call.start, call.flight c m) → CallStands base v c m
         → Told_by p c m base r.trace.events (v.made ++ here.late)
     -- the call was about to begin: then the view has no call under way, against `going`
-    later_prior p mine party base going (inl first) =
+    later_prior mine party going (inl first) =
         let no : ◌≡◌ {A = Option (Start T × Flight T)} None (Some (call.start, call.flight c m)) =
         sym first.idle ∙ (ap (λ (z : View T). z.going) (sym first.is) ∙ going) in
         absurd (cc)
     -- the call was under way: the events that the seat has still to see come behind those
     -- since the drive began
-    later_prior p mine party base going (inr k) =
+    later_prior {p} mine party {base} going (inr k) =
         let both : ◌≡◌ {A = Option ℕ} (Some k.party) (Some p) = sym k.mine ∙ party in
         let same : k.party ≡ p = cc in
         subst (λ q. Told_by q c m base r.trace.events (v.made ++ here.late)) same
@@ -308,7 +308,7 @@ module _ {T C M E : Type 0} (machines : Machines T) (call : Calling T C M E) whe
               omega (arith, here.made f)));
           there = here.going p mine under.mine ∙ under.going;
           by = λ base' stage. later_by p under.mine base' under.going stage;
-          prior = λ base' stage. later_prior p mine under.mine base' under.going stage;
+          prior = λ base' stage. later_prior mine under.mine under.going stage;
           counted = here.counted p mine under.mine (call.start, call.flight c m) under.going ∙ sym (ap (λ o. taken_by o v.taken) under.going);
           began = λ none. (let no : ◌≡◌ {A = Option (Start T × Flight T)} None (Some (call.start, call.flight c m)) = sym none ∙ under.going in absurd (cc));
           held = λ has. here.stated p mine under.mine;

@@ -33,12 +33,14 @@ module _ {T C M E : Type 0} (machines : Machines T) (call : Calling T C M E) whe
 
   -- From the view `base` on, the call has come further by what a turn of its party wrote, and by its end,
   -- where the turn ends it.
-  pub since_turn : (turns : List (Turn T)) (asked aside p id : ℕ) (turn : Turn T) (u : Trace T) (v base : View T) (gained wrote effs last : List (Event T))
+  pub since_turn : (turns : List (Turn T)) (asked aside : ℕ) {p : ℕ} (id : ℕ) (turn : Turn T) (u : Trace T)
+      (v : View T) {base : View T} (gained : List (Event T)) {wrote : List (Event T)} (effs : List (Event T))
+      {last : List (Event T)}
       → Prior p call.start wrote base u.events (v.made ++ gained) → events_of u.world turn ≡ effs ++ last
       → events_by p (events_of u.world turn) ≡ events_by p effs ++ last
       → Since p call.start (wrote ++ events_by p effs) last base
       (view_after code kind base.capacity id p turns asked aside v (gained ++ events_by p (events_of u.world turn)) (after_turn u turn))
-  since_turn turns asked aside p id turn u v base gained wrote effs last prior told_now own_now =
+  since_turn turns asked aside {p} id turn u v {base} gained {wrote} effs {last} prior told_now own_now =
       record {
         others = prior.others;
         during = prior.during ++ effs;
@@ -139,7 +141,7 @@ module _ {T C M E : Type 0} (machines : Machines T) (call : Calling T C M E) whe
 
     -- what the seat has asked for is still counted right
     has_then : HasAsked view_then (steps_of_run code kind key next_between.one.turns)
-    has_then = gains_has s.views v view_then (steps_of_run code kind key next_between.one.turns) gains_then refl
+    has_then = gains_has gains_then refl
 
     -- the machine after the step is that of the run which the seat knows then
     one_then : (base : View T) → CallStands base v c m → then_trace ≡ run_of code kind base.capacity next_between.one.turns
@@ -148,11 +150,11 @@ module _ {T C M E : Type 0} (machines : Machines T) (call : Calling T C M E) whe
         ∙ ap (λ n. run_of code kind n next_between.one.turns) (sym known ∙ same_capacity code kind call base v c m stage)
 
     -- the run that was known as the drive began goes on to the run with this step
-    ran_then : (base : View T) → CallStands base v c m → Continues code kind base.capacity base view_then
-    ran_then base stage =
+    ran_then : {base : View T} → CallStands base v c m → Continues code kind base.capacity base view_then
+    ran_then {base} stage =
         subst (λ n. Continues code kind n base view_then) (sym known ∙ same_capacity code kind call base v c m stage)
         (continues_further code kind key base v view_then (came_first code kind call base v c m stage)
-        (continues_all code kind key s.views then_trace id v view_then next_between.one at next_between.run refl refl refl has_then))
+        (continues_all code kind key id next_between.one at next_between.run refl refl refl has_then))
 
     -- the effects of the step
     abbrev effs : List (Event T)
@@ -183,18 +185,18 @@ module _ {T C M E : Type 0} (machines : Machines T) (call : Calling T C M E) whe
 
     -- from `base` on, the call has come further by what the step wrote, and by its end,
     -- where the step ends it
-    since_then : (base : View T) (wrote last : List (Event T))
+    since_then : {base : View T} {wrote last : List (Event T)}
         → Prior y.p call.start wrote base y.u.events (v.made ++ y.gained)
         → ending_of y.p call.start (answer_in (comes_now)) ≡ last
         → Since y.p call.start (wrote ++ mine_now) last base view_then
-    since_then base wrote last prior ends =
+    since_then {base} {wrote} {last} prior ends =
         let told_now : events_of y.u.world (Next y.p) ≡ effs ++ last = turn_told turn_next
         ∙ ap (λ zs. effs ++ zs) ends
         in
         let own_now : events_by y.p (events_of y.u.world (Next y.p)) ≡ mine_now ++ last = own_told turn_next
         ∙ ap (λ zs. mine_now ++ zs) ends
         in
-        since_turn next_between.one.turns (v.asked + 1) (v.aside + none_count ask) y.p id (Next y.p) y.u v base y.gained wrote effs last prior told_now own_now
+        since_turn next_between.one.turns (v.asked + 1) (v.aside + none_count ask) id (Next y.p) y.u v y.gained effs prior told_now own_now
 
     -- the step adds one to the call's steps where it asks for a word
     steps_then : steps_in then_trace.world y.p ≡ steps_in y.u.world y.p + step_count ask
@@ -238,9 +240,9 @@ module _ {T C M E : Type 0} (machines : Machines T) (call : Calling T C M E) whe
         ∙ (y.state leaves (party_now base stage was) ∙ state_now base stage leaves was)
 
     -- where the step ends the call, it is the last turn of the history, and wrote the response
-    last_then : (base : View T) → CallStands base v c m → (end : Event T) → ending_of y.p call.start (answer_in (comes_now)) ≡ end ∷ []
+    last_then : (base : View T) → CallStands base v c m → {end : Event T} → ending_of y.p call.start (answer_in (comes_now)) ≡ end ∷ []
         → LastStep code kind base.capacity y.p end view_then.seen
-    last_then base stage end ends =
+    last_then base stage ends =
         record {
           old = y.u;
           run = (met base stage).run;
@@ -257,14 +259,14 @@ module _ {T C M E : Type 0} (machines : Machines T) (call : Calling T C M E) whe
     aside_then base (inr under) = under.aside
 
     -- where the step leads to another stage, the call is under way there
-    pub goes_then : (base : View T) (stage : CallStands base v c m) (d : C) (m' : M)
+    pub goes_then : {base : View T} (stage : CallStands base v c m) {d : C} {m' : M}
         → comes_now ≡ GoOn (call.flight d m') → call.stands base.capacity d → ((n : ℕ) → call.skips d n ≡ false)
         → ((es late : List (Event T)) → call.wrote base.capacity y.p base.going c m es
         → IsLate kind (Some (call.start, flight_now)) late
         → Met code kind base.capacity call.start flight_now y.p base.going (es ++ late) found y.u
         → call.wrote base.capacity y.p base.going d m' ((es ++ late) ++ mine_now))
         → StepsOnly base view_then → none_count ask ≡ 0 → IsUnderWay code kind call base view_then d m'
-    goes_then base stage d m' afters standing past tells steps word =
+    goes_then {base} stage afters standing past tells steps word =
         let before = y.prior base stage in
         record {
           -- the step changes neither capacity nor share, and the call stands at its next stage
@@ -286,11 +288,11 @@ module _ {T C M E : Type 0} (machines : Machines T) (call : Calling T C M E) whe
           wrote = (before.wrote ++ before.late) ++ mine_now;
           tells = tells before.wrote before.late before.tells before.waits (met base stage);
           since =
-              since_then base (before.wrote ++ before.late) [] before.prior
+              since_then before.prior
               (ap (λ (a : After (Flight T) (Answer T)). ending_of y.p call.start (answer_in a)) afters);
           -- what is seen is the history of the machine after the step
           history = record { trace = then_trace; run = run_then base stage; is = refl };
-          ran = ran_then base stage;
+          ran = ran_then stage;
           stood = record { trace = then_trace; run = run_then base stage; is = refl; there = going_then ∙ ap (call_then call.start) afters };
           -- who has the whole share has made all that is seen
           all = all_then base stage;
@@ -322,11 +324,11 @@ module _ {T C M E : Type 0} (machines : Machines T) (call : Calling T C M E) whe
           tells = tells before.wrote before.late before.tells before.waits (met base stage);
           -- its response is the last event that is seen
           since =
-              since_then base (before.wrote ++ before.late) (Finished y.p call.start (call.answer end m') ∷ [])
+              since_then
               before.prior (ap (λ (a : After (Flight T) (Answer T)). ending_of y.p call.start (answer_in a)) afters);
           history = record { trace = then_trace; run = run_then base stage; is = refl };
-          ran = ran_then base stage;
-          last = last_then base stage (Finished y.p call.start (call.answer end m'))
+          ran = ran_then stage;
+          last = last_then base stage
               (ap (λ (a : After (Flight T) (Answer T)). ending_of y.p call.start (answer_in a)) afters);
           -- in the run that is known then, this call is the party's latest one
           named =

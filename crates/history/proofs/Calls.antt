@@ -110,9 +110,9 @@ module _ {T : Type 0} where
   steps_begin_own w p start flight (Some f) o_is_some = ap steps_of (party_put_same p _ w.latest)
 
   -- a step of the party's call adds one where it asks for a word, and else none
-  pub steps_next_own : (w : World T) (p : ℕ) (start : Start T) (flight : Flight T) (h : Stands w p start flight)
+  pub steps_next_own : {w : World T} {p : ℕ} {start : Start T} {flight : Flight T} (h : Stands w p start flight)
       → steps_in (after_next w p (party_of p w.latest)) p ≡ steps_in w p + step_count (ask_of (want_of w.coding flight))
-  steps_next_own w p start flight h = rw (h.found, h.doing) (ap steps_of (party_put_same p _ w.latest))
+  steps_next_own {w} {p} h = rw (h.found, h.doing) (ap steps_of (party_put_same p _ w.latest))
 
   -- as the party begins a call, others have changed no word during it
   pub others_begin_own : (w : World T) (p : ℕ) (start : Start T) (flight : Flight T) (o : Option (Flight T))
@@ -131,21 +131,21 @@ module _ {T : Type 0} where
   no_more_others since changes more (Done answer) = omega arith
 
   -- a step of the party's call leaves the number of changes by others
-  pub others_next_own : (w : World T) (p : ℕ) (start : Start T) (flight : Flight T) (h : Stands w p start flight)
+  pub others_next_own : {w : World T} {p : ℕ} {start : Start T} {flight : Flight T} (h : Stands w p start flight)
       → others_in (after_next w p (party_of p w.latest)) p ≡ others_in w p
-  others_next_own w p start flight h =
+  others_next_own {w} {p} {flight = flight} h =
       rw (h.found, h.doing) (ap (others_so (w.changes + change_of w.words (ask_of (want_of w.coding flight)))) (party_put_same p _ w.latest)
       ∙ no_more_others h.since w.changes (change_of w.words (ask_of (want_of w.coding flight))) _)
 
   -- after a step the party's latest call still has the start with which it began
-  pub started_next_own : (w : World T) (p : ℕ) (start : Start T) (flight : Flight T) (h : Stands w p start flight)
+  pub started_next_own : {w : World T} {p : ℕ} {start : Start T} {flight : Flight T} (h : Stands w p start flight)
       → started (party_of p (after_next w p (party_of p w.latest)).latest) ≡ Some start
-  started_next_own w p start flight h = rw (h.found, h.doing) (ap started (party_put_same p _ w.latest) ∙ ap Some h.named)
+  started_next_own {w} {p} h = rw (h.found, h.doing) (ap started (party_put_same p _ w.latest) ∙ ap Some h.named)
 
   -- an answer to a question adds no step
-  pub steps_decision_own : (w : World T) (p : ℕ) (start : Start T) (flight : Flight T) (said : Bool) (h : Stands w p start flight)
+  pub steps_decision_own : {w : World T} {p : ℕ} {start : Start T} {flight : Flight T} (said : Bool) (h : Stands w p start flight)
       → steps_in (after_decision w p said (party_of p w.latest)) p ≡ steps_in w p + 0
-  steps_decision_own w p start flight said h = rw (h.found, h.doing) (ap steps_of (party_put_same p _ w.latest))
+  steps_decision_own {w} {p} said h = rw (h.found, h.doing) (ap steps_of (party_put_same p _ w.latest))
 
   -- ---- what the machine keeps
 
@@ -193,9 +193,9 @@ module _ {T : Type 0} where
   begin_kept w p start flight (Some f) o_is_some = refl
 
   -- what the machine keeps after a step is what the step of the call makes of it
-  pub next_kept : (w : World T) (p : ℕ) (start : Start T) (flight : Flight T) (h : Stands w p start flight)
+  pub next_kept : {w : World T} {p : ℕ} {start : Start T} {flight : Flight T} (h : Stands w p start flight)
       → (after_next w p (party_of p w.latest)).kept ≡ (step_in w p h.x flight (old_of w.words (ask_of (want_of w.coding flight)))).kept
-  next_kept w p start flight h = rw (h.found, h.doing) refl
+  next_kept h = rw (h.found, h.doing) refl
 
   -- the party's call after a step: at the next flight, or none where the call has ended
   abbrev pub call_then : Start T → After (Flight T) (Answer T) → Option (Start T × Flight T)

@@ -201,8 +201,8 @@ IsCallThere machines driven = StepsThere (AsksThere machines.size_of driven) mac
 
 -- A call whose effects depend on its stage alone, on a kind where nobody writes for another: its steps are
 -- those of the more general kind.
-module _ {T C M E Asks : Type 0} (code : Coding T) (kind : Kind) (effects : World T → ℕ → Flight T → ℕ → List (Event T))
-    (own : ℕ → Flight T → ℕ → List (Event T)) (driven : Driven T C M E)
+module _ {T C M E Asks : Type 0} {code : Coding T} {kind : Kind} (effects : World T → ℕ → Flight T → ℕ → List (Event T))
+    {own : ℕ → Flight T → ℕ → List (Event T)} {driven : Driven T C M E}
     (never : (c : C) (m : M) (late : List (Event T)) → IsLate kind (Some (driven.call.start, driven.call.flight c m)) late → late ≡ [])
     (same : (capacity p : ℕ) (c : C) (m : M) (n : ℕ) (t : Trace T) → IsRun code kind capacity t
     → call_in t.world p ≡ Some (driven.call.start, driven.call.flight c m)
@@ -260,8 +260,8 @@ pub record ActsAlone {T C M E : Type 0} (code : Coding T) (kind : Kind) (effects
   pub alike : (capacity p : ℕ) (c : C) (m : M) (n : ℕ) (t : Trace T) → IsRun code kind capacity t
       → goes_of code p (call.flight c m) n t.world.kept ≡ after_of code (call.flight c m) n
 
-module _ {T C M E : Type 0} (code : Coding T) (kind : Kind) (effects : World T → ℕ → Flight T → ℕ → List (Event T))
-    (own : ℕ → Flight T → ℕ → List (Event T)) (call : Calling T C M E) (acts : ActsAlone code kind effects own call) where
+module _ {T C M E : Type 0} {code : Coding T} {kind : Kind} {effects : World T → ℕ → Flight T → ℕ → List (Event T)}
+    {own : ℕ → Flight T → ℕ → List (Event T)} {call : Calling T C M E} (acts : ActsAlone code kind effects own call) where
   -- the events of a step are those of its own party
   pub written_alone : (capacity p : ℕ) (c : C) (m : M) (n : ℕ) (t : Trace T) → IsRun code kind capacity t
       → call_in t.world p ≡ Some (call.start, call.flight c m)
@@ -269,11 +269,11 @@ module _ {T C M E : Type 0} (code : Coding T) (kind : Kind) (effects : World T �
   written_alone = grind (arith, by_mine)
 
 -- on a kind whose parties write for themselves alone, the steps of a call are steps of the more general kind
-pub steps_alone : {T C M E Asks : Type 0} (code : Coding T) (kind : Kind) (effects : World T → ℕ → Flight T → ℕ → List (Event T))
-    (own : ℕ → Flight T → ℕ → List (Event T)) (driven : Driven T C M E)
+pub steps_alone : {T C M E Asks : Type 0} {code : Coding T} {kind : Kind} {effects : World T → ℕ → Flight T → ℕ → List (Event T)}
+    {own : ℕ → Flight T → ℕ → List (Event T)} {driven : Driven T C M E}
     → ActsAlone code kind effects own driven.call → StepsOf Asks code own driven → StepsThere Asks code kind effects driven
-steps_alone code kind effects own driven acts steps_of =
-    steps_as code kind effects own driven acts.never (written_alone code kind effects own driven.call acts) steps_of
+steps_alone {code = code} {kind = kind} {effects = effects} {own = own} {driven = driven} acts steps_of =
+    steps_as effects acts.never (written_alone acts) steps_of
     (λ capacity p c m n t run there stands. acts.alike capacity p c m n t run ∙ steps_of.same_after capacity c m n stands)
 
 -- no stage of the call is one at which a push loads its position, or a store its version

@@ -242,7 +242,7 @@ module _ {T R : Type 0} (code : Coding T) (law : IsCoding code) (words_in : R �
   container_find_word base v c m key words slots id still wide known at_asked =
       keeps_word (container_machines code) tt (plain_effects code) driven
       (plain_acts code finding (λ c m. tt)) find_call (Ends code kinds.Container finding) (λ base e m w h. h)
-      base v c m key words slots id wide known still at_asked
+      base v c m slots id wide known still at_asked
 
   -- a find that has asked goes on from the answer
   pub container_find_hears : (base v : View T) (c d : Finding T R) (m : Room) (said : Bool) → is_question (want c) ≡ true
@@ -338,7 +338,7 @@ module _ {T R : Type 0} (code : Coding T) (law : IsCoding code) (words_in : R �
       go (inl x) (inr y) = grind (arith, start)
       go (inr x) (inl y) = grind (arith, start)
       go (inr x) (inr y) =
-          let same = same_written code kinds.Container finding base other v x.0 y.0 x.1 y.1 idle still x.3 y.3
+          let same = same_written code kinds.Container finding idle still x.3 y.3
           (long base x.0 x.1 idle x.3) (long other y.0 y.1 still y.3) in
           let lists : copies_of x.3.party x.1.1 ≡ copies_of x.3.party y.1.1 = sym (x.3.tells idle)
           ∙ (same.1 ∙ (y.3.tells still ∙ ap (λ q. copies_of q y.1.1) (sym same.0))) in
@@ -352,8 +352,8 @@ module _ {T R : Type 0} (code : Coding T) (law : IsCoding code) (words_in : R �
   no_ends = grind arith
 
   -- a find that rests at its question leaves a view whose call rests
-  pub find_rests : (base v : View T) (e : ℕ) (m : Room) → RestsAt code kinds.Container after kept finding base v e m → IsResting code v
-  find_rests base v e m rests_at =
+  pub find_rests : {base v : View T} {e : ℕ} {m : Room} → RestsAt code kinds.Container after kept finding base v e m → IsResting code v
+  find_rests {base} {v} {e} {m} rests_at =
       let under = rests_at.before in
       record {
         party = under.party;
@@ -372,4 +372,4 @@ module _ {T R : Type 0} (code : Coding T) (law : IsCoding code) (words_in : R �
   pub find_rests_so : (base v : View T) (e : ℕ) (m : Room) (h : RestsAt code kinds.Container after kept finding base v e m)
       → (r : IsResting code v) × (r.party ≡ h.before.party) × (r.start ≡ Container (Find owner)) × (r.answer ≡ answers.Number e)
   unfolding find_rests
-  find_rests_so base v e m h = (find_rests base v e m h, refl, refl, refl)
+  find_rests_so base v e m h = (find_rests h, refl, refl, refl)

@@ -125,11 +125,11 @@ module _ {T R : Type 0} (code : Coding T) (law : IsCoding code) (words_in : R �
   WroteAt p stage value visits es = VisitsAt stage value visits × (es ≡ wrote_visits p given.owner visits ++ told_yet p given.owner stage)
 
   -- after a step the recovery goes on or ends, and has written what its visits tell
-  goes_so : (capacity p : ℕ) (c : Recovering T R) (m : Room) (n : ℕ) (es : List (Event T)) (r : After (Recovering T R) ReleaseState)
+  goes_so : (capacity p : ℕ) (c : Recovering T R) (m : Room) (n : ℕ) {es : List (Event T)} (r : After (Recovering T R) ReleaseState)
       → (h : recovering.stands capacity c) → WroteAt p c.stage (value_at m) m.1 es → after c n ≡ r
       → RecoverGoes code has_words words_in capacity c h.0 p given (value_at (kept c m n)) (kept c m n).1
       (es ++ plain_effects code p (recovering.flight c m) n) r
-  goes_so capacity p c m n es r h wrote_at leads =
+  goes_so capacity p c m n {es} r h wrote_at leads =
       subst (RecoverGoes code has_words words_in capacity c h.0 p given (value_at (kept c m n)) (kept c m n).1
       (es ++ plain_effects code p (recovering.flight c m) n))
       leads
@@ -205,8 +205,8 @@ module _ {T R : Type 0} (code : Coding T) (law : IsCoding code) (words_in : R �
                     finds = λ c m n small t. tt;
                     leaves = λ c a n t e. absurd (cc);
                     -- what a step writes, and what the last step writes, is what the visits tell
-                    tells = λ capacity p from c d m n es h wrote e new. (goes_so capacity p c m n es (GoOn d) h (wrote new) e).1;
-                    tells_all = λ capacity p from c end m n es h skip wrote e still new. goes_so capacity p c m n es (Done end) h (wrote new) e;
+                    tells = λ capacity p from c d m n es h wrote e new. (goes_so capacity p c m n (GoOn d) h (wrote new) e).1;
+                    tells_all = λ capacity p from c end m n es h skip wrote e still new. goes_so capacity p c m n (Done end) h (wrote new) e;
                   };
               -- its stage can be told from its flight, and an answer changes nothing that was written
               never = λ c n. refl;
@@ -229,13 +229,13 @@ module _ {T R : Type 0} (code : Coding T) (law : IsCoding code) (words_in : R �
   -- each step of a recovery keeps the rule of the table; at a question the machine is handed the answer with the step after it
   pub container_recover_keeps : KeepsSo code kinds.Container (container_words code) driven (AtAsked code kinds.Container after kept recovering)
       (Ends code kinds.Container recovering)
-  container_recover_keeps = keeps_asked (container_machines code) tt (plain_effects code) driven (plain_acts code recovering (λ c m. tt)) recover_call
+  container_recover_keeps = keeps_asked (container_machines code) tt (plain_acts code recovering (λ c m. tt)) recover_call
 
   -- a recovery that is answered so that it goes on has heard the answer
   pub container_recover_hears : (base v : View T) (c d : Recovering T R) (m : Room) (said : Bool) → is_question (want c) ≡ true
       → after c (number_of said) ≡ GoOn d → AtAsked code kinds.Container after kept recovering base v c m
       → AtAsked code kinds.Container after kept recovering base v d (kept c m (number_of said))
-  container_recover_hears = hears_answer (container_machines code) tt (plain_effects code) driven (plain_acts code recovering (λ c m. tt)) recover_call
+  container_recover_hears = hears_answer (container_machines code) tt (plain_acts code recovering (λ c m. tt)) recover_call
 
   -- a recovery begins in a room of zeros in which a value fits
   pub container_recover_first : (v : View T) (m : Room) → room_in m.0 ≡ fresh_cell → m.1 ≡ [] → v.going ≡ None
@@ -289,7 +289,7 @@ module _ {T R : Type 0} (code : Coding T) (law : IsCoding code) (words_in : R �
       -- both are under way: they are one call of one party, so their visits write the same events
       go (inr x) (inr y) =
           let party_now = x.3.party in
-          let same = same_written code kinds.Container recovering base other v x.0 y.0 x.1 y.1 idle still x.3 y.3
+          let same = same_written code kinds.Container recovering idle still x.3 y.3
           (long base x.0 x.1 idle x.3) (long other y.0 y.1 still y.3) in
           let both : ◌≡◌ {A = Option (Start T × Flight T)} (Some (start, recovering.flight x.0 x.1))
           (Some (start, recovering.flight y.0 y.1)) =

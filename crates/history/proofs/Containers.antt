@@ -81,8 +81,8 @@ module _ {T : Type 0} (code : Coding T) (capacity : ℕ) where
   by_word = record { by = Word; kept = false }
 
   -- an open run of a container keeps the invariant of its laws
-  container_sound : (t : Trace T) → IsOn t → frame.Sound (family_by by_word t.world.coding t.world.capacity) t
-  container_sound t is_on = reached_open_sound t is_on.of_kind is_on.reached
+  container_sound : {t : Trace T} → IsOn t → frame.Sound (family_by by_word t.world.coding t.world.capacity) t
+  container_sound {t} is_on = reached_open_sound t is_on.of_kind is_on.reached
 
   -- in an open run nobody has died
   all_live : (t : Trace T) → IsOn t → AllLive t.events
@@ -100,7 +100,7 @@ module _ {T : Type 0} (code : Coding T) (capacity : ℕ) where
   pub kept_there : (t : Trace T) → IsOn t → (dead : List ℕ) × (states : List (ℕ × ContainerState T))
       × (t.world.kept ≡ registries.Container dead states) × ((owner : ℕ) → has_died owner dead ≡ false)
   kept_there t is_on =
-      let is_sound = container_sound t is_on in (
+      let is_sound = container_sound is_on in (
         is_sound.state.dead,
         is_sound.state.states,
         is_sound.fit.kept,
@@ -116,7 +116,7 @@ module _ {T : Type 0} (code : Coding T) (capacity : ℕ) where
       → FlightAt c z all done start flight
       → first_row (going_rows t.world.coding t.world.kept (Some flight) None) ≡ None
   no_rows t is_on c z all done (Container start) (flights.Container flight) flight_at =
-      step_is_free by_word t.world.coding t.world.capacity t (container_sound t is_on) (all_live t is_on) flight
+      step_is_free by_word t.world.coding t.world.capacity t (container_sound is_on) (all_live t is_on) flight
   no_rows t is_on c z all done start flight flight_at = absurd flight_at
 
   -- what the model's step of a call writes is what `kept_effects` says
@@ -136,7 +136,7 @@ module _ {T : Type 0} (code : Coding T) (capacity : ℕ) where
       → StepsOn code kinds.Container capacity (container_words code capacity) container_effects t p flight
   steps_on t is_on p start flight call_is =
       let world_now = t.world in
-      let is_sound = container_sound t is_on in
+      let is_sound = container_sound is_on in
       let here = stands world_now p start flight call_is in
       let there = stands_there (family_by by_word world_now.coding world_now.capacity) t is_sound p here.x here.since flight here.found here.doing in
       let all : List SetAct = set_acts_of p is_sound.state.events in
@@ -189,10 +189,10 @@ module _ {T : Type 0} (code : Coding T) (capacity : ℕ) where
   -- each call takes at most the steps that the model promises of a container
   pub container_pays : Pays code kinds.Container capacity
   container_pays t r =
-      (let is_sound = container_sound t r in
+      (let is_sound = container_sound r in
       let F = family_by by_word t.world.coding t.world.capacity in
-      pays_run code kinds.Container capacity t r F refl is_sound
-      (progress_within code kinds.Container capacity t r F refl is_sound (word_bounds t.world.coding t.world.capacity)))
+      pays_run r refl is_sound
+      (progress_within r refl is_sound (word_bounds t.world.coding t.world.capacity)))
 
 -- ---- which party may begin a call
 
@@ -246,7 +246,7 @@ pub container_keeps : {T C M E : Type 0} (code : Coding T) (driven : Driven T C 
     → KeepsEnds code kinds.Container (container_words code) driven
 container_keeps code driven plain is_call =
     keeps_all_there (container_machines code) driven
-    (steps_alone code kinds.Container container_effects (plain_effects code) driven (plain_acts code driven.call plain) is_call)
+    (steps_alone (plain_acts code driven.call plain) is_call)
 
 -- a call that asks for one of fewer words asks for one of more
 pub fewer : (some more : ℕ) (want : Want (Unit {0})) → some ≤ more → AsksFor some want → AsksFor more want

@@ -159,7 +159,7 @@ module _ {T C M E : Type 0} (machines : Machines T) (decides : MayDecide machine
 
     -- what the seat has asked for is still counted right
     has_heard : HasAsked view_heard (steps_of_run code kind key between_heard.one.turns)
-    has_heard = gains_has s.views v view_heard (steps_of_run code kind key between_heard.one.turns) gains_heard refl
+    has_heard = gains_has gains_heard refl
 
     -- the table with this view is a machine
     machine_heard : IsMachine code kind key table_heard
@@ -201,7 +201,7 @@ module _ {T C M E : Type 0} (machines : Machines T) (decides : MayDecide machine
       all_its_own =
           ap (λ zs. (told_by.wrote ++ zs) ++ events_by y.p effs) (acts.never h.asking h.room told_by.late told_by.waits)
           ∙ (ap (λ zs. zs ++ events_by y.p effs) (append-nil told_by.wrote)
-          ∙ ap (λ zs. told_by.wrote ++ zs) (written_alone code kind effects own call acts key y.p h.asking h.room n y.u y.between.run y.there))
+          ∙ ap (λ zs. told_by.wrote ++ zs) (written_alone acts key y.p h.asking h.room n y.u y.between.run y.there))
 
       -- with the effects of the answer, the call has written what it may have written up to its next stage
       tells_then : call.wrote base.capacity y.p base.going c m (told_by.wrote ++ mine)
@@ -210,8 +210,7 @@ module _ {T C M E : Type 0} (machines : Machines T) (decides : MayDecide machine
       -- since the drive began, the view has gained these events of the call
       since_then : Since y.p call.start ((told_by.wrote ++ told_by.late) ++ events_by y.p effs) [] base view_heard
       since_then =
-          since_turn machines call between_heard.one.turns v.asked v.aside y.p id (Decide y.p h.said) y.u v base y.gained
-          (told_by.wrote ++ told_by.late) effs [] told_by.prior told_heard
+          since_turn machines call between_heard.one.turns v.asked v.aside id (Decide y.p h.said) y.u v y.gained effs told_by.prior told_heard
           (ap (events_by y.p) told_heard ∙ by_more y.p effs [])
 
       -- an answer is no look of a state, so the state of the party stays
@@ -239,7 +238,7 @@ module _ {T C M E : Type 0} (machines : Machines T) (decides : MayDecide machine
       ran_then =
           subst (λ n. Continues code kind n base view_heard) (sym known ∙ k.before.capacity)
           (continues_further code kind key base v view_heard k.before.ran.first
-          (continues_all code kind key s.views u_then id v view_heard between_heard.one at between_heard.run refl refl refl has_heard))
+          (continues_all code kind key id between_heard.one at between_heard.run refl refl refl has_heard))
 
       -- after the answer the call is under way at its next stage, whatever the view with which its drive began
       lifted : IsUnderWay code kind call base view_heard c m
@@ -308,7 +307,7 @@ module _ {T C M E : Type 0} (machines : Machines T) (decides : MayDecide machine
 
   -- the steps of the call, as steps of the more general kind
   steps_there : StepsThere (AsksElse size_of driven) code kind effects driven
-  steps_there = steps_alone code kind effects own driven acts steps
+  steps_there = steps_alone acts steps
 
   -- what a step from this stage has to tell, where the call has heard none
   abbrev ToldSo : C → M → View T → ℕ → View T → Type 0
@@ -343,7 +342,7 @@ module _ {T C M E : Type 0} (machines : Machines T) (decides : MayDecide machine
     at_word base v known stage =
         let size : key ≡ base.capacity = sym known ∙ same_size base v c m (inl stage) in
         subst (λ w. Owes (λ (z : View T). z.asked) (IsMachine code kind key) words slots id (ToldSo c m) w (v, [])) asked.2
-        (keeps_at machines driven steps_there base v c m key words slots id wide known stage
+        (keeps_at machines driven steps_there base v c m slots id wide known stage
         (subst (λ i. AsksFor (size_of i) (want c)) size asked))
 
     -- a call that has heard no answer owes just the step at its word
@@ -404,10 +403,10 @@ module _ {T C M E : Type 0} (machines : Machines T) (decides : MayDecide machine
         as_heard s r at base (inr k) = inr (lifted (hearing s r at) base k)
 
   -- at a word, each step keeps the rule, where the call can end by a step alone
-  pub keeps_word : (base₀ v : View T) (c : C) (m : M) (key words slots id : ℕ) → words ≡ size_of key + 1 → v.capacity ≡ key
+  pub keeps_word : (base₀ v : View T) (c : C) (m : M) {key words : ℕ} (slots id : ℕ) → words ≡ size_of key + 1 → v.capacity ≡ key
       → is_question (want c) ≡ false → AtAsked code kind after kept call base₀ v c m
       → Owes (λ (z : View T). z.asked) (IsMachine code kind key) words slots id (ToldAsked c m) (want c) (v, [])
-  keeps_word base₀ v c m key words slots id wide known still at₀ = go_at (steps.asks key c stands_so still)
+  keeps_word base₀ v c m {key} {words} slots id wide known still at₀ = go_at (steps.asks key c stands_so still)
     where
       -- the stage is one of the call
       stands_so : call.stands key c
@@ -444,7 +443,7 @@ module _ {T C M E : Type 0} (machines : Machines T) (decides : MayDecide machine
     -- each step of the call keeps the rule of the table, at a word and at a question
     pub keeps_said : KeepsSo code kind size_of driven (AtAsked code kind after kept call) Finished
     keeps_said base₀ v c m key words slots id wide known at₀ = by_bool (is_question (want c)) (λ due. at_question (want c) refl due)
-        (λ still. keeps_word base₀ v c m key words slots id wide known still at₀)
+        (λ still. keeps_word base₀ v c m slots id wide known still at₀)
       where
         -- a call at a question owes nothing at the words until the answer is there
         at_question : (w : Want (Unit {0})) → want c ≡ w → is_question w ≡ true
@@ -462,8 +461,8 @@ pub record IsAskingOf {T C M E : Type 0} (code : Coding T) (kind : Kind) (effect
   -- no answer ends the call
   pub lasts : (c : C) (e : E) (n : ℕ) → is_question (driven.want c) ≡ true → driven.after c n ≡ Done e → ⊥
 
-module _ {T C M E : Type 0} (machines : Machines T) (decides : MayDecide machines.kind) (own : ℕ → Flight T → ℕ → List (Event T))
-    (driven : Driven T C M E) (acts : ActsAlone machines.code machines.kind machines.effects own driven.call)
+module _ {T C M E : Type 0} (machines : Machines T) (decides : MayDecide machines.kind) {own : ℕ → Flight T → ℕ → List (Event T)}
+    {driven : Driven T C M E} (acts : ActsAlone machines.code machines.kind machines.effects own driven.call)
     (is_call : IsAskingOf machines.code machines.kind own machines.size_of driven) where
   open machines use {code, kind, size_of}
   open driven use {want, after, kept, call}

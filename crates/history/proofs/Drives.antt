@@ -86,8 +86,7 @@ module _ {T C M E Asks : Type 0} (machines : Machines T) (driven : Driven T C M 
     -- what is known of the call after the step
     known_then : (base : View T) → At code kind call base v c m → (r : After C E) → after c n ≡ r → KnownAfter base r (kept c m n) view_now
     known_then base stage (GoOn d) leads =
-        inr (goes_then machines call step
-        base stage d (kept c m n) (comes_there base stage ∙ ap (λ r. goes call r (kept c m n)) leads)
+        inr (goes_then machines call step stage (comes_there base stage ∙ ap (λ r. goes call r (kept c m n)) leads)
         (is_call.stays base.capacity c d n (still_stands code kind call base v c m stage) leads)
         (λ k. is_call.past base.capacity c d n k (still_stands code kind call base v c m stage) leads)
         (λ es late h waits met. is_call.tells base.capacity y.p base.going c d m n es late y.u
@@ -189,11 +188,11 @@ module _ {T C M E Asks : Type 0} (machines : Machines T) (driven : Driven T C M 
   ToldOver c m = Told (λ (z : View T). z.capacity) (At code kind call) (Over code kind call) after kept c m
 
   -- each step of a call at a word keeps the rule of the machine
-  pub keeps_at : (base₀ v : View T) (c : C) (m : M) (key words slots id : ℕ) → words ≡ size_of key + 1 → v.capacity ≡ key → At code kind call base₀ v c m
+  pub keeps_at : (base₀ v : View T) (c : C) (m : M) {key words : ℕ} (slots id : ℕ) → words ≡ size_of key + 1 → v.capacity ≡ key → At code kind call base₀ v c m
       → AsksFor (size_of base₀.capacity) (want c)
       → Owes (λ (z : View T). z.asked) (IsMachine code kind key) words slots id (ToldOver c m) (want c) (v, [])
   unfolding between_then
-  keeps_at base₀ v c m key words slots id wide known at₀ asked =
+  keeps_at base₀ v c m {key} {words} slots id wide known at₀ asked =
       -- the word that the call asks for is one of the structure's, before the last word of the table
       let ask = asked.0 in
       let same : base₀.capacity ≡ key = sym (same_capacity code kind call base₀ v c m at₀) ∙ known in
@@ -308,7 +307,7 @@ module _ {T C M E : Type 0} (machines : Machines T) (driven : Driven T C M E) (i
   -- each step of a call that is always at a word keeps the rule of the machine
   pub keeps_there : KeepsOver code kind size_of driven
   keeps_there base₀ v c m key words slots id wide known at₀ =
-      keeps_at machines driven is_call base₀ v c m key words slots id wide known at₀
+      keeps_at machines driven is_call base₀ v c m slots id wide known at₀
       (is_call.asks base₀.capacity c (still_stands code kind driven.call base₀ v c m at₀))
 
   -- a call each step of which is at a word, and that no word ends outside the history,
@@ -345,9 +344,9 @@ abbrev pub lone_machines : {T : Type 0} → LoneMachines T → Machines T
 lone_machines machines = kept_machines (steady_machines machines)
 
 -- a call of a kind without late events goes on by its stage, and writes for its own party alone
-pub acts_alone : {T C M E : Type 0} (machines : LoneMachines T) (call : Calling T C M E)
+pub acts_alone : {T C M E : Type 0} (machines : LoneMachines T) {call : Calling T C M E}
     → ActsAlone machines.code machines.kind (λ w. machines.effects) machines.effects call
-acts_alone machines call =
+acts_alone machines {call} =
     record {
       never = λ c m late h. (machines.laws 0).alone (Some (call.start, call.flight c m)) late h;
       same = λ capacity p c m n t run. refl;
@@ -363,7 +362,7 @@ module _ {T C M E : Type 0} (machines : LoneMachines T) (driven : Driven T C M E
 
   -- the steps of the call, as steps of the more general kind
   by_itself : IsCallThere (lone_machines machines) driven
-  by_itself = steps_alone code kind (λ w. effects) effects driven (acts_alone machines driven.call) is_call
+  by_itself = steps_alone (acts_alone machines) is_call
 
   -- each step of such a call keeps the rule
   pub keeps : KeepsOver code kind size_of driven

@@ -15,7 +15,7 @@ abbrev pub IsHanded : {T : Type 0} → Trace T → Flight T → ℕ → Type 0
 IsHanded t flight n = (n ≡ old_of t.world.words (ask_of (want_of t.world.coding flight))) ⊎ (is_due t.world.coding (Some flight) ≡ true)
 
 -- F is the family, P what is to be so of each event by those before it
-module _ {T : Type 0} (F : Family T) (May : Trace T → Turn T → Type 0) (laws : LawsWhere F May)
+module _ {T : Type 0} {F : Family T} {May : Trace T → Turn T → Type 0} (laws : LawsWhere F May)
     (P : List (Event T) → Event T → Type 0)
     (begun : (before : List (Event T)) (p : ℕ) (start : Start T) → P before (Begun p start))
     (finished : (before : List (Event T)) (p : ℕ) (start : Start T) (answer : Answer T) → P before (Finished p start answer))
@@ -32,7 +32,7 @@ module _ {T : Type 0} (F : Family T) (May : Trace T → Turn T → Type 0) (laws
   ending_right : (p : ℕ) (start : Start T) (o : Option (Answer T)) (before : List (Event T)) → AreRight P before (ending_of p start o)
   ending_right = grind arith
 
-  module _ (t : Trace T) (s : Sound F t) where
+  module _ {t : Trace T} (s : Sound F t) where
     -- what a call at this place is handed with n
     abbrev HandedAt : ℕ → Doing T → Type 0
     HandedAt n (Over others) = Unit {0}
@@ -74,15 +74,15 @@ module _ {T : Type 0} (F : Family T) (May : Trace T → Turn T → Type 0) (laws
     turn_right = grind (arith, next_right, decision_right, due_of)
 
   -- a turn leaves each event of the history right, whether it is refused or not
-  attempt_right : (t : Trace T) (turn : Turn T) (o : Option Refusal) → call_refusal t.world turn ≡ o → Sound F t
+  attempt_right : {t : Trace T} (turn : Turn T) (o : Option Refusal) → call_refusal t.world turn ≡ o → Sound F t
       → Each P t.events → Each P (unless_refused t (after_turn t turn) o).events
-  attempt_right t turn None free sound all = Each-append P t.events (events_of t.world turn) all (turn_right t sound turn free)
-  attempt_right t turn (Some refusal) free sound all = all
+  attempt_right {t} turn None free sound all = Each-append P t.events (events_of t.world turn) all (turn_right sound turn free)
+  attempt_right turn (Some refusal) free sound all = all
 
   -- in a run each event is right, where all events before its turns were
-  pub each_event : (turns : List (Turn T)) (t : Trace T) → AllMay May turns t → Sound F t → Each P t.events → Each P (run_on turns t).events
-  each_event [] t may sound all = all
-  each_event (turn ∷ turns) t may sound all =
-      each_event turns (attempt_on t turn) may.1
+  pub each_event : (turns : List (Turn T)) {t : Trace T} → AllMay May turns t → Sound F t → Each P t.events → Each P (run_on turns t).events
+  each_event [] may sound all = all
+  each_event (turn ∷ turns) {t} may sound all =
+      each_event turns may.1
       (attempt_sound F May laws t turn (call_refusal t.world turn) refl may.0 sound)
-      (attempt_right t turn (call_refusal t.world turn) refl sound all)
+      (attempt_right turn (call_refusal t.world turn) refl sound all)

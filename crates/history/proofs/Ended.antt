@@ -126,12 +126,12 @@ module _ {T : Type 0} where
     pub told : (after_turns t first).events ≡ events
 
   -- the events up to an end of a call are those of the first turns
-  pub up_to : (t : Trace T) (turns : List (Turn T)) (xs : List (Event T)) (p : ℕ) (start : Start T) (answer : Answer T) (later : List (Event T))
+  pub up_to : {t : Trace T} {turns : List (Turn T)} (xs : List (Event T)) (p : ℕ) (start : Start T) (answer : Answer T) (later : List (Event T))
       → (after_turns t turns).events ≡ (t.events ++ (xs ++ Finished p start answer ∷ [])) ++ later
       → UpTo t turns (t.events ++ (xs ++ Finished p start answer ∷ []))
-  up_to t [] xs p start answer later events_are = absurd (no_less t.events xs (Finished p start answer) later events_are)
-  up_to t (turn ∷ turns) xs p start answer later events_are =
-      go (λ less e'. up_to (after_turn t turn) turns less p start answer later e') (prefixes es end more.0 later both)
+  up_to {t} {turns = []} xs p start answer later events_are = absurd (no_less t.events xs (Finished p start answer) later events_are)
+  up_to {t} {turns = (turn ∷ turns)} xs p start answer later events_are =
+      go (λ less e'. up_to {t = (after_turn t turn)} {turns = turns} less p start answer later e') (prefixes es end more.0 later both)
     where
       -- the events of the first turn
       es : List (Event T)
@@ -211,7 +211,7 @@ module _ {T : Type 0} where
         → (first : List (Turn T)) × AreFirst first now.turns × Knows code kind capacity (then_view v first)
     known_then v now xs p start answer knows share ends since =
         let begin : Trace T = opening code kind capacity 0 in
-        let u = up_to begin now.turns xs p start answer since.rest (sym knows.is ∙ (since.is ∙ ap (λ es. es ++ since.rest) ends)) in (
+        let u = up_to xs p start answer since.rest (sym knows.is ∙ (since.is ∙ ap (λ es. es ++ since.rest) ends)) in (
           u.first,
           record { rest = u.rest; is = u.is },
           record {

@@ -50,8 +50,8 @@ module _ {T : Type 0} where
   held_later = grind (arith, begins_further)
 
   -- what holds now held at a moment up to now
-  held_now : (P : List (Event T) → Type 0) (old new : List (Event T)) → IsBeginning old new → P new → HeldBetween P old new
-  held_now P old new on now = grind (arith, itself)
+  held_now : {P : List (Event T) → Type 0} {old new : List (Event T)} → IsBeginning old new → P new → HeldBetween P old new
+  held_now on now = grind (arith, itself)
 
   module _ (owner : ℕ) (old : List (Event T)) where
     -- the index had the owner at a moment between the two histories
@@ -80,7 +80,7 @@ module _ {T : Type 0} where
       pub owned_more : filled_of index new ≡ Some owner → WereOwned owner (index + 1) (indices ++ index ∷ []) old new
       owned_more has =
           record {
-            had = All-push (Had new) indices index h.had (held_now (λ es. filled_of index es ≡ Some owner) old new on has);
+            had = All-push (Had new) indices index h.had (held_now on has);
             had_not = past;
           }
         where
@@ -98,6 +98,6 @@ module _ {T : Type 0} where
           -- each index up to this one that is not in the list did not have the owner at a moment
           past : (i : ℕ) → i < index + 1 → (Contains indices i → ⊥) → HadNot new i
           past i below out =
-              ⊎_elim (λ (e : i ≡ index). subst (HadNot new) (sym e) (held_now (λ es. filled_of index es ≢ Some owner) old new on has_not))
+              ⊎_elim (λ (e : i ≡ index). subst (HadNot new) (sym e) (held_now on has_not))
               (λ (ne : i ≢ index). h.had_not i (omega arith) out)
               (cases_eq i index)

@@ -294,17 +294,17 @@ module _ {T : Type 0} (c : ℕ) where
       }
 
   -- after a right beginning, events that publish and take out rightly leave the list right
-  listed_from : (before es : List (Event T)) → Each (KeepsList c) (before ++ es) → IsListed before → IsListed (before ++ es)
-  listed_from before [] each listed = subst IsListed (sym (append-nil before)) listed
-  listed_from before (e ∷ es) each listed =
+  listed_from : {before : List (Event T)} (es : List (Event T)) → Each (KeepsList c) (before ++ es) → IsListed before → IsListed (before ++ es)
+  listed_from {before} [] each listed = subst IsListed (sym (append-nil before)) listed
+  listed_from {before} (e ∷ es) each listed =
       let longer : (before ++ e ∷ []) ++ es ≡ before ++ e ∷ es = append_assoc before (e ∷ []) es in
-      subst IsListed longer (listed_from (before ++ e ∷ []) es (subst (Each (KeepsList c)) (sym longer) each)
+      subst IsListed longer (listed_from {before = (before ++ e ∷ [])} es (subst (Each (KeepsList c)) (sym longer) each)
       (one_more before e (each before es e refl) listed))
 
   -- where each event keeps the list, it is right after every part of the history
   pub listed_in : (events : List (Event T)) → Each (KeepsList c) events → (part rest : List (Event T)) → events ≡ part ++ rest → IsListed part
   listed_in events each part rest events_are =
-      listed_from [] part (Each-less (KeepsList c) part rest (subst (Each (KeepsList c)) events_are each))
+      listed_from {before = []} part (Each-less (KeepsList c) part rest (subst (Each (KeepsList c)) events_are each))
       (record { book = refl; few = omega arith })
 
   -- in every history of a queue the list is right after every part of it

@@ -46,13 +46,13 @@ module _ {T : Type 0} (code : Coding T) (capacity : ℕ) where
   IsIndexRun t = IsRun code kinds.Indices capacity t
 
   -- a run of a unique index set keeps the invariant of its laws
-  sound : (t : Trace T) → IsIndexRun t → frame.Sound (family t.world.coding t.world.capacity) t
-  sound t indices = reached_on_sound t indices.of_kind indices.reached
+  sound : {t : Trace T} → IsIndexRun t → frame.Sound (family t.world.coding t.world.capacity) t
+  sound {t} indices = reached_on_sound t indices.of_kind indices.reached
 
   -- a reached set has the words that a set of its capacity has
   size : (t : Trace T) → IsIndexRun t → length t.world.words ≡ core.size capacity
   size t indices =
-      let is_sound = sound t indices in
+      let is_sound = sound indices in
       ap length is_sound.fit.words ∙ (is_sound.holds.good.wide ∙ ap core.size indices.sized)
 
   -- nothing that is tested of a pending call refuses its step
@@ -85,7 +85,7 @@ module _ {T : Type 0} (code : Coding T) (capacity : ℕ) where
       → CallGoesOn code kinds.Indices capacity (core.size capacity) index_effects t p flight
   goes_on t indices p start flight call_is =
       let world_now = t.world in
-      let is_sound = sound t indices in
+      let is_sound = sound indices in
       let here = stands world_now p start flight call_is in
       let there = stands_there (family world_now.coding world_now.capacity) t is_sound p here.x here.since flight here.found here.doing in
       let mine : FlightAt world_now.capacity is_sound.state.holders p here.x.start flight = there.at in
@@ -114,16 +114,16 @@ module _ {T : Type 0} (code : Coding T) (capacity : ℕ) where
     size = size;
     goes_on = goes_on;
     alone = λ going late h. h;
-    stateless = λ t r. (let is_sound = sound t r in subst IsStateless (sym is_sound.fit.kept) tt);
+    stateless = λ t r. (let is_sound = sound r in subst IsStateless (sym is_sound.fit.kept) tt);
   }
 
   -- each call takes at most the steps that the model promises of a unique index set
   pub index_pays : Pays code kinds.Indices capacity
   index_pays t r =
-      (let is_sound = sound t r in
+      (let is_sound = sound r in
       let F = family t.world.coding t.world.capacity in
-      pays_run code kinds.Indices capacity t r F refl is_sound
-      (progress_kept code kinds.Indices capacity t r F refl is_sound (kept_on t r.of_kind r.reached)))
+      pays_run r refl is_sound
+      (progress_kept r refl is_sound (kept_on t r.of_kind r.reached)))
 
 -- ---- which party may begin a call
 
@@ -134,7 +134,7 @@ module _ {T : Type 0} (code : Coding T) (base : View T) where
 
   -- a machine of a unique index set keeps who holds each index
   kept_there : (t : Trace T) → IsPassRun t → (holders : List (Option ℕ)) × (t.world.kept ≡ registries.Indices holders)
-  kept_there t is_on = let is_sound = sound code base.capacity t is_on in (is_sound.state.holders, is_sound.fit.kept)
+  kept_there t is_on = let is_sound = sound code base.capacity is_on in (is_sound.state.holders, is_sound.fit.kept)
 
   -- a call that names no index always may, as the party that the pass was last
   module _ {C M E : Type 0} (call : Calling T C M E) (start : IndexStart) (c : C) (m : M)
@@ -167,7 +167,7 @@ module _ {T : Type 0} (code : Coding T) (base : View T) where
         first_here = rw named (first_is t.world.kept)
 
   -- a release may, as that of the pass's parties which holds the index
-  module _ {C M E : Type 0} (call : Calling T C M E) (index : ℕ) (mode : ReleaseMode) (c : C) (m : M)
+  module _ {C M E : Type 0} (call : Calling T C M E) {index : ℕ} (mode : ReleaseMode) (c : C) (m : M)
       (named : call.start ≡ Indices (Release index mode)) (by_any : (o : Option ℕ) (p : ℕ) → call.by o p)
       (first_is : (kept : Registry T)
       → first_of kinds.Indices base.capacity (Indices (Release index mode)) kept ≡ Some (call.flight c m))

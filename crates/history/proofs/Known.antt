@@ -253,9 +253,9 @@ module _ {T : Type 0} where
   by_nothing (Some p) = refl
 
   -- nothing is late for a seat's party without a call under way
-  pub quiet_late : (owner : ℕ → ℕ) (t : Trace T) (j : ℕ) (v : View T) → (f : Fits owner t j v) → (p : ℕ)
+  pub quiet_late : {owner : ℕ → ℕ} {t : Trace T} {j : ℕ} {v : View T} → (f : Fits owner t j v) → (p : ℕ)
       → owner p ≡ j → call_in t.world p ≡ None → events_by p f.late ≡ []
-  quiet_late owner t j v f p of_j idle = go v.party refl
+  quiet_late {t = t} {v = v} f p of_j idle = go v.party refl
     where
       -- the late events are of the seat's latest party, which has a call under way
       go : (o : Option ℕ) → v.party ≡ o → events_by p f.late ≡ []

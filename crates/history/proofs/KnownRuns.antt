@@ -38,16 +38,16 @@ use Rattle.history.proofs.Turns.{run_more}
 module _ {T : Type 0} {code : Coding T} {kind : Kind} {capacity : ℕ} where
   -- from a run, turns that are not refused, and find neither the last position nor the last
   -- version, lead to a run
-  run_to : (t : Trace T) (turns : List (Turn T)) → IsRun code kind capacity t → AreAllowedBy (refusal_as kind) t turns → AreFresh t turns
+  run_to : {t : Trace T} (turns : List (Turn T)) → IsRun code kind capacity t → AreAllowedBy (refusal_as kind) t turns → AreFresh t turns
       → IsRun code kind capacity (after_turns t turns)
-  run_to t [] run allowed fresh = run
-  run_to t (turn ∷ turns) run allowed fresh =
-      run_to (after_turn t turn) turns (run_more code kind capacity t turn allowed.0 fresh.0 run) allowed.1 fresh.1
+  run_to [] run allowed fresh = run
+  run_to {t} (turn ∷ turns) run allowed fresh =
+      run_to {t = (after_turn t turn)} turns (run_more code kind capacity t turn allowed.0 fresh.0 run) allowed.1 fresh.1
 
   -- the turns that a pass knows lead to a run
   pub known_run : {v : View T} → Knows code kind capacity v → IsRun code kind capacity (run_of code kind capacity v.turns)
   known_run {v} knows =
-      run_to (opening code kind capacity 0) v.turns
+      run_to v.turns
       (record {
         reached = reached_as_opening code kind capacity 0 knows.coded knows.admitted;
         coded = refl;

@@ -108,7 +108,8 @@ module _ {T : Type 0} where
 
   -- ---- a call that a pass has made
 
-  module _ (code : Coding T) (kind : Kind) (capacity alone retry p : ℕ) (start : Start T) (answer : Answer T) (wrote : List (Event T)) (old new : View T)
+  module _ {code : Coding T} {kind : Kind} {capacity : ℕ} (alone retry : ℕ) {p : ℕ} {start : Start T}
+      {answer : Answer T} {wrote : List (Event T)} {old new : View T}
       (called : Called p start answer wrote old new) (mine : new.party ≡ Some p) (knows : Knows code kind capacity new) where
     -- the run that the pass knows
     abbrev known : Trace T

@@ -48,12 +48,12 @@ module _ {T : Type 0} (p : ℕ) where
         omega (arith, one_mine mine e, sum_mine mine es, sum_first (owned owner j ones) e es, length-append (own_of p e) (events_by p es))
 
   -- a seat that acts for p has made all the events of p that it has seen
-  made_mine : (v : View T) (h : IsOfParties v) → h.owner p ≡ h.seat → sum_by ones v.made ≡ length (events_by p v.seen)
-  made_mine v h mine = h.sums ones ∙ sum_mine h.owner h.seat mine v.seen
+  made_mine : {v : View T} (h : IsOfParties v) → h.owner p ≡ h.seat → sum_by ones v.made ≡ length (events_by p v.seen)
+  made_mine {v} h mine = h.sums ones ∙ sum_mine h.owner h.seat mine v.seen
 
   -- a seat that does not act for p has made no event of p
-  made_none : (v : View T) (h : IsOfParties v) → h.owner p ≢ h.seat → sum_by ones v.made ≡ 0
-  made_none v h apart = h.sums ones ∙ sum_none h.owner h.seat apart v.seen
+  made_none : {v : View T} (h : IsOfParties v) → h.owner p ≢ h.seat → sum_by ones v.made ≡ 0
+  made_none {v} h apart = h.sums ones ∙ sum_none h.owner h.seat apart v.seen
 
 -- ---- two looks
 
@@ -62,8 +62,8 @@ module _ {T : Type 0} (code : Coding T) (kind : Kind) (size : ℕ) (u v w : View
   -- a party that another seat had at the first look wrote nothing that the second look tells
   nothing_of : (p : ℕ) → b.parties.owner p ≡ b.parties.seat → a.parties.owner p ≢ a.parties.seat → events_by p a.mine.rest ≡ []
   nothing_of p mine apart =
-      let made : sum_by (ones p) w.made ≡ 0 = ap (sum_by (ones p)) b.made ∙ made_none p v a.parties apart in
-      let none : events_by p w.seen ≡ [] = no_length (events_by p w.seen) (sym (made_mine p w b.parties mine) ∙ made) in
+      let made : sum_by (ones p) w.made ≡ 0 = ap (sum_by (ones p)) b.made ∙ made_none p a.parties apart in
+      let none : events_by p w.seen ≡ [] = no_length (events_by p w.seen) (sym (made_mine p b.parties mine) ∙ made) in
       let before : events_by p v.seen ≡ [] = none_before p v.seen w.seen b.mine none in
       nil_right (events_by p u.seen) (events_by p a.mine.rest) (sym (by_more p u.seen a.mine.rest) ∙ (sym (ap (events_by p) a.mine.is) ∙ before))
 

@@ -34,8 +34,8 @@ module _ {T : Type 0} where
         is = then_first.is ∙ (ap (λ ts. ts ++ then_first.rest) are_first.is ∙ append_assoc xs are_first.rest then_first.rest);
       }
 
-  pub first_more : (xs ys zs : List (Turn T)) → AreFirst xs ys → AreFirst xs (ys ++ zs)
-  first_more xs ys zs first = first_further xs ys (ys ++ zs) first (record { rest = zs; is = refl })
+  pub first_more : {xs ys : List (Turn T)} (zs : List (Turn T)) → AreFirst xs ys → AreFirst xs (ys ++ zs)
+  first_more {xs} {ys} zs first = first_further xs ys (ys ++ zs) first (record { rest = zs; is = refl })
 
   -- of two that are first turns of one list, one is a first part of the other
   either_first : (xs ys xs' ys' : List (Turn T)) → xs ++ xs' ≡ ys ++ ys' → AreFirst xs ys ⊎ AreFirst ys xs
@@ -92,8 +92,8 @@ module _ {T : Type 0} where
           knew = λ j v at. (
               let k = one.knew j v at in
               record {
-                mine = first_more v.turns one.turns (turn ∷ []) k.mine;
-                theirs = first_more v.other_turns one.turns (turn ∷ []) k.theirs;
+                mine = first_more (turn ∷ []) k.mine;
+                theirs = first_more (turn ∷ []) k.theirs;
               });
         }
 
@@ -112,19 +112,19 @@ module _ {T : Type 0} where
         }
 
     -- a view that has all turns of the run knows first turns of it
-    pub knew_all : (views : List (View T)) (u : Trace T) (w : View T) (one : OneRun code kind capacity views u)
+    pub knew_all : {views : List (View T)} {u : Trace T} {w : View T} (one : OneRun code kind capacity views u)
         → w.turns ≡ one.turns → w.other_turns ≡ [] → Knew one.turns w
-    knew_all views u w one turns_are none =
+    knew_all one turns_are none =
         record {
           mine = subst (λ ts. AreFirst ts one.turns) (sym turns_are) (first_all one.turns);
           theirs = subst (λ ts. AreFirst ts one.turns) (sym none) (first_none one.turns);
         }
 
     -- a view with all turns and all events of the run, its operations and its changes by others, knows it
-    pub knows_all : (views : List (View T)) (u : Trace T) (w : View T) (one : OneRun code kind capacity views u)
+    pub knows_all : {views : List (View T)} {u : Trace T} {w : View T} (one : OneRun code kind capacity views u)
         → IsRun code kind capacity u → w.turns ≡ one.turns → w.seen ≡ u.events → w.others ≡ others_by u.world w.party
         → HasAsked w (steps_of_run code kind capacity one.turns) → Knows code kind capacity w
-    knows_all views u w one run turns_are seen others asked =
+    knows_all {u = u} {w = w} one run turns_are seen others asked =
         let may = admits kind u run.reached in
         record {
           coded = subst IsCoding run.coded may.0;
@@ -139,24 +139,24 @@ module _ {T : Type 0} where
         }
 
     -- the run that a seat knew goes on to the whole run of the table
-    pub continues_all : (views : List (View T)) (u : Trace T) (id : ℕ) (v w : View T) (one : OneRun code kind capacity views u)
+    pub continues_all : {views : List (View T)} {u : Trace T} (id : ℕ) {v w : View T} (one : OneRun code kind capacity views u)
         → get_elem? views id ≡ some v → IsRun code kind capacity u → w.turns ≡ one.turns → w.seen ≡ u.events → w.others ≡ others_by u.world w.party
         → HasAsked w (steps_of_run code kind capacity one.turns) → Continues code kind capacity v w
-    continues_all views u id v w one has_view run turns_are seen others asked =
+    continues_all {views} {u} id {v} {w} one has_view run turns_are seen others asked =
         record {
           first = subst (λ ts. AreFirst v.turns ts) (sym turns_are) (one.knew id v has_view).mine;
-          knows = knows_all views u w one run turns_are seen others asked;
+          knows = knows_all one run turns_are seen others asked;
         }
 
     pub continues_further : (x y z : View T) → AreFirst x.turns y.turns → Continues code kind capacity y z → Continues code kind capacity x z
     continues_further x y z are_first continues = record { first = first_further x.turns y.turns z.turns are_first continues.first; knows = continues.knows }
 
     -- a pass with the same turns, events and changes by others as another knows the run that the other knows
-    same_run : (old new : View T) → new.turns ≡ old.turns → new.seen ≡ old.seen
+    same_run : {old new : View T} → new.turns ≡ old.turns → new.seen ≡ old.seen
         → new.others ≡ others_by (run_of code kind capacity old.turns).world new.party
         → HasAsked new (steps_of_run code kind capacity old.turns) → Knows code kind capacity old
         → Continues code kind capacity old new
-    same_run old new turns seen others asked knows =
+    same_run {old} {new} turns seen others asked knows =
         record {
           first = subst (λ ts. AreFirst old.turns ts) (sym turns) (first_all old.turns);
           knows =
@@ -172,20 +172,20 @@ module _ {T : Type 0} where
         }
 
     -- both passes of a split go on from what the pass knew
-    pub continues_split : (old left right : View T) → HasSplit old left right → Knows code kind capacity old
+    pub continues_split : {old left right : View T} → HasSplit old left right → Knows code kind capacity old
         → Continues code kind capacity old left × Continues code kind capacity old right
-    continues_split old left right cut knows = (
-      same_run old left cut.turns cut.seen (cut.others ∙ (knows.others ∙ ap (others_by (run_of code kind capacity old.turns).world) (sym cut.party)))
+    continues_split {old} {left} {right} cut knows = (
+      same_run cut.turns cut.seen (cut.others ∙ (knows.others ∙ ap (others_by (run_of code kind capacity old.turns).world) (sym cut.party)))
           (left_asked old left (steps_of_run code kind capacity old.turns) knows.asked cut.share cut.asked cut.aside) knows,
-      same_run old right cut.right_turns cut.right_seen
+      same_run cut.right_turns cut.right_seen
           (cut.right_others ∙ ap (others_by (run_of code kind capacity old.turns).world) (sym cut.right_party))
-          (right_asked old right (steps_of_run code kind capacity old.turns) knows.asked cut.right_share cut.right_asked cut.right_aside) knows,
+          (right_asked knows.asked cut.right_share cut.right_asked cut.right_aside) knows,
     )
 
     -- the run that a joined pass knows goes on from the runs that both passes knew
-    pub continues_join : (mine theirs new : View T) → HasJoined mine theirs new → Knows code kind capacity new
+    pub continues_join : {mine theirs new : View T} → HasJoined mine theirs new → Knows code kind capacity new
         → Continues code kind capacity mine new × Continues code kind capacity theirs new
-    continues_join mine theirs new joined knows =
+    continues_join joined knows =
         (record { first = joined.ours_ran; knows = knows }, record { first = joined.theirs_ran; knows = knows })
 
     -- ---- a table
@@ -203,5 +203,5 @@ module _ {T : Type 0} where
           asked = record { share = (omega arith, omega arith); most = omega arith; all = λ whole. refl };
         }
 
-    pub seats_know_one : (s : State (Unit {0}) (View T)) → IsMachine code kind capacity s → SeatsKnowOneRun s
-    seats_know_one s is_machine i j v w at there = know_one is_machine.one.turns v w (is_machine.one.knew i v at) (is_machine.one.knew j w there)
+    pub seats_know_one : {s : State (Unit {0}) (View T)} → IsMachine code kind capacity s → SeatsKnowOneRun s
+    seats_know_one is_machine i j v w at there = know_one is_machine.one.turns v w (is_machine.one.knew i v at) (is_machine.one.knew j w there)

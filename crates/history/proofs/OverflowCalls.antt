@@ -164,10 +164,10 @@ module _ {T : Type 0} (code : Coding T) (v : ℕ) where
 
   -- on the machine on which the driver's push is to take a step, the model's push stands,
   -- with what it has written
-  there : (capacity p : ℕ) (from : Option (Start T × Flight T)) (c : Pushing) (m : OneWord) (n : ℕ) (es : List (Event T)) (t : Trace T)
+  there : {capacity p : ℕ} {from : Option (Start T × Flight T)} {c : Pushing} (m : OneWord) {n : ℕ} {es : List (Event T)} {t : Trace T}
       → c.capacity ≡ capacity → from ≡ None → AllByRecursion IsWithin es
       → Met code kinds.Overflow capacity pushing.start (pushing.flight c m) p from es n t → StandsThere capacity p c es n t
-  there capacity p from c m n es t same none are met =
+  there {capacity} {p} {c = c} m {es = es} {t = t} same none are met =
       -- what the queue's laws say of the push on this machine
       let is_sound = sound_of code capacity queues.Overflow t met.run in
       let at = stands t.world p pushing.start (pushing.flight c m) met.there in
@@ -246,7 +246,7 @@ module _ {T : Type 0} (code : Coding T) (v : ℕ) where
         -- the last step writes what a push with its end writes, as the machine on which it stands has it
         tells_all = λ capacity p from c e m n es late t h skip wrote waits met is still. (
           acts c e n c.stage h.2 skip is,
-          let x = there capacity p from c m n (es ++ late) t h.1 wrote.0 (within_both es late wrote.1 (within_late pushing.start late waits)) met in
+          let x = there m h.1 wrote.0 (within_both es late wrote.1 (within_late pushing.start late waits)) met in
               ap (λ zs. (es ++ late) ++ zs)
               (by_mine p (over_effects t.world p (pushing.flight c m) n) (push_own t.world p (record { call = c; given = v; room = m }) n)
               ∙ effects_end t.world p c e m n is)

@@ -196,7 +196,7 @@ module _ {T : Type 0} (c : ℕ) where
         let some : 0 < length k.waiting = (omega (arith, good.write, knows.2)) in
         subst (λ z. FitsList before (HandsOut (Index (slice_index words (cell_word z read))))) (sym size) (front read here some)
 
-  module _ (en : Coding T) (t : Trace T) (s : frame.Sound (family en queues.Overflow c) t) where
+  module _ (en : Coding T) {t : Trace T} (s : frame.Sound (family en queues.Overflow c) t) where
     -- the words of the machine are those of the queue, as its laws have it
     its_words : t.world.words ≡ layout s.state.roles s.state.core
     its_words = s.fit.words
@@ -258,8 +258,8 @@ module _ {T : Type 0} (c : ℕ) where
 module _ {T : Type 0} (code : Coding T) (capacity : ℕ) where
   -- in every run each event is right: its party has the role that it needs, and what it publishes or takes
   -- out fits the list
-  rightly : (t : Trace T) → IsRun code kinds.Overflow capacity t → Each (Rightly t.world.capacity) t.events
-  rightly t run =
+  rightly : {t : Trace T} → IsRun code kinds.Overflow capacity t → Each (Rightly t.world.capacity) t.events
+  rightly {t} run =
       let world_now = t.world in
       let first : Trace T = opening world_now.coding world_now.kind world_now.capacity world_now.parties in
       let admitted : capacity_error kinds.Overflow world_now.capacity ≡ None =
@@ -272,22 +272,22 @@ module _ {T : Type 0} (code : Coding T) (capacity : ℕ) where
       (admitted_fits queues.Overflow world_now.capacity admitted))
       in
       subst (λ z. Each (Rightly world_now.capacity) z.events) (sym run.fresh.is)
-      (each_event (family world_now.coding queues.Overflow world_now.capacity) IsFreshTurn
+      (each_event
       (fresh_laws world_now.coding run.reached.coded queues.Overflow world_now.capacity) (Rightly world_now.capacity)
       (λ before p start. (tt, tt)) (λ before p start answer. (tt, tt)) (λ before owner. (tt, tt))
-      (λ t s. step_right world_now.capacity world_now.coding t s) run.fresh.turns first run.fresh.fresh sound
+      (λ t s. step_right world_now.capacity world_now.coding s) run.fresh.turns run.fresh.fresh sound
       (Each-nil (Rightly world_now.capacity)))
 
   -- in every history each event is of a party with the role that it needs
   pub history_by_over_holders : (events : List (Event T)) → IsHistory code kinds.Overflow capacity events → Each ByOverHolder events
   history_by_over_holders events history =
-      subst (Each ByOverHolder) (sym history.is) (λ before after e is. (rightly history.trace history.run before after e is).0)
+      subst (Each ByOverHolder) (sym history.is) (λ before after e is. (rightly history.run before after e is).0)
 
   -- a value is published where at most the capacity waits, and taken out, by a push or by a pop, where it waits first
   pub over_lists_kept : (events : List (Event T)) → IsHistory code kinds.Overflow capacity events → Each (KeepsList (capacity + 1)) events
   over_lists_kept events history =
       subst (Each (KeepsList (capacity + 1))) (sym history.is)
-      (λ before after e is. subst (λ n. KeepsList (n + 1) before e) history.run.sized (rightly history.trace history.run before after e is).1)
+      (λ before after e is. subst (λ n. KeepsList (n + 1) before e) history.run.sized (rightly history.run before after e is).1)
 
   -- at any time what was taken out is a beginning of what was published, and at most one more than the capacity waits
   pub over_listed : (events : List (Event T)) → IsHistory code kinds.Overflow capacity events

@@ -111,11 +111,11 @@ module _ {T : Type 0} (code : Coding T) where
     pub apart : (q v : ℕ) → beside_of t.world.words t.world.kept t.world.latest p ≡ Some (q, v) → p ≢ q
 
   -- where its exchange finds the read position unmoved, the cell there holds the index that the pop has read
-  takes_at : (capacity p : ℕ) (from : Option (Start T × Flight T)) (c : Popping) (m : OneWord) (n : ℕ)
-      (es : List (Event T)) (t : Trace T)
+  takes_at : {capacity p : ℕ} {from : Option (Start T × Flight T)} {c : Popping} {m : OneWord} {n : ℕ}
+      {es : List (Event T)} {t : Trace T}
       → c.capacity ≡ capacity → Met code kinds.Overflow capacity popping.start (popping.flight c m) p from es n t
       → TakesAt capacity p c m n t
-  takes_at capacity p from c m n es t same met = record { front = front; apart = apart }
+  takes_at {capacity} {p} {c = c} {m = m} {n = n} {t = t} same met = record { front = front; apart = apart }
     where
       -- the run keeps the invariant of the queue's laws
       s : Rattle.model.proofs.Frame.Sound (family t.world.coding queues.Overflow t.world.capacity) t
@@ -195,7 +195,7 @@ module _ {T : Type 0} (code : Coding T) where
         -- the last step writes what a pop with its end writes, since the cell still holds the index that the
         -- pop has read
         tells_all = λ capacity p from c b m n es late t h skip wrote waits met e still. (
-            let at = takes_at capacity p from c m n (es ++ late) t h.1 met in
+            let at = takes_at h.1 met in
             ap (λ zs. (zs ++ late) ++ events_by p (over_effects t.world p (popping.flight c m) n)) wrote
             ∙ (ap (λ zs. zs ++ events_by p (over_effects t.world p (popping.flight c m) n)) waits
             ∙ (ap (events_by p) (effects_end t.world p c b m n e) ∙ loud p n c m b t c.stage h.2 at.front at.apart e)));

@@ -56,7 +56,7 @@ module _ {T : Type 0} (code : Coding T) where
     -- a call on lengths is a call of the model, on a queue of this capacity
     counts : (size : ℕ) → IsCallIn (overflow_machines code) (len_driven code which size)
     counts size =
-        in_machine code kinds.Overflow over_effects (queue_effects code) (len_driven code which size) (λ c m late h. h) (λ capacity p c m n t run there. refl)
+        in_machine over_effects (λ c m late h. h) (λ capacity p c m n t run there. refl)
         (wider code (queue_effects code) (λ capacity. 4 + capacity) words_of (len_driven code which size) low (len_is_call code which size))
 
     -- each step of a call on lengths keeps the rule, on a queue of this capacity
@@ -73,7 +73,7 @@ module _ {T : Type 0} (code : Coding T) where
 
 -- ---- the table of an overflowing queue opens empty
 
-module _ {T : Type 0} (code : Coding T) (law : IsCoding code) (capacity : ℕ) (small : capacity < 2 ^ 32) where
+module _ {T : Type 0} {code : Coding T} (law : IsCoding code) (capacity : ℕ) (small : capacity < 2 ^ 32) where
   -- a capacity below 2^32 is admitted
   most : nat_lt (2 ^ 32 - 1) capacity ≡ false
   most = grind (arith, nat_tests)

@@ -128,9 +128,9 @@ module _ {T : Type 0} (code : Coding T) (capacity : ℕ) where
     start_is = grind arith
 
     -- the push that waits for room is under way, by the holder of the producer's role
-    waiting_push : (position q v : ℕ) (x : Party T) (run : Pushing) (since : ℕ)
+    waiting_push : {position q v : ℕ} {x : Party T} {run : Pushing} {since : ℕ}
         → IsPending position t.world.latest q v x run since → s.state.roles.producer ≡ Some q → Waits t q v
-    waiting_push position q v x run since is_pending holder =
+    waiting_push {q = q} {v = v} {x = x} {run = run} {since = since} is_pending holder =
         let flight : Flight T = flights.Queues (Overflow (overflows.Push run)) in
         let there = stands_there (family en queues.Overflow c) t s q x since flight is_pending.found is_pending.doing in
         let named = start_is s.state.roles s.state.core q v x.start run there.at is_pending.value in
@@ -150,7 +150,7 @@ module _ {T : Type 0} (code : Coding T) (capacity : ℕ) where
         go : (b : Bool) → cond b (pending (slice_index t.world.words read_word) s.state.roles.producer t.world.latest) None ≡ Some (q, v) → Waits t q v
         go true leads =
             (let x = pending_is (slice_index t.world.words read_word) t.world.latest q v s.state.roles.producer leads in
-            waiting_push (slice_index t.world.words read_word) q v x.1 x.2 x.3 x.4 x.0)
+            waiting_push x.4 x.0)
         go false leads = absurd (cc)
 
   module _ (t : Trace T) where

@@ -48,7 +48,7 @@ more_paid : (steps alone backs others retry : ℕ) → steps ≤ alone + backs *
 more_paid steps alone backs others retry most le = omega (arith, paid backs others retry le)
 
 -- F is the family of the kind, t a trace, of which s says that it is sound
-module _ {T : Type 0} (F : Family T) (kind : Kind) (promised : promise_of {T = T} kind ≡ F.promise) (t : Trace T) (s : frame.Sound F t)
+module _ {T : Type 0} {F : Family T} (kind : Kind) (promised : promise_of {T = T} kind ≡ F.promise) {t : Trace T} (s : frame.Sound F t)
     (progress : (p : ℕ) → Progresses F.promise F.capacity F.coding.size (span_of p t.events) (progress_in t.world p)) where
   -- each latest call has taken no more steps than its promise grants
   bounded : (p : ℕ) (x : Party T) → party_of p t.world.latest ≡ Some x
@@ -82,7 +82,7 @@ module _ {T : Type 0} (F : Family T) (kind : Kind) (promised : promise_of {T = T
           more_paid x.steps alone x.backs (others_of t.world.changes x.doing) retry (omega arith) within_bounds.backs)
 
 -- F is the family of the kind, t the trace of a run, of which s says that it is sound
-module _ {T : Type 0} (code : Coding T) (kind : Kind) (capacity : ℕ) (t : Trace T) (r : IsRun code kind capacity t) (F : Family T)
+module _ {T : Type 0} {code : Coding T} {kind : Kind} {capacity : ℕ} {t : Trace T} (r : IsRun code kind capacity t) {F : Family T}
     (promised : promise_of {T = T} kind ≡ F.promise) (s : frame.Sound F t) where
   -- where the promise of the run holds, it says how far each call has come
   pub progress_kept : IsKept t → (p : ℕ) → Progresses F.promise F.capacity F.coding.size (span_of p t.events) (progress_in t.world p)
@@ -103,7 +103,7 @@ module _ {T : Type 0} (code : Coding T) (kind : Kind) (capacity : ℕ) (t : Trac
       → PaysOn kind capacity code.size t
   pays_run progress =
       subst (λ n. PaysOn kind n code.size t) (sym s.capacity ∙ r.sized)
-      (subst (λ (c : Coding T). PaysOn kind F.capacity c.size t) (sym s.coding ∙ r.coded) (pays_on F kind promised t s progress))
+      (subst (λ (c : Coding T). PaysOn kind F.capacity c.size t) (sym s.coding ∙ r.coded) (pays_on kind promised s progress))
 
 -- ---- a call that has ended
 
@@ -131,8 +131,8 @@ module _ {T C M E : Type 0} (code : Coding T) (kind : Kind) (call : Calling T C 
     pub steps : x.steps ≡ w.taken
 
   -- the call that has ended is the party's latest one
-  latest : (ends : Ends code kind call base e m w) → HasLatest ends
-  latest ends = go (party_of ends.party known.world.latest) refl
+  latest : {ends : Ends code kind call base e m w} → HasLatest ends
+  latest {ends} = go (party_of ends.party known.world.latest) refl
     where
       -- a party with a latest call has one, and one without has begun none
       go : (o : Option (Party T)) → party_of ends.party known.world.latest ≡ o → HasLatest ends
@@ -159,8 +159,8 @@ module _ {T C M E : Type 0} (code : Coding T) (kind : Kind) (call : Calling T C 
   few_enough steps most same within least (inr h) = omega arith
 
   -- the changes that the view counts are those that the run counts
-  counts : (ends : Ends code kind call base e m w) → (now : HasLatest ends) → w.others ≡ others_of known.world.changes now.x.doing
-  counts ends now =
+  counts : {ends : Ends code kind call base e m w} → (now : HasLatest ends) → w.others ≡ others_of known.world.changes now.x.doing
+  counts {ends} now =
       ends.ran.knows.others
       ∙ (ap (others_by known.world) ends.mine ∙ ap (others_so known.world.changes) now.found)
 
@@ -169,7 +169,7 @@ module _ {T C M E : Type 0} (code : Coding T) (kind : Kind) (call : Calling T C 
       → IsWithin g (progress_of known.world.changes now.x) → TakesBy code kind base.capacity g base w
   takes_by idle ends now (WaitFree most) least within = few_enough now.x.steps most now.steps within least (few idle ends)
   takes_by idle ends now (ObstructionFree alone retry) least within =
-      subst (λ n. w.asked ≤ base.asked + (alone + n * retry)) (sym (counts ends now))
+      subst (λ n. w.asked ≤ base.asked + (alone + n * retry)) (sym (counts now))
       (few_enough now.x.steps (alone + others_of known.world.changes now.x.doing * retry) now.steps within (omega arith) (few idle ends))
 
   -- a call that had not begun in `base`, and has ended, is within the guarantee of its kind
@@ -177,7 +177,7 @@ module _ {T C M E : Type 0} (code : Coding T) (kind : Kind) (call : Calling T C 
       → AllowsOne (guarantee_of kind base.capacity code.size call.start) → Ends code kind call base e m w
       → TakesBy code kind base.capacity (guarantee_of kind base.capacity code.size call.start) base w
   takes idle pays one ends =
-      (let now = latest ends in
+      (let now = latest in
       takes_by idle ends now (guarantee_of kind base.capacity code.size call.start) one
       (subst (λ start. IsWithin (guarantee_of kind base.capacity code.size start) (progress_of known.world.changes now.x)) now.named
       (pays known (known_run ends.ran.knows) ends.party now.x now.found)))

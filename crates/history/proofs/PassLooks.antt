@@ -130,7 +130,7 @@ module _ {T : Type 0} (code : Coding T) (kind : Kind) (capacity : ℕ) where
         old = steps_of_run code kind capacity m.one.turns;
         n = 0;
         have = m.asked;
-        has = asked_at s.views (steps_of_run code kind capacity m.one.turns) id v has_view m.known.shares m.asked;
+        has = asked_at id has_view m.known.shares m.asked;
         more = omega arith;
         own = omega arith;
       } in (
@@ -154,10 +154,10 @@ module _ {T : Type 0} (code : Coding T) (kind : Kind) (capacity : ℕ) where
               own = λ any p of_id. inl (append-nil (events_by p t.events));
               made = λ g. omega (arith, made g);
             })
-            (known_step s.views t.events id v view_now
+            (known_step id v view_now
             (within s.views id v has_view) has_view refl some_share refl m.known.someone m.known.spent m.known.shares)
-            (knew_all code kind capacity s.views t view_now m.one refl refl)
-            (gains_have s.views id v view_now (steps_of_run code kind capacity m.one.turns) has_view gains some_share),
+            (knew_all code kind capacity m.one refl refl)
+            (gains_have id view_now has_view gains some_share),
         (
           -- what the look tells of the new view
           record {
@@ -174,14 +174,14 @@ module _ {T : Type 0} (code : Coding T) (kind : Kind) (capacity : ℕ) where
             -- with the whole share, the seat had seen all events already
             whole =
                 λ all. ⊎_elim (λ (e : v.seen ≡ t.events). inl (sym e)) (λ (e : v.other ≡ t.events). inr (sym e))
-                (known_whole s.views t.events id v has_view all m.known);
+                (known_whole id has_view all m.known);
             all =
                 λ all g. owned_whole m.owner t s.views id v has_view all m.known.shares m.known.spent
                 (λ j u ne there. m.seats j u there) m.inside (λ q ne past. m.made_none q past) m.known.someone g
                 ∙ sym (made g);
             history = record { trace = t; run = m.run; is = refl };
-            ran = continues_all code kind capacity s.views t id v view_now m.one has_view m.run refl refl refl
-                (gains_has s.views v view_now (steps_of_run code kind capacity m.one.turns) gains refl);
+            ran = continues_all code kind capacity id m.one has_view m.run refl refl refl
+                (gains_has gains refl);
             theirs_ran = (m.one.knew id v has_view).theirs;
             parties = record { owner = m.owner; seat = id; sums = made };
             apart = λ alone any p of_id. rest_apart v t seat_fits.late seat_fits.seen p alone none (seat_fits.own any p of_id);
@@ -212,12 +212,12 @@ module _ {T : Type 0} (code : Coding T) (kind : Kind) (capacity : ℕ) where
   )
 
   -- A load where something may be late for the seat: it keeps its view, and nothing is told of the look.
-  looks_when : (slots id word : ℕ) (v : View T) → 0 < v.share.part → (s : State (Unit {0}) (View T)) → (m : IsTableMachine s)
+  looks_when : (slots id word : ℕ) {v : View T} → 0 < v.share.part → (s : State (Unit {0}) (View T)) → (m : IsTableMachine s)
       → length s.homes ≡ slots → get_elem? s.views id ≡ some v → slice_index s.words word < 18446744073709551616
       → (w : View T) × (a : table.Act (Unit {0})) × table.Valid s.homes [] a
       × IsTableMachine (table.stepped s word (slice_index s.words word) id [] w a) × (table.carried_after [] a ≡ [])
       × WhenIdle kind v.going (Looks code kind capacity v w × (w.seen ≡ m.trace.events))
-  looks_when slots id word v some_share s m long has_view small = ⊎_elim told untold (calm_or_not kind v.going)
+  looks_when slots id word {v} some_share s m long has_view small = ⊎_elim told untold (calm_or_not kind v.going)
     where
       -- where nothing may be late for the seat, the load tells of a look
       told : ((late : List (Event T)) → IsLate kind v.going late → late ≡ [])
@@ -254,7 +254,7 @@ module _ {T : Type 0} (code : Coding T) (kind : Kind) (capacity : ℕ) where
   pub looks : (slots id word : ℕ) (v : View T) → 0 < v.share.part
       → Allows IsTableMachine slots id (v, []) word (λ n. n) (λ found me. WhenIdle kind v.going (Looks code kind capacity v me.0) × (me.1 ≡ []))
   looks slots id word v some_share s m long at small =
-      (let looked = looks_when slots id word v some_share s m long at small in (
+      (let looked = looks_when slots id word some_share s m long at small in (
         looked.0,
         looked.1,
         looked.2,
@@ -271,7 +271,7 @@ module _ {T : Type 0} (code : Coding T) (kind : Kind) (capacity : ℕ) where
       → Allows IsTableMachine slots id (v, []) word (λ n. n)
       (λ found me. WhenIdle kind v.going (LooksAt code kind capacity word v found me.0) × (me.1 ≡ []))
   looks_word slots id word v some_share s m long at small =
-      let looked = looks_when slots id word v some_share s m long at small in (
+      let looked = looks_when slots id word some_share s m long at small in (
         looked.0,
         looked.1,
         looked.2,

@@ -51,9 +51,9 @@ no_more : (n : ℕ) → n + 0 ≡ n
 no_more n = omega arith
 
 -- the seats with a new one, which has asked for nothing, have asked for what they had
-have_end : {T : Type 0} → (views : List (View T)) (w : View T) (steps : ℕ) → w.asked ≡ 0 → w.aside ≡ 0 → HaveAsked views steps
+have_end : {T : Type 0} → {views : List (View T)} (w : View T) {steps : ℕ} → w.asked ≡ 0 → w.aside ≡ 0 → HaveAsked views steps
     → HaveAsked (views ++ w ∷ []) steps
-have_end {T} views w steps asked aside have_asked =
+have_end {T} {views = views} w asked aside have_asked =
     record {
       sum = (
           omega (
@@ -103,10 +103,10 @@ module _ {T : Type 0} (code : Coding T) (kind : Kind) (capacity : ℕ) where
         further = λ j past. (let l = long in m.further j (omega arith));
         made_none = λ j past. (let l = long in m.made_none j (omega arith));
         -- the split is one operation, which is aside
-        asked = have_end (set s.views id (left_view v)) (right_view v) steps refl refl
+        asked = have_end (right_view v) refl refl
             (subst (λ n. HaveAsked (set s.views id (left_view v)) n) (no_more steps)
             (have_more s.views id v (left_view v) steps 0 at m.asked (omega arith) (λ none. omega (arith, m.asked.spent id v at none))));
-        known = known_split s.views m.trace.events id v (within s.views id v at) at m.known;
+        known = known_split id v (within s.views id v at) at m.known;
         one = one;
       }
     where
@@ -227,9 +227,9 @@ module _ {T : Type 0} (code : Coding T) (kind : Kind) (capacity : ℕ) where
         further = λ j past. (let l = long in m.further j (omega arith));
         made_none = λ j past. (let l = long in m.made_none j (omega arith));
         -- the join is one operation, which is aside
-        asked = have_both s.views (steps_of_run code kind capacity m.one.turns) id other v w at apart theirs some_share m.known.shares m.asked;
+        asked = have_both id other v w at apart theirs some_share m.known.shares m.asked;
         -- some seat with a share has seen all events, and each seat knows first turns of the run
-        known = known_join s.views m.trace.events id other v w at apart theirs some_share (m.seats id v at).seen alone alone' m.known;
+        known = known_join id other v w at apart theirs some_share (m.seats id v at).seen alone alone' m.known;
         one =
             one_set code kind capacity (set s.views id (joined_view v w)) m.trace other spent_view
             (one_set code kind capacity s.views m.trace id (joined_view v w) m.one
@@ -333,7 +333,7 @@ module _ {T : Type 0} (code : Coding T) (kind : Kind) (capacity : ℕ) where
           only {j} x f none p of_j (inr h) =
               let nothing_by : events_by p m.trace.events ≡ [] = sym h.1 ∙ ap (events_by p) none in
               ap (λ es. es ++ events_by p f.late) (none_before p x.seen m.trace.events f.seen nothing_by)
-              ∙ (quiet_late m.owner m.trace j x f p of_j h.0 ∙ sym nothing_by)
+              ∙ (quiet_late f p of_j h.0 ∙ sym nothing_by)
 
       -- each seat but the one that was taken in fits the machine
       old : (j : ℕ) (x : View T) → j ≢ other → get_elem? (set s.views id (joined_view v w)) j ≡ some x → Fits (handed_on id other m.owner) m.trace j x

@@ -61,9 +61,9 @@ module _ {T : Type 0} (code : Coding T) (kd : QueueKind) (capacity p : ℕ) (ans
         ap consumer_of (same_from_push before l.old.events last last whole).0 ∙ holds
 
     -- the step with which a peek ends is of the party that holds the consumer's role
-    stands : (x : Party T) (flight : Flight T) (since n : ℕ) → party_of p w.latest ≡ Some x → x.doing ≡ Going flight since
+    stands : (x : Party T) {flight : Flight T} {since : ℕ} (n : ℕ) → party_of p w.latest ≡ Some x → x.doing ≡ Going flight since
         → (step_in w p x flight n).wrote ++ ending_of p x.start (answer_in (step_in w p x flight n).after) ≡ l.wrote ++ last ∷ [] → PeekerHoldsRole
-    stands x flight since n found doing writes =
+    stands x {flight} {since} n found doing writes =
         let is_sound = sound_of code capacity kd l.old l.run in
         let beside = beside_of w.words w.kept w.latest p in
         let there = stands_there (family w.coding kd w.capacity) l.old is_sound p x since flight found doing in
@@ -80,7 +80,7 @@ module _ {T : Type 0} (code : Coding T) (kd : QueueKind) (capacity p : ℕ) (ans
     does : (x : Party T) (n : ℕ) → party_of p w.latest ≡ Some x → (doing : Doing T) → x.doing ≡ doing
         → events_of_answer w p x n doing ≡ l.wrote ++ last ∷ [] → PeekerHoldsRole
     does x n found (Over others) same_doing writes = absurd (none_last l.wrote last writes)
-    does x n found (Going flight since) same_doing writes = stands x flight since n found same_doing writes
+    does x n found (Going flight since) same_doing writes = stands x n found same_doing writes
 
     -- whether the party has had a call or not, it holds the role as the step writes the response
     goes : (o : Option (Party T)) → party_of p w.latest ≡ o → events_of_next w p o ≡ l.wrote ++ last ∷ [] → PeekerHoldsRole

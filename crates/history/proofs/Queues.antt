@@ -201,8 +201,8 @@ module _ {T : Type 0} (code : Coding T) (kd : QueueKind) (base : View T) where
       (let run_here = queue_run code base.capacity kd t r in
       let is_sound = sound_of code base.capacity kd t r in
       let F = family t.world.coding kd t.world.capacity in
-      pays_run code (machine_kind kd) base.capacity t r F (promise_is kd) is_sound
-      (progress_kept code (machine_kind kd) base.capacity t r F (promise_is kd) is_sound
+      pays_run r (promise_is kd) is_sound
+      (progress_kept r (promise_is kd) is_sound
       (kept_on kd t r.of_kind run_here.reached.coded run_here.reached.admitted run_here.fresh)))
 
   -- a machine of a queue keeps who holds its roles

@@ -97,13 +97,13 @@ module _ {T : Type 0} (capacity : ℕ) (c : Recovering) (same : c.capacity ≡ c
 
   -- after a raise of the counter a recovery has written what its visits say, also where it then
   -- locks the set or ends
-  raised : (index : ℕ) → index < capacity → (m : ReleaseMode) → mode ≡ m → (owner : ℕ) (es : List (Event T)) (visits : List Visit)
+  raised : {index : ℕ} → index < capacity → (m : ReleaseMode) → mode ≡ m → {owner : ℕ} (es : List (Event T)) {visits : List Visit}
       → HasCome mode index HasFreed owner visits → es ≡ wrote_by p visits → (r : After Raise ReleaseState) → RecoverGoes es visits (recover_raised c index m r)
-  raised index low m may owner es visits come es_is r = go m may r
+  raised {index} low m may {owner} es {visits} come es_is r = go m may r
     where
       -- with the last visit the visits are of indices up to that one
       past : AreVisits mode (index + 1) visits
-      past = came_past mode index owner HasFreed visits tt come
+      past = came_past mode tt come
 
       -- the recovery has written just what its visits say
       still : es ≡ wrote_by p visits ++ []
@@ -119,11 +119,11 @@ module _ {T : Type 0} (capacity : ℕ) (c : Recovering) (same : c.capacity ≡ c
       go Default may (Done states.Unlocked) = next_to index low es visits past es_is
 
   -- after a step of its lock a recovery has written what its visits say
-  counted : (index : ℕ) → index < capacity → mode ≡ LockIfLastIndex → (owner : ℕ) (es : List (Event T)) (visits : List Visit)
+  counted : {index : ℕ} → index < capacity → mode ≡ LockIfLastIndex → {owner : ℕ} (es : List (Event T)) {visits : List Visit}
       → HasCome mode index HasFreed owner visits → es ≡ wrote_by p visits → (r : After Lock ReleaseState) → LockOn capacity r
       → RecoverGoes es visits (recover_locked c index r)
-  counted index low may owner es visits come es_is (GoOn lock) on = grind (arith, between)
-  counted index low may owner es visits come es_is (Done state) on = next_to index low es visits (came_past mode index owner HasFreed visits tt come) es_is
+  counted low may es come es_is (GoOn lock) on = grind (arith, between)
+  counted {index} low may {owner} es {visits} come es_is (Done state) on = next_to index low es visits (came_past mode tt come) es_is
 
   -- what a recovery has written after a step, where it goes on or ends
   recovers_so : (stage : RecoverStage) (k : ℕ) (es : List (Event T)) (visits : List Visit) → RecoverIn capacity mode stage
@@ -166,11 +166,11 @@ module _ {T : Type 0} (capacity : ℕ) (c : Recovering) (same : c.capacity ≡ c
       freed : es ++ gone ∷ [] ≡ wrote_by p (came_to HasFreed visits)
       freed =
           ap (λ zs. zs ++ gone ∷ []) es_is ∙ (append_assoc (wrote_by p visits) (told ∷ []) (gone ∷ [])
-          ∙ wrote_on p mode index owner HasAsked HasFreed visits (wrote_by p visits) (told ∷ gone ∷ []) refl visits_at refl)
+          ∙ wrote_on p HasFreed (wrote_by p visits) (told ∷ gone ∷ []) refl visits_at refl)
 
       -- with another number in the cell, the last visit tells of the answer alone
       left : es ≡ wrote_by p (came_to WasTold visits)
-      left = es_is ∙ wrote_on p mode index owner HasAsked WasTold visits (wrote_by p visits) (told ∷ []) refl visits_at refl
+      left = es_is ∙ wrote_on p WasTold (wrote_by p visits) (told ∷ []) refl visits_at refl
 
       -- where it empties a cell, it has freed the index, or found another owner, and has written which
       go : (b : Bool) → (k == owner) ≡ b → RecoverGoes (es ++ recover_effects p (recovers.EmptiesCell index owner) k)
@@ -181,19 +181,19 @@ module _ {T : Type 0} (capacity : ℕ) (c : Recovering) (same : c.capacity ≡ c
         between (es ++ gone ∷ []) (wrote_by p (came_to HasFreed visits)) freed,
       )
       go false e = rw e (next_to index recover_in (es ++ []) (came_to WasTold visits)
-          (came_past mode index owner WasTold (came_to WasTold visits) tt (comes_on mode index owner HasAsked WasTold visits visits_at))
+          (came_past mode tt (comes_on mode index owner HasAsked WasTold visits visits_at))
           (quiet es (wrote_by p (came_to WasTold visits)) left))
   recovers_so (recovers.Raises index raise) k es visits recover_in visits_at es_is =
-      raised index recover_in mode refl visits_at.0 (es ++ []) visits visits_at.1 (quiet es (wrote_by p visits) (all_of es (wrote_by p visits) es_is))
+      raised recover_in mode refl (es ++ []) visits_at.1 (quiet es (wrote_by p visits) (all_of es (wrote_by p visits) es_is))
       (raise_after raise k)
   recovers_so (recovers.Locks index (locks.Counts count)) k es visits recover_in visits_at es_is =
-      counted index recover_in.1 recover_in.0 visits_at.0 (es ++ []) visits visits_at.1 (quiet es (wrote_by p visits) (all_of es (wrote_by p visits) es_is))
+      counted recover_in.1 recover_in.0 (es ++ []) visits_at.1 (quiet es (wrote_by p visits) (all_of es (wrote_by p visits) es_is))
       (lock_after c.capacity (locks.Counts count) k) (lock_on capacity c.capacity same (locks.Counts count) k)
   recovers_so (recovers.Locks index (locks.ExchangesCounter counter)) k es visits recover_in visits_at es_is =
       by_bool (k == counter)
       (λ e. rw e (next_to index recover_in.1 (es ++ Locked p ∷ []) shut
-      (came_past mode index visits_at.0 HasLocked shut recover_in.0 (comes_on mode index visits_at.0 HasFreed HasLocked visits visits_at.1))
-      (wrote_on p mode index visits_at.0 HasFreed HasLocked visits es (Locked p ∷ []) refl visits_at.1 wrote)))
+      (came_past mode recover_in.0 (comes_on mode index visits_at.0 HasFreed HasLocked visits visits_at.1))
+      (wrote_on p HasLocked es (Locked p ∷ []) refl visits_at.1 wrote)))
       (λ e. grind (arith, between, quiet, wrote))
     where
       -- before the step the recovery has written what its visits say
@@ -313,7 +313,7 @@ module _ {T : Type 0} (code : Coding T) (mode : ReleaseMode) where
   -- each step of a recovery keeps the rule of the table; at a question the machine is handed the answer with the step after it
   pub recover_keeps : KeepsSo code kinds.Robust cells_and_counter driven RecoveryStands RecoveryEnded
   recover_keeps =
-      keeps_asked (lone_machines (robust_machines code)) tt robust_effects driven (acts_alone (robust_machines code) (recovers_owned mode)) recover_call
+      keeps_asked (lone_machines (robust_machines code)) tt (acts_alone (robust_machines code)) recover_call
 
   -- a recovery that has asked goes on from the answer
   pub recover_hears : (base v : View T) (c d : Recovering) (m : List Visit) (said : Bool) → is_question (recover_want c) ≡ true
@@ -333,20 +333,20 @@ module _ {T : Type 0} (code : Coding T) (mode : ReleaseMode) where
   made_there = grind (arith, opened, append-nil)
 
   -- a view has one list of visits of a recovery under way in it
-  under_same : (base other v : View T) (c : Recovering) (m k : List Visit) → base.going ≡ None → other.going ≡ None
+  under_same : {base other v : View T} {c : Recovering} {m k : List Visit} → base.going ≡ None → other.going ≡ None
       → IsUnderWay code kinds.Robust (recovers_owned mode) base v c m → IsUnderWay code kinds.Robust (recovers_owned mode) other v c k → m ≡ k
-  under_same base other v c m k idle too first_under_way second_under_way =
+  under_same {base} {other} {v} {c} {m} {k} idle too first_under_way second_under_way =
       let both : ◌≡◌ {A = Option ℕ} (Some first_under_way.party) (Some second_under_way.party) = sym first_under_way.mine ∙ second_under_way.mine in
       let by : first_under_way.party ≡ second_under_way.party = cc in
-      same_visits first_under_way.party second_under_way.party base.capacity other.capacity mode
+      same_visits base.capacity other.capacity mode
       (Robust (Recover mode)) c.stage v.made base.made other.made m k by
       (first_under_way.tells idle).0 (second_under_way.tells too).0
       (sym first_under_way.capacity ∙ second_under_way.capacity) (made_there base v c m idle first_under_way)
       (made_there other v c k too second_under_way)
 
   -- as it begins a recovery has no visits
-  none_first : (base v : View T) (c : Recovering) (m : List Visit) → IsFirst code kinds.Robust (recovers_owned mode) base v c m → m ≡ []
-  none_first base v c m first =
+  none_first : {base v : View T} {c : Recovering} {m : List Visit} → IsFirst code kinds.Robust (recovers_owned mode) base v c m → m ≡ []
+  none_first {base} {c = c} {m = m} first =
       let is : first_recover base.capacity ≡ c = ap (λ (o : Option (Flight T)). begun_recovery c o) first.first in
       subst (λ (z : Recovering). VisitsAt base.capacity mode z.stage m) (sym is) (first.wrote 0 refl).0
 
@@ -371,17 +371,17 @@ module _ {T : Type 0} (code : Coding T) (mode : ReleaseMode) where
   same_there : (base other v : View T) (c : Recovering) (m k : List Visit) → base.going ≡ None → other.going ≡ None → RecoveryStands base v c m
       → RecoveryStands other v c k
       → m ≡ k
-  same_there base other v c m k idle too (inl (inl a)) (inl (inl b)) = none_first base v c m a ∙ sym (none_first other v c k b)
+  same_there base other v c m k idle too (inl (inl a)) (inl (inl b)) = none_first a ∙ sym (none_first b)
   same_there base other v c m k idle too (inl (inl a)) (inl (inr b)) = clash base v _ a.is idle b.going
   same_there base other v c m k idle too (inl (inl a)) (inr b) = clash base v _ a.is idle b.before.going
   same_there base other v c m k idle too (inl (inr a)) (inl (inl b)) = clash other v _ b.is too a.going
-  same_there base other v c m k idle too (inl (inr a)) (inl (inr b)) = under_same base other v c m k idle too a b
+  same_there base other v c m k idle too (inl (inr a)) (inl (inr b)) = under_same idle too a b
   same_there base other v c m k idle too (inl (inr a)) (inr b) = grind (arith, not_both, number_of, going_same)
   same_there base other v c m k idle too (inr a) (inl (inl b)) = clash other v _ b.is too a.before.going
   same_there base other v c m k idle too (inr a) (inl (inr b)) = grind (arith, not_both, number_of, going_same)
   same_there base other v c m k idle too (inr a) (inr b) =
       let same = going_same v b.asking a.asking b.room a.room b.before.going a.before.going in
-      let rooms = under_same base other v a.asking a.room b.room idle too a.before
+      let rooms = under_same idle too a.before
       (subst (λ (z : Recovering). IsUnderWay code kinds.Robust (recovers_owned mode) other v z b.room) same b.before) in
       a.keeps
       ∙ (asked_alike a.asking.stage a.room (number_of a.said) (number_of b.said) a.asks

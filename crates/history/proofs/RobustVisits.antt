@@ -55,9 +55,9 @@ module _ (mode : ReleaseMode) where
   )
 
   -- with the last visit the visits are of indices up to that one
-  pub came_past : (index owner : ℕ) (came : Came) (visits : List Visit) → MayCome mode came → HasCome mode index came owner visits
+  pub came_past : {index owner : ℕ} {came : Came} {visits : List Visit} → MayCome mode came → HasCome mode index came owner visits
       → AreVisits mode (index + 1) visits
-  came_past index owner came visits may come = subst (AreVisits mode (index + 1)) (sym come.is) (one_more index owner came come.before may come.passed)
+  came_past {index} {owner} {came} may come = subst (AreVisits mode (index + 1)) (sym come.is) (one_more index owner came come.before may come.passed)
 
   -- the recovery comes further with the last visit
   abbrev pub comes_on : (index owner : ℕ) (came next : Came) (visits : List Visit) → HasCome mode index came owner visits
@@ -75,10 +75,10 @@ module _ {T : Type 0} (p : ℕ) where
   wrote_last = grind (arith, flat_map-append, append-nil)
 
   -- what the recovery writes as it comes further with the last visit is what the visits then tell
-  pub wrote_on : (mode : ReleaseMode) (index owner : ℕ) (came next : Came) (visits : List Visit) (es more : List (Event T))
+  pub wrote_on : {mode : ReleaseMode} {index owner : ℕ} {came : Came} (next : Came) {visits : List Visit} (es more : List (Event T))
       → wrote_to p index owner came ++ more ≡ wrote_to p index owner next → HasCome mode index came owner visits
       → es ≡ wrote visits → es ++ more ≡ wrote (came_to next visits)
-  wrote_on mode index owner came next visits es more longer come es_is =
+  wrote_on {mode} {index} {owner} {came} next {visits} es more longer come es_is =
       ap (λ zs. zs ++ more) (es_is ∙ (ap wrote come.is ∙ wrote_last come.before (visit index owner came)))
       ∙ (append_assoc (wrote come.before) (wrote_to p index owner came) more
       ∙ (ap (λ zs. wrote come.before ++ zs) longer
@@ -132,10 +132,10 @@ module _ (T : Type 0) (p : ℕ) where
   told_apart capacity mode recovers.LoadsCounterAgain a b first_visits_at second_visits_at fold_is = fold_is
 
 -- two recoveries at one stage, with the same events since they began, have the same visits
-pub same_visits : {T : Type 0} (p q size other : ℕ) (mode : ReleaseMode) (start : Start T) (stage : RecoverStage) (made first second : List (Event T))
+pub same_visits : {T : Type 0} {p q : ℕ} (size other : ℕ) (mode : ReleaseMode) (start : Start T) (stage : RecoverStage) (made first second : List (Event T))
     (a b : List Visit) → p ≡ q → VisitsAt size mode stage a → VisitsAt other mode stage b → size ≡ other
     → made ≡ first ++ Begun p start ∷ (wrote_by p a ++ wrote_now p stage) → made ≡ second ++ Begun q start ∷ (wrote_by q b ++ wrote_now q stage) → a ≡ b
-same_visits {T} p q size other mode start stage made first second a b by first_visits_at second_visits_at sized made_is also =
+same_visits {T} {p = p} size other mode start stage made first second a b by first_visits_at second_visits_at sized made_is also =
     let there : made ≡ second ++ Begun p start ∷ (wrote_by p b ++ wrote_now p stage) =
     subst (λ r. made ≡ second ++ Begun r start ∷ (wrote_by r b ++ wrote_now r stage)) (sym by) also in
     told_apart T p size mode stage a b first_visits_at (subst (λ n. VisitsAt n mode stage b) (sym sized) second_visits_at)

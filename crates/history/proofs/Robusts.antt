@@ -48,8 +48,8 @@ module _ {T : Type 0} (code : Coding T) (capacity : ℕ) where
   IsRobust t = IsRun code kinds.Robust capacity t
 
   -- an open run of a robust set keeps the invariant of its laws
-  robust_sound : (t : Trace T) → IsRobust t → frame.Sound (family_by Word t.world.coding t.world.capacity) t
-  robust_sound t robust = reached_open_sound t robust.of_kind robust.reached
+  robust_sound : {t : Trace T} → IsRobust t → frame.Sound (family_by Word t.world.coding t.world.capacity) t
+  robust_sound {t} robust = reached_open_sound t robust.of_kind robust.reached
 
   -- in an open run nobody has died
   all_live : (t : Trace T) → IsRobust t → AllLive t.events
@@ -66,7 +66,7 @@ module _ {T : Type 0} (code : Coding T) (capacity : ℕ) where
   -- nothing that is tested of a pending call refuses its step
   no_rows : (t : Trace T) → IsRobust t → (c : ℕ) (all : List SetAct) (start : Start T) (flight : Flight T) → FlightAt c all start flight
       → first_row (going_rows t.world.coding t.world.kept (Some flight) None) ≡ None
-  no_rows t robust c all (Robust start) (flights.Robust flight) flight_at = step_is_free t.world.coding t.world.capacity t (robust_sound t robust)
+  no_rows t robust c all (Robust start) (flights.Robust flight) flight_at = step_is_free t.world.coding t.world.capacity t (robust_sound robust)
       (all_live t robust) flight
   no_rows t robust c all start flight flight_at = absurd flight_at
 
@@ -87,7 +87,7 @@ module _ {T : Type 0} (code : Coding T) (capacity : ℕ) where
       → CallGoesOn code kinds.Robust capacity (cells_and_counter capacity) robust_effects t p flight
   goes_on t robust p start flight call_is =
       let world_now = t.world in
-      let is_sound = robust_sound t robust in
+      let is_sound = robust_sound robust in
       let here = stands world_now p start flight call_is in
       let there = stands_there (family_by Word world_now.coding world_now.capacity) t is_sound p here.x here.since flight here.found here.doing in
       let done : List SetAct = set_acts_of p is_sound.state.events in
@@ -117,7 +117,7 @@ module _ {T : Type 0} (code : Coding T) (capacity : ℕ) where
     size = robust_size;
     goes_on = goes_on;
     alone = λ going late h. h;
-    stateless = λ t r. (let is_sound = robust_sound t r in subst IsStateless (sym is_sound.fit.kept) tt);
+    stateless = λ t r. (let is_sound = robust_sound r in subst IsStateless (sym is_sound.fit.kept) tt);
   }
 
   -- the bounds of a set's calls, as the laws of all kinds need them
@@ -127,10 +127,10 @@ module _ {T : Type 0} (code : Coding T) (capacity : ℕ) where
   -- each call takes at most the steps that the model promises of a robust index set
   pub robust_pays : Pays code kinds.Robust capacity
   robust_pays t r =
-      (let is_sound = robust_sound t r in
+      (let is_sound = robust_sound r in
       let F = family_by Word t.world.coding t.world.capacity in
-      pays_run code kinds.Robust capacity t r F refl is_sound
-      (progress_within code kinds.Robust capacity t r F refl is_sound (robust_bounds t.world.coding t.world.capacity)))
+      pays_run r refl is_sound
+      (progress_within r refl is_sound (robust_bounds t.world.coding t.world.capacity)))
 
 -- ---- which party may begin a call
 
@@ -142,7 +142,7 @@ module _ {T : Type 0} (code : Coding T) (base : View T) where
   -- in an open run the machine keeps nobody as dead
   kept_there : (t : Trace T) → IsPassRun t → (dead : List ℕ) × (t.world.kept ≡ registries.Owners dead) × ((owner : ℕ) → has_died owner dead ≡ false)
   kept_there t is_on =
-      let is_sound = robust_sound code base.capacity t is_on in (
+      let is_sound = robust_sound code base.capacity is_on in (
         is_sound.state.dead,
         is_sound.fit.kept,
         λ owner. has_not_died t.world.coding t.world.capacity t is_sound

@@ -46,7 +46,7 @@ module _ {T : Type 0} where
   effects_own p (e ∷ es) all_hold = (effect_own p e all_hold.0, effects_own p es all_hold.1)
 
 -- K is the outline of a set's family
-module _ {T : Type 0} (K : SetOutline T) (laws : (code : Coding T) (c : ℕ) → SetLaws K code c) (code : Coding T) (capacity words : ℕ)
+module _ {T : Type 0} {K : SetOutline T} (laws : (code : Coding T) (c : ℕ) → SetLaws K code c) (code : Coding T) (capacity words : ℕ)
     (sized : (c : ℕ) (ws : List ℕ) (es : List (Event T)) (turns : ℕ) → c ≡ capacity → K.Holds c ws es turns → length ws ≡ words)
     (on : (t : Trace T) → IsReachedAs K.kind t → IsReachedOn t) where
   -- the machine is one of a run of a set of this kind and capacity
@@ -54,16 +54,16 @@ module _ {T : Type 0} (K : SetOutline T) (laws : (code : Coding T) (c : ℕ) →
   IsSetRun t = IsRun code K.kind capacity t
 
   -- a run of a set keeps the invariant of its laws
-  sound : (t : Trace T) → IsSetRun t → frame.Sound (family K t.world.coding t.world.capacity) t
-  sound t set = sound_on K laws t set.of_kind (on t set.reached)
+  sound : {t : Trace T} → IsSetRun t → frame.Sound (family K t.world.coding t.world.capacity) t
+  sound {t} set = sound_on K laws t set.of_kind (on t set.reached)
 
   -- a machine of a set keeps nothing besides its words
   pub bare : (t : Trace T) → IsSetRun t → t.world.kept ≡ (opening_of K.kind).kept capacity
-  bare t set = (sound t set).fit.kept ∙ sym ((laws code capacity).bare)
+  bare t set = (sound set).fit.kept ∙ sym ((laws code capacity).bare)
 
   -- a reached set has as many words as its kind says for its capacity
   size : (t : Trace T) → IsSetRun t → length t.world.words ≡ words
-  size t set = let is_sound = sound t set in
+  size t set = let is_sound = sound set in
       ap length is_sound.fit.words ∙ sized t.world.capacity is_sound.state.words t.events t.world.turns set.sized is_sound.holds.0
 
   -- nothing that is tested of a pending call refuses its step
@@ -93,7 +93,7 @@ module _ {T : Type 0} (K : SetOutline T) (laws : (code : Coding T) (c : ℕ) →
   goes_on : (t : Trace T) → IsSetRun t → (p : ℕ) (start : Start T) (flight : Flight T)
       → call_in t.world p ≡ Some (start, flight) → CallGoesOn code K.kind capacity words set_effects t p flight
   goes_on t set p start flight call_is =
-      let is_sound = sound t set in
+      let is_sound = sound set in
       let here = stands t.world p start flight call_is in
       let there = stands_there (family K t.world.coding t.world.capacity) t is_sound p here.x here.since flight here.found here.doing in
       let wrote : List (Event T) = wrote_in (span_of p is_sound.state.events) in
@@ -111,14 +111,14 @@ module _ {T : Type 0} (K : SetOutline T) (laws : (code : Coding T) (c : ℕ) →
             let same : here.x ≡ x = (let both : Some here.x ≡ Some x = sym here.found ∙ found in cc) in
             let orders = sets.orders K laws t.world.coding t.world.capacity in
             subst (λ (z : Party T). (step_in t.world p z flight n).after ≡ after_of t.world.coding flight n) same
-            (orders.after t p here.x flight here.since n (sound t set) here.found here.doing
+            (orders.after t p here.x flight here.since n (sound set) here.found here.doing
             ∙ as_told t.world.coding p n (K.At t.world.capacity wrote) t.world.kept here.x.start flight mine));
       }
 
   -- sets keep the laws of a kind, where nothing is late for a call
   pub sets_owe : ((going : Option (Start T × Flight T)) (late : List (Event T)) → IsLate K.kind going late → late ≡ [])
       → KindLaws code K.kind capacity words set_effects
-  sets_owe alone = record { size = size; goes_on = goes_on; alone = alone; stateless = λ t r. subst IsStateless (sym (sound t r).fit.kept) tt }
+  sets_owe alone = record { size = size; goes_on = goes_on; alone = alone; stateless = λ t r. subst IsStateless (sym (sound r).fit.kept) tt }
 
   -- the bounds of a set's calls, as the laws of all kinds need them
   set_bounds : (z : Coding T) (c : ℕ) → frame.Bounds (family K z c)
@@ -140,13 +140,13 @@ module _ {T : Type 0} (K : SetOutline T) (laws : (code : Coding T) (c : ℕ) →
   -- each call takes at most the steps that the model promises of a set
   pub set_pays : Pays code K.kind capacity
   set_pays t r =
-      (let is_sound = sound t r in
+      (let is_sound = sound r in
       let F = family K t.world.coding t.world.capacity in
-      pays_run code K.kind capacity t r F (laws code capacity).promise is_sound
-      (progress_within code K.kind capacity t r F (laws code capacity).promise is_sound (set_bounds t.world.coding t.world.capacity)))
+      pays_run r (laws code capacity).promise is_sound
+      (progress_within r (laws code capacity).promise is_sound (set_bounds t.world.coding t.world.capacity)))
 
   -- a call of a set begins at any time, as the party that the pass was last, or of the pass's own number
-  pub set_starts : {C M E : Type 0} → (call : Calling T C M E) (base : View T) (c : C) (m : M)
+  pub set_starts : {C M E : Type 0} → {call : Calling T C M E} {base : View T} {c : C} {m : M}
       → base.capacity ≡ capacity → ((o : Option ℕ) (p : ℕ) → IfSome o (λ q. q ≡ p) → call.by o p)
       → first_of K.kind capacity call.start ((opening_of K.kind).kept capacity) ≡ Some (call.flight c m)
       → ((p : ℕ) → first_row (begin_rows K.kind capacity ((opening_of K.kind).kept capacity) p call.start) ≡ None)
@@ -154,7 +154,7 @@ module _ {T : Type 0} (K : SetOutline T) (laws : (code : Coding T) (c : ℕ) →
       → IfSome base.party (λ p. owner p ≡ j)
       → ((f : Event T → ℕ) → sum_by f base.made ≡ sum_by (owned owner j f) t.events)
       → Starts code K.kind call base c m t owner j
-  set_starts {C} {M} {E} call base c m size by first may t owner j run self party sums =
+  set_starts {C} {M} {E} {call = call} {base = base} {c = c} {m = m} size by first may t owner j run self party sums =
       starts_by_last code K.kind call base c m t owner j by self party first_here may_here
     where
       -- the machine keeps nothing besides its words
@@ -172,20 +172,20 @@ module _ {T : Type 0} (K : SetOutline T) (laws : (code : Coding T) (c : ℕ) →
 module _ {T : Type 0} (code : Coding T) (capacity : ℕ) where
   -- counting bit sets keep the laws of a kind
   pub counts_owe : KindLaws code kinds.Counts capacity capacity set_effects
-  counts_owe = sets_owe counting_set counts_laws code capacity capacity (λ c ws es turns same holds. holds.sized ∙ same) (λ t h. h) (λ going late h. h)
+  counts_owe = sets_owe counts_laws code capacity capacity (λ c ws es turns same holds. holds.sized ∙ same) (λ t h. h) (λ going late h. h)
 
   -- bit sets keep the laws of a kind
   pub bits_owe : KindLaws code kinds.Bits capacity (1 + elements capacity) set_effects
-  bits_owe = sets_owe bit_set bits_laws code capacity (1 + elements capacity) (λ c ws es turns same holds. holds.sized ∙ ap (λ n. 1 + elements n) same)
+  bits_owe = sets_owe bits_laws code capacity (1 + elements capacity) (λ c ws es turns same holds. holds.sized ∙ ap (λ n. 1 + elements n) same)
       (λ t h. h) (λ going late h. h)
 
   -- each call takes at most the steps that the model promises of a counting bit set
   pub counts_pays : Pays code kinds.Counts capacity
-  counts_pays = set_pays counting_set counts_laws code capacity capacity (λ c ws es turns same holds. holds.sized ∙ same) (λ t h. h)
+  counts_pays = set_pays counts_laws code capacity capacity (λ c ws es turns same holds. holds.sized ∙ same) (λ t h. h)
 
   -- each call takes at most the steps that the model promises of a bit set
   pub bits_pays : Pays code kinds.Bits capacity
-  bits_pays = set_pays bit_set bits_laws code capacity (1 + elements capacity) (λ c ws es turns same holds. holds.sized ∙ ap (λ n. 1 + elements n) same)
+  bits_pays = set_pays bits_laws code capacity (1 + elements capacity) (λ c ws es turns same holds. holds.sized ∙ ap (λ n. 1 + elements n) same)
       (λ t h. h)
 
 -- base is what the pass knows, c where the call begins, m its room
@@ -207,8 +207,8 @@ module _ {T C M E : Type 0} (code : Coding T) (call : Calling T C M E) (base : V
       (begin_rows kinds.Counts base.capacity ((opening_of kinds.Counts).kept base.capacity) p call.start)
       ≡ None)
       → StartsOn kinds.Counts
-  counts_starts first may = set_starts counting_set counts_laws code base.capacity base.capacity (λ c ws es turns same holds. holds.sized ∙ same)
-      (λ t h. h) call base c m refl by first may
+  counts_starts first may = set_starts counts_laws code base.capacity base.capacity (λ c ws es turns same holds. holds.sized ∙ same)
+      (λ t h. h) refl by first may
 
   -- a call on a bit set begins as that of the pass's party
   pub bits_starts : first_of kinds.Bits base.capacity call.start ((opening_of kinds.Bits).kept base.capacity)
@@ -217,8 +217,8 @@ module _ {T C M E : Type 0} (code : Coding T) (call : Calling T C M E) (base : V
       → first_row (begin_rows kinds.Bits base.capacity ((opening_of kinds.Bits).kept base.capacity) p call.start)
       ≡ None)
       → StartsOn kinds.Bits
-  bits_starts first may = set_starts bit_set bits_laws code base.capacity (1 + elements base.capacity)
-      (λ c ws es turns same holds. holds.sized ∙ ap (λ n. 1 + elements n) same) (λ t h. h) call base c m refl by first may
+  bits_starts first may = set_starts bits_laws code base.capacity (1 + elements base.capacity)
+      (λ c ws es turns same holds. holds.sized ∙ ap (λ n. 1 + elements n) same) (λ t h. h) refl by first may
 
 -- ---- how their tables open
 

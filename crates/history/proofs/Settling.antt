@@ -145,14 +145,14 @@ module _ {T : Type 0} (hearing : Hearing T) where
           old = steps_of_run code kind key r.one.turns;
           n = 0;
           have = r.asked;
-          has = asked_at s.views (steps_of_run code kind key r.one.turns) id v at r.known.shares r.asked;
+          has = asked_at id at r.known.shares r.asked;
           more = decided_took answering;
           own = omega arith;
         }
 
     -- what the seat has asked for is still counted right
     has_settled : HasAsked view_settled (steps_of_run code kind key between_then.one.turns)
-    has_settled = gains_has s.views v view_settled (steps_of_run code kind key between_then.one.turns) gains_settled refl
+    has_settled = gains_has gains_settled refl
 
     -- the table with this view is a machine
     pub machine_settled : IsMachine code kind key table_settled
@@ -199,7 +199,7 @@ module _ {T : Type 0} (hearing : Hearing T) where
     seen_all all =
         ⊎_elim (λ (e : v.seen ≡ r.trace.events). no_rest v.seen here.seen.rest (e ∙ here.seen.is))
         (λ (e : v.other ≡ r.trace.events). none_after v.seen here.seen.rest (sym (sym here.seen.is ∙ (sym e ∙ h.alone))))
-        (known_whole s.views r.trace.events id v at all r.known)
+        (known_whole id at all r.known)
 
     -- the machine after the answer is a run
     run_then : IsRun code kind v.capacity u_then
@@ -230,7 +230,7 @@ module _ {T : Type 0} (hearing : Hearing T) where
           history = record { trace = u_then; run = run_then; is = refl };
           ran =
               subst (λ n. Continues code kind n v view_settled) (sym known)
-              (continues_all code kind key s.views u_then id v view_settled between_then.one at between_then.run refl refl refl has_settled);
+              (continues_all code kind key id between_then.one at between_then.run refl refl refl has_settled);
           all = λ all f. made_between code kind key r.owner id h.party gained_then u_then s between_then v at all f;
           parties = record { owner = r.owner; seat = id; sums = λ f. sum_by-append f v.made gained_then ∙ between_then.made_own v at f };
         }
@@ -293,7 +293,7 @@ module _ {T : Type 0} (hearing : Hearing T) where
     begun_keeps = grind arith
 
     -- who has still to begin
-    module _ (v : View T) (c : C) (m : M) (key words slots id : ℕ) (wide : words ≡ size_of key + 1) (known : v.capacity ≡ key) (h : IsResting code v)
+    module _ {v : View T} {c : C} {m : M} (key words slots id : ℕ) (wide : words ≡ size_of key + 1) (known : v.capacity ≡ key) (h : IsResting code v)
         (begins : Begins v c m) (ok : may c) where
       -- the call asks for a word of the structure
       word : AsksFor (size_of key) (want c)
@@ -367,8 +367,8 @@ module _ {T : Type 0} (hearing : Hearing T) where
         let resting = subst (λ z. IsResting code z) (sym waits.is) waits.resting in
         let begins = subst (λ (z : View T). Begins z c m) (sym waits.is) waits.first in
         subst (λ w. Owes (λ (z : View T). z.asked) (IsMachine code kind key) words slots id (ToldRested c m) w (v, []))
-        (sym (word v c m key words slots id wide known resting begins ok).2)
-        (first_keeps v c m key words slots id wide known resting begins ok)
+        (sym (word key words slots id wide known resting begins ok).2)
+        (first_keeps key words slots id wide known resting begins ok)
 
     -- the call may begin on a pass with no call under way
     pub begins_idle : (v : View T) (c : C) (m : M) → Begins v c m → v.going ≡ None → v.other ≡ [] → 0 < v.share.part → StandsRested v v c m

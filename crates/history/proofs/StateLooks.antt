@@ -194,8 +194,7 @@ module _ {T : Type 0} (code : Coding T) (law : IsCoding code) (which : LookOf) (
         let standing = still_stands code kinds.Container call base v c m there in (
           stage.0,
           inr (
-            goes_then machines call step
-                base there d now (comes ∙ ap (λ a. goes call a now) leads)
+            goes_then machines call step there (comes ∙ ap (λ a. goes call a now) leads)
                 (goes_so base.capacity y.p c m n [] (GoOn d) standing (none_looked y.p c.stage) leads).0
                 (λ k. refl)
                 (λ es late h waits met new. subst (λ zs. LookedAt y.p d.stage zs) (sym (its_own es late waits))

@@ -46,15 +46,15 @@ module _ {T : Type 0} (code : Coding T) (kind : Kind) (capacity id p : ℕ) wher
 
   -- The table holds the rule with this view of the seat, where the machine stands at its words and the view's
   -- counts are right.
-  pub settle_with : (owner : ℕ → ℕ) (asked aside taken : ℕ) (words : List ℕ) (s : State (Unit {0}) (View T))
-      (v : View T) (gained : List (Event T)) (u : Trace T)
+  pub settle_with : {owner : ℕ → ℕ} {asked aside : ℕ} (taken : ℕ) (words : List ℕ) (s : State (Unit {0}) (View T))
+      {v : View T} {gained : List (Event T)} {u : Trace T}
       → get_elem? s.views id ≡ some v → 0 < v.share.part
       → ((call : Start T × Flight T) → call_in u.world p ≡ Some call → steps_in u.world p ≡ taken)
       → Between code kind capacity owner (record { words = words; homes = s.homes; views = s.views }) id p gained u
       → (one : OneRun code kind capacity s.views u) → Gains s.views v asked aside (steps_of_run code kind capacity one.turns)
       → IsMachine code kind capacity
       (record { words = words; homes = s.homes; views = slice_set s.views id (view_with one.turns asked aside taken v gained u) })
-  settle_with owner asked aside taken words s v gained u has_view some_share counts between one gains =
+  settle_with {owner} {asked} {aside} taken words s {v} {gained} {u} has_view some_share counts between one gains =
       record {
         -- the machine after the step has the table's words
         trace = u;
@@ -72,9 +72,9 @@ module _ {T : Type 0} (code : Coding T) (kind : Kind) (capacity id p : ℕ) wher
         further = λ j past. between.further j (λ e. absurd (none j past e)) (beyond j past);
         made_none = λ j past. between.made_none j (λ e. absurd (none j past e)) (beyond j past);
         -- the run, what all seats asked for, and that some seat has seen all events
-        one = one_set code kind capacity s.views u id now one (knew_all code kind capacity s.views u now one refl refl);
-        asked = gains_have s.views id v now (steps_of_run code kind capacity one.turns) has_view gains some_share;
-        known = known_step s.views u.events id v now (within s.views id v has_view) has_view refl some_share refl between.someone between.spent between.shares;
+        one = one_set code kind capacity s.views u id now one (knew_all code kind capacity one refl refl);
+        asked = gains_have id now has_view gains some_share;
+        known = known_step id v now (within s.views id v has_view) has_view refl some_share refl between.someone between.spent between.shares;
       }
     where
       -- the view of the seat after the step
@@ -101,4 +101,4 @@ module _ {T : Type 0} (code : Coding T) (kind : Kind) (capacity id p : ℕ) wher
       → Gains s.views v asked aside (steps_of_run code kind capacity b.one.turns)
       → IsMachine code kind capacity (record { words = words; homes = s.homes; views = slice_set s.views id (view_after b.one.turns asked aside v gained u) })
   settle owner asked aside words s v gained u has_view some_share b gains =
-      settle_with owner asked aside (steps_in u.world p) words s v gained u has_view some_share (λ call is. refl) b b.one gains
+      settle_with (steps_in u.world p) words s has_view some_share (λ call is. refl) b b.one gains

@@ -15,7 +15,7 @@ module _ {T : Type 0} where
   -- ---- what another writes for a seat's call
 
   -- a turn of another party keeps what a seat knows: where it writes for the seat's call, the seat has still to see it
-  module _ (kind : Kind) (owner : ℕ → ℕ) (u w : Trace T) (es : List (Event T)) (j : ℕ) (v : View T)
+  module _ (kind : Kind) {owner : ℕ → ℕ} {u : Trace T} (w : Trace T) (es : List (Event T)) {j : ℕ} {v : View T}
       (f : Fits owner u j v) (same : u.world.kind ≡ kind) (same' : w.world.kind ≡ kind)
       (more : w.events ≡ u.events ++ es)
       (beside : (q : ℕ) → owner q ≡ j → IsLate kind (call_in u.world q) (events_by q es))

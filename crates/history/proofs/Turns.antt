@@ -189,7 +189,7 @@ module _ {T : Type 0} (turning : Turning T) where
         words = same;
         -- each other seat still fits the machine, for whose parties the turn changed nothing
         others =
-            λ j v ne at. still_fits kind owner u (after_turn u turn) es j v (b.others j v ne at) b.run.of_kind
+            λ j v ne at. still_fits kind (after_turn u turn) es (b.others j v ne at) b.run.of_kind
             run.of_kind refl (λ q of_j. beside q (not_mine j q ne of_j)) (λ q of_j. apart q (not_mine j q ne of_j))
             (λ q of_j. laws.states u turn b.run run free q (no_look q (not_mine j q ne of_j)))
             (λ q of_j. still q (not_mine j q ne of_j));
@@ -364,7 +364,7 @@ module _ {T : Type 0} (going : Going T) where
   -- what is kept after the step is what the table keeps
   pub kept_then : (after_turn u (Next p)).world.kept ≡ (step_in u.world p (stands u.world p start flight at).x flight found).kept
   kept_then =
-      next_kept u.world p start flight (stands u.world p start flight at)
+      next_kept (stands u.world p start flight at)
       ∙ ap (λ n. (step_in u.world p (stands u.world p start flight at).x flight n).kept) found_old
 
   ends_own : AreOf p (ending_of p start (answer_in (goes_then found)))
@@ -418,16 +418,16 @@ module _ {T : Type 0} (going : Going T) where
 
   -- after the step the party's latest call is still this one
   pub gone_named : started (party_of p (after_turn u (Next p)).world.latest) ≡ Some start
-  gone_named = started_next_own u.world p start flight (stands u.world p start flight at)
+  gone_named = started_next_own (stands u.world p start flight at)
 
   -- no other party has changed a word during the party's own step
   pub gone_others : others_in (after_turn u (Next p)).world p ≡ others_in u.world p
-  gone_others = others_next_own u.world p start flight (stands u.world p start flight at)
+  gone_others = others_next_own (stands u.world p start flight at)
 
   -- the call has taken one step more where it asks for a word
   pub gone_steps : steps_in (after_turn u (Next p)).world p ≡ steps_in u.world p + step_count ask
   gone_steps =
-      steps_next_own u.world p start flight (stands u.world p start flight at)
+      steps_next_own (stands u.world p start flight at)
       ∙ ap (λ o. steps_in u.world p + step_count o) asked_of
 
 -- ---- a call is handed an answer to its question, and goes on without a word, or ends
@@ -490,7 +490,7 @@ module _ {T : Type 0} (answering : Answering T) where
   decided_took = more_steps code kind capacity b.one.turns u (Decide p said) 0 b.one.is refl
 
   pub decided_steps : steps_in (after_turn u (Decide p said)).world p ≡ steps_in u.world p + 0
-  decided_steps = steps_decision_own u.world p start flight said (stands u.world p start flight at)
+  decided_steps = steps_decision_own said (stands u.world p start flight at)
 
   -- after the answer the party's call stands where the answer leads it, or has ended
   pub decided_at : call_in (after_turn u (Decide p said)).world p ≡ call_then start next

@@ -23,7 +23,7 @@ module _ {T : Type 0} where
   AreByProducer before es = AreRight ByProducer before es
 
   -- t is a trace, of which s says that it is sound
-  module _ (en : Coding T) (c : ℕ) (t : Trace T) (s : frame.Sound (family en c) t) where
+  module _ (en : Coding T) (c : ℕ) {t : Trace T} (s : frame.Sound (family en c) t) where
     -- what a step of any call writes is right in this sense
     step_right : (p n : ℕ) (x : Party T) (flight : Flight T) (since : ℕ) → party_of p t.world.latest ≡ Some x
         → x.doing ≡ Going flight since → AreByProducer t.events (step_in t.world p x flight n).wrote
@@ -31,22 +31,22 @@ module _ {T : Type 0} where
 
 module _ {T : Type 0} (code : Coding T) (capacity : ℕ) where
   -- in each run only the holder of the producer's role stores
-  by_producers : (t : Trace T) → IsRun code kinds.Atomic capacity t → Each ByProducer t.events
-  by_producers t run =
+  by_producers : {t : Trace T} → IsRun code kinds.Atomic capacity t → Each ByProducer t.events
+  by_producers {t} run =
       let world_now = t.world in
       let first : Trace T = opening world_now.coding world_now.kind world_now.capacity world_now.parties in
       let sound : frame.Sound (family world_now.coding world_now.capacity) first =
       subst (λ kind. frame.Sound (family world_now.coding world_now.capacity) (opening world_now.coding kind world_now.capacity world_now.parties))
       (sym run.of_kind) (opening_sound world_now.coding world_now.capacity world_now.parties run.reached.coded) in
       subst (λ z. Each ByProducer z.events) (sym run.fresh.is)
-      (each_event (family world_now.coding world_now.capacity) IsFreshTurn (fresh_laws world_now.coding world_now.capacity) ByProducer
+      (each_event (fresh_laws world_now.coding world_now.capacity) ByProducer
       (λ before p start. tt) (λ before p start answer. tt) (λ before owner. tt)
-      (λ t s p n x flight since found doing handed. step_right world_now.coding world_now.capacity t s p n x flight since found doing)
-      run.fresh.turns first run.fresh.fresh sound (Each-nil ByProducer))
+      (λ t s p n x flight since found doing handed. step_right world_now.coding world_now.capacity s p n x flight since found doing)
+      run.fresh.turns run.fresh.fresh sound (Each-nil ByProducer))
 
   -- in each history of a single value only the holder of the producer's role stores
   pub history_by_producers : (events : List (Event T)) → IsHistory code kinds.Atomic capacity events → Each ByProducer events
-  history_by_producers events history = subst (Each ByProducer) (sym history.is) (by_producers history.trace history.run)
+  history_by_producers events history = subst (Each ByProducer) (sym history.is) (by_producers history.run)
 
 -- ---- one party at a time holds the producer's role
 

@@ -58,9 +58,9 @@ module _ {T : Type 0} (code : Coding T) (capacity : ℕ) (events : List (Event T
 -- the version of a reached machine is one more than the number of stores
 pub version_is_count : {T : Type 0} (code : Coding T) (capacity : ℕ) (t : Trace T)
     → IsRun code kinds.Atomic capacity t → slice_index t.world.words 0 ≡ length (stored t.events) + 1
-version_is_count code capacity t run = version_counts t.world.coding t.world.capacity t (value_sound code capacity t run)
+version_is_count code capacity t run = version_counts t.world.coding t.world.capacity t (value_sound code capacity run)
 
-module _ {T : Type 0} (code : Coding T) (capacity : ℕ) (events : List (Event T)) (h : IsHistory code kinds.Queue capacity events) where
+module _ {T : Type 0} {code : Coding T} {capacity : ℕ} {events : List (Event T)} (h : IsHistory code kinds.Queue capacity events) where
   -- a history of a queue of values is linearizable as the bounded list
   pub values_linearizable : IsLinearizable (as_list Queue capacity) events
   values_linearizable =

@@ -125,9 +125,9 @@ module _ {T : Type 0} (code : Coding T) (law : IsCoding code) (value : T) where
   maker = alone.maker machine
 
   -- by every measure, the events so far are those of the only seat's parties
-  sums : (words : List ℕ) (ts : List (Turn T)) (es : List (Event T)) → (h : Here words ts es None)
+  sums : {words : List ℕ} {ts : List (Turn T)} {es : List (Event T)} → (h : Here words ts es None)
       → (f : Event T → ℕ) → sum_by f es ≡ sum_by (owned same_seat 0 f) h.u.events
-  sums words ts es h = alone.sums machine words ts es None h
+  sums {words} {ts} {es} h = alone.sums machine words ts es None h
 
   -- the words of a single value: the version, the role's word, and the two cells
   abbrev words_at : ℕ → ℕ → List ℕ → List ℕ
@@ -180,40 +180,40 @@ module _ {T : Type 0} (code : Coding T) (law : IsCoding code) (value : T) where
     word_low = grind arith
 
     -- after a word that is not the last one the store stands at the next word
-    next : (ts : List (Turn T)) (es : List (Event T)) (at : ℕ) → at + 1 < code.size → Here (now at) ts es (Some (name, storing at))
+    next : {ts : List (Turn T)} {es : List (Event T)} (at : ℕ) → at + 1 < code.size → Here (now at) ts es (Some (name, storing at))
         → Here (now (suc at)) (ts ++ Next 0 ∷ []) es (Some (name, storing (at + 1)))
-    next ts es at more here =
+    next {ts} {es} at more here =
         let tests_below : nat_lt (at + 1) code.size ≡ true = grind (arith, nat_tests) in
         alone.goes_on machine (now at) ts es name (storing at) here
         (record { word = word_at cell at; op = ops.Store (get_or ws at 0) }) (word_low at (omega arith)) refl tt
         (now (suc at)) (storing (at + 1)) (put at (omega arith)) (rw tests_below refl) (rw tests_below refl)
 
     -- after the last word the store stands at the version
-    last : (ts : List (Turn T)) (es : List (Event T)) (at : ℕ) → at + 1 ≡ code.size → Here (now at) ts es (Some (name, storing at))
+    last : {ts : List (Turn T)} {es : List (Event T)} (at : ℕ) → at + 1 ≡ code.size → Here (now at) ts es (Some (name, storing at))
         → Here (now (suc at)) (ts ++ Next 0 ∷ []) es (Some (name, flight_at stores.AddsVersion))
-    last ts es at all here =
+    last {ts} {es} at all here =
         let not_below : nat_lt (at + 1) code.size ≡ false = grind (arith, nat_tests) in
         alone.goes_on machine (now at) ts es name (storing at) here
         (record { word = word_at cell at; op = ops.Store (get_or ws at 0) }) (word_low at (omega arith)) refl tt
         (now (suc at)) (flight_at stores.AddsVersion) (put at (omega arith)) (rw not_below refl) (rw not_below refl)
 
     -- the store goes through the words of its cell, one turn for each, and then stands at the version
-    fills : (ts : List (Turn T)) (es : List (Event T)) (rest at : ℕ) → at + suc rest ≡ code.size
+    fills : {ts : List (Turn T)} {es : List (Event T)} (rest at : ℕ) → at + suc rest ≡ code.size
         → Here (now at) ts es (Some (name, storing at))
         → Here (now code.size) (ts ++ replicate (suc rest) (Next 0)) es (Some (name, flight_at stores.AddsVersion))
-    fills ts es zero at sum here = let same : suc at ≡ code.size = omega arith in
-        subst (λ n. Here (now n) (ts ++ Next 0 ∷ []) es (Some (name, flight_at stores.AddsVersion))) same (last ts es at (omega arith) here)
-    fills ts es (suc rest) at sum here =
+    fills {ts} {es} zero at sum here = let same : suc at ≡ code.size = omega arith in
+        subst (λ n. Here (now n) (ts ++ Next 0 ∷ []) es (Some (name, flight_at stores.AddsVersion))) same (last at (omega arith) here)
+    fills {ts} {es} (suc rest) at sum here =
         let same : at + 1 ≡ suc at = omega arith in
         subst (λ zs. Here (now code.size) zs es (Some (name, flight_at stores.AddsVersion)))
         (append_assoc ts (Next 0 ∷ []) (replicate (suc rest) (Next 0)))
-        (fills (ts ++ Next 0 ∷ []) es rest (suc at) (omega arith)
-        (subst (λ n. Here (now (suc at)) (ts ++ Next 0 ∷ []) es (Some (name, storing n))) same (next ts es at (omega arith) here)))
+        (fills {ts = (ts ++ Next 0 ∷ [])} {es = es} rest (suc at) (omega arith)
+        (subst (λ n. Here (now (suc at)) (ts ++ Next 0 ∷ []) es (Some (name, storing n))) same (next {ts = ts} {es = es} at (omega arith) here)))
 
     -- one store more adds 1 to the version, and puts the value into the cell of the old version's parity
-    stores_it : (ts : List (Turn T)) (es : List (Event T)) → HasProducer es → Here (words_at v 0 (two (v % 2) x y)) ts es None
+    stores_it : {ts : List (Turn T)} {es : List (Event T)} → HasProducer es → Here (words_at v 0 (two (v % 2) x y)) ts es None
         → Here (words_at (v + 1) 0 (two (v % 2) ws y)) (ts ++ store_turns value code.size) (es ++ stored_once value) None
-    stores_it ts es has here =
+    stores_it {ts} {es} has here =
         let not_last : (v == 2 ^ 64 - 1) ≡ false = grind (arith, nat_tests) in
         let xs = es ++ Begun 0 name ∷ [] in
         let ts1 = ts ++ Begin 0 name ∷ [] in
@@ -224,14 +224,14 @@ module _ {T : Type 0} (code : Coding T) (law : IsCoding code) (value : T) where
         let begun_so = alone.begins machine (stores_value code value) first_store tt (now 0) ts es here
         (producer_starts code (maker ts es) (stores_value code value) (Store value) first_store tt refl (λ kept. refl)
         (λ o p. tt) (λ holder p is. holds_it holder p is) has here.u same_seat 0 here.between.run refl refl
-        (sums (now 0) ts es here)) in
+        (sums here)) in
         -- it loads the version, which is not the last one
         let b =
         alone.goes_on machine (now 0) ts1 xs name
         (flight_at stores.LoadsVersion) begun_so (record { word = 0; op = ops.Load }) (omega arith) refl small
         (now 0) (storing 0) refl (rw not_last refl) (rw not_last refl) in
         -- it stores the words of the value
-        let c = fills ts2 xs (code.size - 1) 0 (omega (arith, law.some)) b in
+        let c = fills (code.size - 1) 0 (omega (arith, law.some)) b in
         let one : (v + 1) % 2 ^ 64 ≡ v + 1 = omega arith in
         -- it adds 1 to the version, and ends with true
         let d =
@@ -283,7 +283,7 @@ module _ {T : Type 0} (code : Coding T) (law : IsCoding code) (value : T) where
       (record { word = producer_word }) tt (words_at 1 1 (zeros ++ zeros)) [] [] stands_here
       (plain_starts code (maker [] []) acquires_producer AcquireProducer (record { word = producer_word }) tt refl
       (λ kept. refl) (λ o p is. is) (λ holder p. refl) stands_here.u same_seat 0 stands_here.between.run refl refl
-      (sums (words_at 1 1 (zeros ++ zeros)) [] [] stands_here)) in
+      (sums stands_here)) in
       alone.ends machine (words_at 1 1 (zeros ++ zeros))
       (Begin 0 start ∷ []) (Begun 0 start ∷ []) start (acquires_producer.flight (record { word = producer_word }) tt) begun_so
       (record { word = producer_word; op = ops.Exchange 1 0 }) (omega arith) refl tt (words_at 1 0 (zeros ++ zeros))
@@ -291,15 +291,14 @@ module _ {T : Type 0} (code : Coding T) (law : IsCoding code) (value : T) where
 
   -- after the first store the version is 2, and the second cell has the value
   once : Here (words_at 2 0 (opened_cells code value 1)) (stored_turns value code.size 1) (stored_times value 1) None
-  once = stores_it 1 (omega arith) zeros zeros zeros_long zeros_long (stored_turns value code.size 0) (stored_times value 0) (has_it 0) taken
+  once = stores_it 1 (omega arith) zeros zeros zeros_long zeros_long (has_it 0) taken
 
   -- after n stores the version is n + 1, and the cells have the value as `opened_cells` says
   stored : (n : ℕ) → n < 2 ^ 64 - 1 → Here (words_at (n + 1) 0 (opened_cells code value n)) (stored_turns value code.size n) (stored_times value n) None
   stored zero low = taken
   stored (suc zero) low = once
   stored (suc (suc zero)) low =
-      stores_it 2 (omega arith) zeros ws zeros_long (law.sized value) (stored_turns value code.size 1)
-      (stored_times value 1) (has_it 1) once
+      stores_it 2 (omega arith) zeros ws zeros_long (law.sized value) (has_it 1) once
   stored (suc (suc (suc n))) low =
       let v = suc (suc n) + 1 in
       let long = law.sized value in
@@ -310,7 +309,7 @@ module _ {T : Type 0} (code : Coding T) (law : IsCoding code) (value : T) where
       subst (λ k. Here (words_at k 0 (ws ++ ws)) (stored_turns value code.size (suc (suc (suc n)))) (stored_times value (suc (suc (suc n)))) None) next_one
       (subst (λ zs. Here (words_at (v + 1) 0 zs) (stored_turns value code.size (suc (suc (suc n)))) (stored_times value (suc (suc (suc n)))) None)
       (two_same (v % 2) ws)
-      (stores_it v (omega arith) ws ws long long (stored_turns value code.size (suc (suc n))) (stored_times value (suc (suc n))) (has_it (suc (suc n))) before))
+      (stores_it v (omega arith) ws ws long long (has_it (suc (suc n))) before))
 
   -- after the release nobody has the role, and the run is the one with which a value opens
   given : (n : ℕ) → n < 2 ^ 64 - 1 → Here (words_at (n + 1) 1 (opened_cells code value n)) (opened_turns value code.size n) (opened value n) None
@@ -323,7 +322,7 @@ module _ {T : Type 0} (code : Coding T) (law : IsCoding code) (value : T) where
       let begun_so = alone.begins machine releases_producer (record { word = producer_word }) tt ws' ts es h
       (producer_starts code (maker ts es) releases_producer ReleaseProducer (record { word = producer_word }) tt refl
       (λ kept. refl) (λ o p. tt) (λ holder p is. holds_it holder p is) (has_it n) h.u same_seat 0 h.between.run refl
-      refl (sums ws' ts es h)) in
+      refl (sums h)) in
       let b =
       alone.ends machine ws' (ts ++ Begin 0 start ∷ []) (es ++ Begun 0 start ∷ []) start
       (releases_producer.flight (record { word = producer_word }) tt) begun_so

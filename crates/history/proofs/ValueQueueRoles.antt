@@ -82,7 +82,7 @@ module _ {T : Type 0} (code : Coding T) (law : IsCoding code) where
 
 -- ---- the table of a queue of values opens empty
 
-module _ {T : Type 0} (code : Coding T) (law : IsCoding code) (capacity : ℕ) (small : capacity < 2 ^ 32) where
+module _ {T : Type 0} {code : Coding T} (law : IsCoding code) (capacity : ℕ) (small : capacity < 2 ^ 32) where
   -- a capacity below 2^32 is admitted
   most : nat_lt (2 ^ 32 - 1) capacity ≡ false
   most = grind (arith, nat_tests)

@@ -72,13 +72,13 @@ module _ {T : Type 0} (code : Coding T) (capacity : ℕ) where
   IsValueRun t = IsRun code kinds.Atomic capacity t
 
   -- a run of a single value keeps the invariant of its laws
-  pub value_sound : (t : Trace T) → IsValueRun t → frame.Sound (family t.world.coding t.world.capacity) t
-  value_sound t is_on = sound_on t is_on.of_kind is_on.reached.coded is_on.fresh
+  pub value_sound : {t : Trace T} → IsValueRun t → frame.Sound (family t.world.coding t.world.capacity) t
+  value_sound {t} is_on = sound_on t is_on.of_kind is_on.reached.coded is_on.fresh
 
   -- a reached value has a version, a role and two cells
   size : (t : Trace T) → IsValueRun t → length t.world.words ≡ 2 + code.size * 2
   size t is_on =
-      let is_sound = value_sound t is_on in
+      let is_sound = value_sound is_on in
       let cells : length is_sound.state.core.cells ≡ code.size * 2 = is_sound.holds.good.cells ∙ ap (λ (z : Coding T). z.size * 2) is_on.coded in
       ap length is_sound.fit.words ∙ omega arith
 
@@ -87,7 +87,7 @@ module _ {T : Type 0} (code : Coding T) (capacity : ℕ) where
       → call_in t.world p ≡ Some (start, flight)
       → CallGoesOn code kinds.Atomic capacity (2 + code.size * 2) (value_effects code) t p flight
   goes_on t is_on p start flight call_is =
-      let is_sound = value_sound t is_on in
+      let is_sound = value_sound is_on in
       let here = stands t.world p start flight call_is in
       let there = stands_there (family t.world.coding t.world.capacity) t is_sound p here.x here.since flight here.found here.doing in
       let waits = beside_of t.world.words t.world.kept t.world.latest p in
@@ -109,7 +109,7 @@ module _ {T : Type 0} (code : Coding T) (capacity : ℕ) where
     size = size;
     goes_on = goes_on;
     alone = λ going late h. h;
-    stateless = λ t r. (let is_sound = value_sound t r in subst IsStateless (sym is_sound.fit.kept) tt);
+    stateless = λ t r. (let is_sound = value_sound r in subst IsStateless (sym is_sound.fit.kept) tt);
   }
 
   -- a run of a single value is a reached one, as the value's laws have it
@@ -119,10 +119,10 @@ module _ {T : Type 0} (code : Coding T) (capacity : ℕ) where
   -- each call takes at most the steps that the model promises of a single value
   pub value_pays : Pays code kinds.Atomic capacity
   value_pays t r =
-      (let is_sound = value_sound t r in
+      (let is_sound = value_sound r in
       let F = family t.world.coding t.world.capacity in
-      pays_run code kinds.Atomic capacity t r F refl is_sound
-      (progress_kept code kinds.Atomic capacity t r F refl is_sound (kept_on t r.of_kind r.reached.coded r.fresh)))
+      pays_run r refl is_sound
+      (progress_kept r refl is_sound (kept_on t r.of_kind r.reached.coded r.fresh)))
 
 -- ---- a pass that holds the role has a party that holds it
 
@@ -168,13 +168,13 @@ module _ {T C M E : Type 0} (code : Coding T) (base : View T) (call : Calling T 
 
   -- a machine of a single value keeps who holds the producer's role
   kept_there : (t : Trace T) → IsPassRun t → (holder : Option ℕ) × (t.world.kept ≡ registries.Atomic holder)
-  kept_there t is_pass_run = let is_sound = value_sound code base.capacity t is_pass_run in (is_sound.state.holder, is_sound.fit.kept)
+  kept_there t is_pass_run = let is_sound = value_sound code base.capacity is_pass_run in (is_sound.state.holder, is_sound.fit.kept)
 
   -- the call may begin as that of party p, whom the machine finds without a call under way
-  as_party : (t : Trace T) (owner : ℕ → ℕ) (j p : ℕ) → IsPassRun t → owner p ≡ j → call.by base.party p
+  as_party : {t : Trace T} {owner : ℕ → ℕ} {j : ℕ} (p : ℕ) → IsPassRun t → owner p ≡ j → call.by base.party p
       → (holder : Option ℕ) → t.world.kept ≡ registries.Atomic holder → lacks_role holder p start ≡ false
       → Starts code kinds.Atomic call base c m t owner j
-  as_party t owner j p run mine by holder kept_is lacks =
+  as_party {t} p run mine by holder kept_is lacks =
       let free : first_row (kept_rows start t.world.kept p) ≡ None = subst (λ k. first_row (kept_rows start k p) ≡ None) (sym kept_is) (rw lacks refl) in
       record {
         party = p;
@@ -197,11 +197,11 @@ module _ {T C M E : Type 0} (code : Coding T) (base : View T) (call : Calling T 
       -- whether the pass was a party last or not, the call begins, as that party or as the one of the pass's own number
       go : (o : Option ℕ) → base.party ≡ o → IfSome o (λ p. owner p ≡ j) → Starts code kinds.Atomic call base c m t owner j
       go None party_is if_some =
-          as_party t owner j j run self
+          as_party j run self
           (by_last base.party j (subst (λ (z : Option ℕ). IfSome z (λ q. q ≡ j)) (sym party_is) tt)) kept.0 kept.1
           (free kept.0 j)
       go (Some p) party_is if_some =
-          as_party t owner j p run if_some
+          as_party p run if_some
           (by_last base.party p (subst (λ (z : Option ℕ). IfSome z (λ q. q ≡ p)) (sym party_is) refl)) kept.0 kept.1
           (free kept.0 p)
 
@@ -215,7 +215,7 @@ module _ {T C M E : Type 0} (code : Coding T) (base : View T) (call : Calling T 
       let kept = kept_there t run in
       let by_this_party = producer_by owner j t.events base.made value.roles sums has in
       let keeps : KeepsHolder (registries.Atomic kept.0) t.events = subst (λ k. KeepsHolder k t.events) kept.1 value.holder in
-      as_party t owner j by_this_party.0 run by_this_party.1 (by_any base.party by_this_party.0) kept.0 kept.1
+      as_party by_this_party.0 run by_this_party.1 (by_any base.party by_this_party.0) kept.0 kept.1
       (free kept.0 by_this_party.0 (keeps ∙ by_this_party.2))
 
 -- the machines of single values

@@ -14,11 +14,11 @@ module _ {T C M E : Type 0} (code : Coding T) (kind : Kind) (call : Calling T C 
 
   -- two accounts of a call under way, each from a view in which it had not begun, have one party and one list
   -- of what it wrote
-  pub same_written : (base other v : View T) (c d : C) (m k : M) → base.going ≡ None → other.going ≡ None
+  pub same_written : {base other v : View T} {c d : C} {m k : M} → base.going ≡ None → other.going ≡ None
       → (a : IsUnderWay code kind call base v c m) (b : IsUnderWay code kind call other v d k)
       → fold own_after (Open call.start []) a.wrote ≡ Open call.start a.wrote → fold own_after (Open call.start []) b.wrote ≡ Open call.start b.wrote
       → (a.party ≡ b.party) × (a.wrote ≡ b.wrote)
-  same_written base other v c d m k idle still a b long longer =
+  same_written {base} {other} {v} {c} {d} {m} {k} idle still a b long longer =
       let both : ◌≡◌ {A = Option ℕ} (Some a.party) (Some b.party) = sym a.mine ∙ b.mine in
       let party : a.party ≡ b.party = cc in
       let spans : ◌≡◌ {A = Span T} (Open call.start a.wrote) (Open call.start b.wrote) = sym long

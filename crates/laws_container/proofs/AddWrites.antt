@@ -110,7 +110,7 @@ module _ {T : Type 0} (adding : Adding T) (i : ℕ)
         → Leads scene start ask false scene.states [] (GoOn (at_stage next))
     calm_step stage next ask same here owe few stands known =
         goes_calmly scene start (at_stage next) ask false scene.states here.span
-        (loads scene inv start (at_stage stage) tt here (then_at next ask) (words_after ws ask) same
+        (loads scene inv start (at_stage stage) tt here (then_at next ask) same
         (was_well_formed scene start tt here.span (words_after ws ask) (then_at next ask) [] tt) (λ was. owe))
         few (refl, refl, fits, stands) known
 
@@ -160,7 +160,7 @@ module _ {T : Type 0} (adding : Adding T) (i : ℕ)
     -- ---- what stands there is hidden
 
     -- the add has found the odd number `count`, and hides what an earlier owner has left under it
-    module _ (count : ℕ) (here : IsAtStage (adds.Hides i count)) (none : done scene ≡ [])
+    module _ {count : ℕ} (here : IsAtStage (adds.Hides i count)) (none : done scene ≡ [])
         (odd : count % 2 ≡ 1) (covers : Covers code c owner i count (sees_now scene))
         (few_steps : steps ≤ c + 4 + backs * (c + 1)) where
       abbrev hide_it : Option Ask
@@ -182,7 +182,7 @@ module _ {T : Type 0} (adding : Adding T) (i : ℕ)
           let some = inv.elements.coded.some in
           let wide = inv.elements.wide in
           let party_after = then_at (adds.Stores i 0) hide_it in
-          let new = hides_count scene inv i count below same_count in
+          let new = hides_count inv i count below same_count in
           let now_odd : now_at % 2 ≡ 1 = ap (λ n. n % 2) same_count ∙ odd in
           let well_formed = was_well_formed scene start tt here.span (words_after ws hide_it) party_after (Hidden p i ∷ []) (refl, tt) in
           let after : count_at c (words_after ws hide_it) i ≡ one_more now_at =
@@ -214,7 +214,7 @@ module _ {T : Type 0} (adding : Adding T) (i : ℕ)
     -- ---- a word is stored
 
     -- the add has stored the first `at` words of its value, and stores the next one
-    module _ (at : ℕ) (here : IsAtStage (adds.Stores i at))
+    module _ {at : ℕ} (here : IsAtStage (adds.Stores i at))
         (hidden : MayHaveHidden c code.size (all scene) (done scene) i) (ats : at < code.size)
         (has_stored : Writes code c owner i value at (sees_now scene)) (few_steps : steps ≤ c + 5 + at + backs * (c + 1)) where
       abbrev store_it : Option Ask
@@ -230,8 +230,8 @@ module _ {T : Type 0} (adding : Adding T) (i : ℕ)
           → Leads scene start store_it false scene.states [] (GoOn (at_stage next))
       store_to next owe few stands known =
           goes_calmly scene start (at_stage next) store_it false scene.states here.span
-          (stores_word scene inv start (at_stage (adds.Stores i at)) tt here (then_at next store_it)
-          (words_after ws store_it) i below at ats value owner mine (λ holds. has_stored.has holds (acts.stays holds.kept))
+          (stores_word scene inv start (at_stage (adds.Stores i at)) tt here (then_at next store_it) below ats owner
+          mine (λ holds. has_stored.has holds (acts.stays holds.kept))
           refl
           (was_well_formed scene start tt here.span (words_after ws store_it) (then_at next store_it) [] tt) (λ was. owe))
           few (refl, refl, fits, stands) known
@@ -246,7 +246,7 @@ module _ {T : Type 0} (adding : Adding T) (i : ℕ)
             few = omega arith;
             has = λ holds lives.
                 let before_it = was_well_formed_calmly scene start tt here.span (then_at next store_it) holds in
-                store_writes code c ws events (inv.elements.whole before_it) inv.elements.wide i below value at ats
+                store_writes code c ws events (inv.elements.whole before_it) inv.elements.wide i below ats
                 (has_stored.has before_it (acts.stays before_it.kept));
           }
 
@@ -292,7 +292,7 @@ module _ {T : Type 0} (adding : Adding T) (i : ℕ)
       y = then_at (adds.AddsChange i) add_it
 
       new : words_after ws add_it ≡ set ws (count_word c i) (one_more count_now)
-      new = adds_to_count scene inv i below
+      new = adds_to_count inv i below
 
       -- the step in which an add raises the number to an odd one places its value
       places_step : StepOf scene start (at_stage (adds.AddsCount i))
@@ -348,12 +348,11 @@ module _ {T : Type 0} (adding : Adding T) (i : ℕ)
           let party_after = party_then scene start end_it false (Done (Index i)) in
           let written = Finished p (Container start) (Index i) ∷ [] in
           let well_formed = was_well_formed scene start tt here.span (words_after ws end_it) party_after written (refl, tt) in
-          let new = adds_to_change scene inv in
+          let new = adds_to_change inv in
           ends scene start (Index i) end_it false scene.states [] here.span none_lengthens
-          (ends_counted scene inv start (at_stage (adds.AddsChange i)) tt here party_after (words_after ws end_it) (Index i)
-          (settles (of_set scene) (inv_of_set scene inv) (words_after ws end_it)
-          (leaves_behind (of_set scene) (inv_of_set scene inv) (words_after ws end_it) (change_word c) _ (omega arith) new)
-          i owner value
+          (ends_counted scene inv start (at_stage (adds.AddsChange i)) tt here party_after (Index i)
+          (settles (inv_of_set scene inv)
+          (leaves_behind (inv_of_set scene inv) (words_after ws end_it) (change_word c) _ (omega arith) new) value
           (λ calm. owns.owns (calm_less scene.terms.by events written calm)
           (lives_settled scene.terms.by p i owner value events acts.alive calm.1)))
           tt well_formed (λ holds. placed (well_formed holds)) new says)
@@ -378,7 +377,7 @@ module _ {T : Type 0} (adding : Adding T) where
       → scene.steps ≤ add_number scene.capacity scene.coding.size stage scene.backs → StepOf scene (Add value owner) (add_at scene.capacity value owner stage)
   add_step (adds.Acquires stage) here stands add_knows few_steps = acquire_step adding stage here stands.1 stands.0 add_knows few_steps
   add_step (adds.LoadsCount i) here stands add_knows few_steps = loads_step adding i stands.0 add_knows here stands.1 few_steps
-  add_step (adds.Hides i count) here stands add_knows few_steps = hides_step adding i stands.0 add_knows.0 count here stands.1 stands.2 add_knows.1 few_steps
-  add_step (adds.Stores i word) here stands add_knows few_steps = stores_step adding i stands.0 add_knows.0 word here stands.1 stands.2 add_knows.1 few_steps
+  add_step (adds.Hides i count) here stands add_knows few_steps = hides_step adding i stands.0 add_knows.0 here stands.1 stands.2 add_knows.1 few_steps
+  add_step (adds.Stores i word) here stands add_knows few_steps = stores_step adding i stands.0 add_knows.0 here stands.1 stands.2 add_knows.1 few_steps
   add_step (adds.AddsCount i) here stands add_knows few_steps = places_step adding i stands.0 add_knows.0 here stands.1 add_knows.1 few_steps
   add_step (adds.AddsChange i) here stands add_knows few_steps = ends_step adding i stands add_knows.0 here add_knows.1 add_knows.2 few_steps

@@ -76,7 +76,7 @@ module _ {T : Type 0} (adding : Adding T) (stage : AcquireStage)
     still : (words' : List ℕ) (y : Party T) (es : List (Event T))
         (well_formed : WellFormed (after scene words' y es) → WellFormed (before scene))
         → OwesStill scene inv words' y es well_formed
-    still words' y es well_formed = owes_none scene start flight y here refl
+    still words' y es well_formed = owes_none scene y here refl
 
     -- an add whose acquire fails ends with that failure: the container is locked, or no index was free
     refuses : (failure : UniqueIndexSetAcquireFailure) (ask : Option Ask) (back : Bool)
@@ -89,7 +89,7 @@ module _ {T : Type 0} (adding : Adding T) (stage : AcquireStage)
         let written = Finished p (Container start) (NoPlace add_failures.IsLocked) ∷ [] in
         let well_formed = was_well_formed scene start tt here.span (words_after ws ask) party_after written (refl, tt) in
         ends scene start (NoPlace add_failures.IsLocked) ask back scene.states [] here.span none_lengthens
-        (ends_calmly scene inv start flight tt here party_after (words_after ws ask) (NoPlace add_failures.IsLocked)
+        (ends_calmly scene inv start flight tt here party_after (NoPlace add_failures.IsLocked)
         (set_effects.quietly (of_set scene) (inv_of_set scene inv) (words_after ws ask) written
         (set_effects.stays_same (of_set scene) (inv_of_set scene inv) (words_after ws ask) same).leaves
         (quiet_end p (Container start) (NoPlace add_failures.IsLocked) (λ i o. refl) (λ i r. refl))
@@ -102,7 +102,7 @@ module _ {T : Type 0} (adding : Adding T) (stage : AcquireStage)
         let written = Finished p (Container start) (NoPlace add_failures.OutOfSpace) ∷ [] in
         let well_formed = was_well_formed scene start tt here.span (words_after ws ask) party_after written (refl, tt) in
         ends scene start (NoPlace add_failures.OutOfSpace) ask back scene.states [] here.span none_lengthens
-        (ends_calmly scene inv start flight tt here party_after (words_after ws ask) (NoPlace add_failures.OutOfSpace)
+        (ends_calmly scene inv start flight tt here party_after (NoPlace add_failures.OutOfSpace)
         (set_effects.quietly (of_set scene) (inv_of_set scene inv) (words_after ws ask) written
         (set_effects.stays_same (of_set scene) (inv_of_set scene inv) (words_after ws ask) same).leaves
         (quiet_end p (Container start) (NoPlace add_failures.OutOfSpace)
@@ -125,7 +125,7 @@ module _ {T : Type 0} (adding : Adding T) (stage : AcquireStage)
               let y = party_then scene start ask back (GoOn (goes_to (adds.Acquires next))) in
               let well_formed = was_well_formed scene start tt here.span (words_after ws ask) y [] tt in
               goes_calmly scene start (goes_to (adds.Acquires next)) ask back scene.states here.span
-              (loads scene inv start flight tt here y (words_after ws ask) same well_formed (still (words_after ws ask) y [] well_formed))
+              (loads scene inv start flight tt here y same well_formed (still (words_after ws ask) y [] well_formed))
               (omega arith) (refl, refl, fits, (at, none)) known;
           -- the acquire fills a cell
           filled = λ i ask new does below empty_all known few.
@@ -138,7 +138,7 @@ module _ {T : Type 0} (adding : Adding T) (stage : AcquireStage)
               ask false scene.states written here.span (λ start w. refl)
               (fills scene inv start flight tt here y (words_after ws ask)
               (rest_set scene inv start flight tt here y (words_after ws ask) (cell_word i) owner (omega arith) new)
-              (wide_set scene inv start flight tt here y (words_after ws ask) (cell_word i) owner new) i owner does
+              (wide_set scene inv start flight tt here y (words_after ws ask) (cell_word i) owner new) does
               well_formed (still (words_after ws ask) y written well_formed))
               ((refl, empty_all), tt) (omega arith)
               (refl, refl, fits, ((below, ap (λ d. d ++ Fills i owner ∷ []) empty_all), ap (λ (d : List (Act T)). d ++ []) none)) known;

@@ -25,8 +25,8 @@ module _ {T : Type 0} where
         add =
             λ value owner fits acts stage here at k s.
             add_step (record { scene = scene; inv = inv; value = value; owner = owner; fits = fits; acts = acts }) stage here at k s;
-        remove = λ index owner mode fits acts stage at here k s. remove_step scene inv index owner mode fits acts stage at here k s;
-        replace = λ index value owner fits acts stage at here k s. replace_step scene inv index value owner fits acts stage at here k s;
+        remove = λ index owner mode fits acts stage at here k s. remove_step inv index mode fits acts stage at here k s;
+        replace = λ index value owner fits acts stage at here k s. replace_step inv index value fits acts stage at here k s;
         find =
             λ owner fits room stage at here k s.
             find_step (record { scene = scene; inv = inv; owner = owner; fits = fits }) room stage at here k s;
@@ -40,8 +40,8 @@ module _ {T : Type 0} where
             λ owner mode fits room index count at here k s answer.
             recover_decided (record { scene = scene; inv = inv; owner = owner; mode = mode; fits = fits }) room index count at here k s answer;
         look = λ which stage at here k s. look_step scene inv which stage here at k s;
-        count = λ which count at none here k s. count_step scene inv which count here at none k s;
-        lock = λ none here k s. lock_step scene inv here none k s;
+        count = λ which count at none here k s. count_step inv which count here at none k s;
+        lock = λ none here k s. lock_step inv here none k s;
       }
 
   -- all that is to be shown of the turns of a container is shown
@@ -49,7 +49,7 @@ module _ {T : Type 0} where
   shown =
       record {
         calls = calls;
-        begins = λ scene g h free shut start named may. begins_shown scene g h free shut start named may;
+        begins = λ scene g h free shut start named may. begins_shown scene g h free shut named may;
         dies = λ terms code c words dead states latest events turns o g h alive. dies terms code c words dead states latest events turns o g h alive;
         opens = λ terms code c coded some few. opens terms code c coded some few;
       }

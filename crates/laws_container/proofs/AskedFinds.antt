@@ -40,7 +40,7 @@ only_one x y [] split_so = refl
 only_one x y (z ∷ zs) split_so = let none : [] ≡ zs ++ y ∷ [] = cc in absurd (no_more zs y [] none)
 
 -- a find of `owner` by party `p` ends with `number` in this turn
-module _ {T : Type 0} (shown : Shown T) (terms : Terms) (code : Coding T) (t : Trace T)
+module _ {T : Type 0} (shown : Shown T) {terms : Terms} (code : Coding T) {t : Trace T}
     (sound : frame.Sound (family_by terms code t.world.capacity) t) (may : MayGoOn terms t) (turn : Turn T)
     (r : IsAllowed t.world turn) (p owner number : ℕ) where
   abbrev c : ℕ
@@ -79,14 +79,14 @@ module _ {T : Type 0} (shown : Shown T) (terms : Terms) (code : Coding T) (t : T
           only_one (Finished q (Container goes_on.start) (Number number)) last wrote
           (sym (ap (λ es. es ++ ending_of q (Container goes_on.start) outcome) nothing ∙ ap (λ o. ending_of q (Container goes_on.start) o) end.done) ∙ whole)
 
-module _ {T : Type 0} (shown : Shown T) (terms : Terms) (code : Coding T) (t : Trace T)
+module _ {T : Type 0} (shown : Shown T) {terms : Terms} (code : Coding T) {t : Trace T}
     (sound : frame.Sound (family_by terms code t.world.capacity) t) (may : MayGoOn terms t) (turn : Turn T)
     (r : IsAllowed t.world turn)
     (well_formed : Type 0) (so_far : well_formed → IsWellFormedSoFar terms (after_turn t turn).world.latest (after_turn t turn).events) where
   -- each find that ends in a turn other than a no to its party has counted the whole container
   pub finds_all : FindsAllIf well_formed t turn (after_turn t turn)
   finds_all p owner number ends ne =
-      let none = ends_alone shown terms code t sound may turn r p owner number ends.wrote (append_cancel_left t.events (events_of t.world turn) _ ends.is) in
+      let none = ends_alone shown code sound may turn r p owner number ends.wrote (append_cancel_left t.events (events_of t.world turn) _ ends.is) in
       let alone = subst (λ w. (after_turn t turn).events ≡ t.events ++ (w ++ Finished p (Container (starts.Find owner)) (Number number) ∷ [])) none ends.is in
       subst (λ w. CountsIf well_formed p owner t.world.capacity number (t.events ++ w)) (sym none)
       (subst (λ es. CountsIf well_formed p owner t.world.capacity number es) (sym (append-nil t.events))

@@ -119,9 +119,9 @@ module _ {T : Type 0} (shown : Shown T) (terms : Terms) (code : Coding T) (c : �
 
     -- a call of the container at its stage, of which the turn writes and asks what its step
     -- does, goes on in this turn
-    by_names : (a : Start T) (flight : Flight T) → StandsThere (family_by terms code c) t sound q x since a flight
+    by_names : {a : Start T} {flight : Flight T} → StandsThere (family_by terms code c) t sound q x since a flight
         → GoesOnFrom code (kept_now shown terms code c t sound) a flight
-    by_names (Container start) (flights.Container flight) stands wrote asks others told asked =
+    by_names {a = (Container start)} {flight = (flights.Container flight)} stands wrote asks others told asked =
         let there = is_there shown terms code c t sound q x since found start flight stands in
         record {
           on =
@@ -144,14 +144,14 @@ module _ {T : Type 0} (shown : Shown T) (terms : Terms) (code : Coding T) (c : �
           is = refl;
           answered = refl;
         }
-    by_names a flight stands wrote asks others told asked = absurd stands.at
+    by_names stands wrote asks others told asked = absurd stands.at
 
     -- the party's call under way goes on in this turn, by the machine's own words and states
-    went : (flight : Flight T) → x.doing ≡ Going flight since → GoesOnFrom t.world.coding t.world.kept x.start flight
-    went flight doing =
+    went : {flight : Flight T} → x.doing ≡ Going flight since → GoesOnFrom t.world.coding t.world.kept x.start flight
+    went {flight} doing =
         subst (λ y. GoesOnFrom y t.world.kept x.start flight) (sym sound.coding)
         (subst (λ kept. GoesOnFrom code kept x.start flight) (sym sound.fit.kept)
-        (by_names x.start flight (stands_there (family_by terms code c) t sound q x since flight found doing)))
+        (by_names (stands_there (family_by terms code c) t sound q x since flight found doing)))
 
   -- ---- a step
 
@@ -172,7 +172,7 @@ module _ {T : Type 0} (shown : Shown T) (terms : Terms) (code : Coding T) (c : �
       let asks_none : is_question (want_of world.coding flight) ≡ false = rw here at free in
       let n = next_number x (Going flight since) in
       let ask = ask_of_doing world.coding (Going flight since) in
-      (went (Next q) q n refl x since found flight same_doing
+      (went (Next q) q n refl x since found same_doing
       (ap (events_of_next world q) found ∙ ap (λ doing. events_of_answer world q x (next_number x doing) doing) same_doing)
       (ap (λ o. world_asks (after_next world q o) q) found
       ∙ (ap (λ doing. world_asks (after_answer world q x (ask_of_doing world.coding doing) (next_number x doing) doing) q) same_doing
@@ -184,8 +184,8 @@ module _ {T : Type 0} (shown : Shown T) (terms : Terms) (code : Coding T) (c : �
       (ap (question_in world.coding) here)).on
 
   -- a step that is not refused lets the party's call go on
-  next_goes : (q : ℕ) → call_refusal t.world (Next q) ≡ None → GoesOn (Next q) q
-  next_goes q unrefused = by (party_of q t.world.latest) refl
+  next_goes : {q : ℕ} → call_refusal t.world (Next q) ≡ None → GoesOn (Next q) q
+  next_goes {q} unrefused = by (party_of q t.world.latest) refl
     where
       -- whatever that party has under way, its call goes on
       by : (o : Option (Party T)) → party_of q t.world.latest ≡ o → GoesOn (Next q) q
@@ -202,17 +202,17 @@ module _ {T : Type 0} (shown : Shown T) (terms : Terms) (code : Coding T) (c : �
   -- ---- a decision
 
   -- a decision that is told to a party whose call waits for one lets the call go on with that answer
-  decision_by : (q : ℕ) (said : Bool) (x : Party T) → party_of q t.world.latest ≡ Some x
+  decision_by : (q : ℕ) {said : Bool} (x : Party T) → party_of q t.world.latest ≡ Some x
       → is_due t.world.coding (flight_in t.world q) ≡ true → (doing : Doing T) → x.doing ≡ doing → IsDecided q said
-  decision_by q said x found due (Over others) same_doing =
+  decision_by q x found due (Over others) same_doing =
       let here : flight_in t.world q ≡ None = ap (λ o. flight_of (doing_of o)) found ∙ ap (λ d. flight_of (Some d)) same_doing in
       let none : is_due t.world.coding (flight_in t.world q) ≡ false = ap (is_due t.world.coding) here in
       absurd (cc)
-  decision_by q said x found due (Going flight since) same_doing =
+  decision_by q {said} x found due (Going flight since) same_doing =
       let world = t.world in
       let here : flight_in world q ≡ Some flight = ap (λ o. flight_of (doing_of o)) found ∙ ap (λ d. flight_of (Some d)) same_doing in
       let n = number_of said in
-      let h = went (Decide q said) q n refl x since found flight same_doing
+      let h = went (Decide q said) q n refl x since found same_doing
       (ap (events_of_decision world q said) found ∙ ap (events_of_answer world q x n) same_doing)
       (ap (λ o. world_asks (after_decision world q said o) q) found
       ∙ (ap (λ doing. world_asks (after_answer world q x None n doing) q) same_doing ∙ same_asks world q x since flight n None))
@@ -245,7 +245,7 @@ module _ {T : Type 0} (shown : Shown T) (terms : Terms) (code : Coding T) (c : �
           let none : is_due t.world.coding (flight_in t.world q) ≡ false = ap (λ o. is_due t.world.coding (flight_of (doing_of o))) found in
           let waits = due in
           absurd (cc)
-      by (Some x) found = decision_by q said x found due x.doing refl
+      by (Some x) found = decision_by q x found due x.doing refl
 
   -- ---- a begin, and a death
 
@@ -308,7 +308,7 @@ module _ {T : Type 0} (shown : Shown T) (terms : Terms) (code : Coding T) (c : �
         ends_none = λ p b answer wrote e. no_end (Begun q start) p b answer wrote (λ h. cc) e;
         asks = begun_asks q start (first_of t.world.kind t.world.capacity start t.world.kept) refl;
       })
-  any_turn (Next q) allowed = inr (record { party = q; goes = next_goes q allowed })
+  any_turn (Next q) allowed = inr (record { party = q; goes = next_goes allowed })
   any_turn (Decide q said) allowed = inr (record { party = q; goes = (decided q said allowed).goes })
   any_turn (Die o) allowed =
       inl

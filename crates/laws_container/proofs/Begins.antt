@@ -110,14 +110,14 @@ module _ {T : Type 0} (scene : Scene T)
   other_states start q ne = refl
 
   -- the state of the party is at rest after the begin, if it was before
-  still_rests : (start : ContainerStart T) (s : ContainerState T) → state_of p scene.states ≡ Some s → Rests code c (m' start) p s
-  still_rests start s found = rests_later code c m (m' start) (begun start) refl (passes start) p s (elements.rests p s idle found)
+  still_rests : (start : ContainerStart T) {s : ContainerState T} → state_of p scene.states ≡ Some s → Rests code c (m' start) p s
+  still_rests start {s} found = rests_later code c (begun start) refl (passes start) p s (elements.rests p s idle found)
 
   -- the state of the party is at rest after the begin, if the call is no look
   rests_then : (start : ContainerStart T) (s : ContainerState T)
       → is_looking (flight_of (Some (y start).doing)) ≡ false → state_of p (states' start) ≡ Some s
       → Rests code c (m' start) p s
-  rests_then start s no_look found = let rests = still_rests start s in grind arith
+  rests_then start s no_look found = let rests = still_rests start {s = s} in grind arith
 
   -- a begin keeps the invariant
   does : (start : ContainerStart T) → KeepsInvariant scene scene.words (states' start) (y start) (begun start)
@@ -186,7 +186,7 @@ module _ {T : Type 0} (scene : Scene T)
         → ReplacesKnow code c (if b then index else c) value owner
         (if nat_lt (if b then index else c) c then replaces.LoadsCell else replaces.Refuses)
         (v replacing)
-    replaces_know true index_test = rw index_test (paid replacing, replace_begun scene.terms.by p index owner value events)
+    replaces_know true index_test = rw index_test (paid replacing, replace_begun scene.terms.by index owner value events)
     replaces_know false index_test = let past : nat_lt c c ≡ false = grind (arith, nat_tests) in rw past (paid replacing)
 
   -- a look that begins with a new state finds it at rest
@@ -197,7 +197,7 @@ module _ {T : Type 0} (scene : Scene T)
       record {
         state = fresh code c;
         found = found_put_same p (fresh code c) scene.states;
-        rests = rests_later code c m (m' start) (begun start) refl (passes start) p (fresh code c) (elements.fresh p);
+        rests = rests_later code c (begun start) refl (passes start) p (fresh code c) (elements.fresh p);
         own = λ getting i value ne is. let none : None ≡ Some value = sym (shows_same _ c i) ∙ is in absurd (cc);
       }
 
@@ -211,7 +211,7 @@ module _ {T : Type 0} (scene : Scene T)
       record {
         state = s;
         found = state_is;
-        rests = still_rests start s state_is;
+        rests = still_rests start state_is;
         own =
             λ getting. let name : Some (Container start) ≡ Some (Container starts.GetState) =
             sym (ap name_of (span_begun start)) ∙ getting in
@@ -261,5 +261,5 @@ module _ {T : Type 0} (scene : Scene T)
   knows_first starts.IsLocked may_recover = record { paid = paid starts.IsLocked; scanned = tt; owns = tt; says = tt; gone = tt }
 
   -- a call that begins shows all that `Begins` asks
-  pub begins_shown : (start : ContainerStart T) → names_owner start ≡ true → MayRecover scene.terms.by events start → Begins scene start
-  begins_shown start named may_recover = record { does = does start; at = at_first start named; knows = knows_first start may_recover }
+  pub begins_shown : {start : ContainerStart T} → names_owner start ≡ true → MayRecover scene.terms.by events start → Begins scene start
+  begins_shown {start} named may_recover = record { does = does start; at = at_first start named; knows = knows_first start may_recover }

@@ -56,7 +56,7 @@ module _ {T : Type 0} (code : Coding T) (c : ℕ) where
     -- ---- a writer stores a word
 
     -- the writer has stored the first `k` words of the value
-    module _ (value : T) (k : ℕ) (ks : k < z) (has_stored : Writing words i value k) where
+    module _ {value : T} {k : ℕ} (ks : k < z) (has_stored : Writing words i value k) where
       abbrev x : ℕ
       x = get_or (code.words_of value) k 0
 
@@ -114,8 +114,8 @@ module _ {T : Type 0} (code : Coding T) (c : ℕ) where
               (stands_on words counted a (contents_of a events) (count_stays c z words i n a ne) (λ j js. data_all_stay c z words i n a j below) (whole a low))
 
     -- where a writer has stored all words of its value nothing stands, since the count is even
-    pub place_none : (value : T) → Writing words i value z → contents_of i events ≡ None
-    place_none value has_stored = none_stands words i (contents_of i events) (whole i below) has_stored.even
+    pub place_none : {value : T} → Writing words i value z → contents_of i events ≡ None
+    place_none has_stored = none_stands words i (contents_of i events) (whole i below) has_stored.even
 
     -- a writer that has stored all words and makes the count odd leaves the words whole,
     -- with its value placed

@@ -22,11 +22,11 @@ module _ {T : Type 0} (code : Coding T) (c : ℕ) where
   -- ---- a word is read, by a step that leaves the words
 
   -- after a step that leaves the words, a copy into which the next word was read has one word more
-  pub copying_more : (v v' : View T) (index count : ℕ) (copy : List ℕ) (at : ℕ) → at < code.size → code.size ≤ 128
+  pub copying_more : {v v' : View T} {index count : ℕ} {copy : List ℕ} {at : ℕ} → at < code.size → code.size ≤ 128
       → v'.words ≡ v.words → (Keeps v'.terms → Keeps v.terms) → (WellFormed (now v') → WellFormed (now v))
       → Copying code c index count copy at v
       → Copying code c index count (set copy at (datum_in code c (now v) index at)) (at + 1) v'
-  copying_more v v' index count copy at ats few same kept well_formed copying =
+  copying_more {v} {v'} {index} {copy = copy} {at = at} ats few same kept well_formed copying =
       record {
         within = copying.within;
         few = omega arith;
@@ -53,11 +53,11 @@ module _ {T : Type 0} (code : Coding T) (c : ℕ) where
   -- ---- all its words are read, and the number is there still
 
   -- a copy that is whole, and whose number is there still, is the value that stands
-  pub copied_value : (v : View T) (index count : ℕ) (copy : List ℕ) → IsCoding code
+  pub copied_value : {v : View T} {index count : ℕ} {copy : List ℕ} → IsCoding code
       → (WellFormed (now v) → IsWhole code c v.words v.events) → Copying code c index count copy code.size v
       → count_in code c (now v) index ≡ count → WellFormed (now v)
       → contents_of index v.events ≡ Some (value_in code.value_of code.size copy)
-  copied_value v index count copy coded whole copying same_number well_formed = by (contents_of index v.events) (whole well_formed index copying.within)
+  copied_value {v} {index} {copy = copy} coded whole copying same_number well_formed = by (contents_of index v.events) (whole well_formed index copying.within)
     where
       -- the copy has room for the words of a value
       big : nat_lt (length copy) code.size ≡ false

@@ -83,7 +83,7 @@ module _ (T : Type 0) where
   places_not = grind arith
 
 -- the party of the scene has a call on the length or the lock
-module _ {T : Type 0} (scene : Scene T) (inv : Inv scene) where
+module _ {T : Type 0} {scene : Scene T} (inv : Inv scene) where
   open scene use {coding as code, capacity as c, party as p, steps as steps, backs as backs, events as events}
 
   abbrev ws : List ℕ
@@ -114,7 +114,7 @@ module _ {T : Type 0} (scene : Scene T) (inv : Inv scene) where
     still : (words' : List ℕ) (y : Party T) (es : List (Event T))
         (well_formed : WellFormed (after scene words' y es) → WellFormed (before scene))
         → OwesStill scene inv words' y es well_formed
-    still words' y es well_formed = owes_none scene start (count_at which c count) y here refl
+    still words' y es well_formed = owes_none scene y here refl
 
     -- what a step of the count leads to, as a step of the call
     abbrev counts_to : Option Ask → Bool → After Counting Counted → Type 0
@@ -124,16 +124,16 @@ module _ {T : Type 0} (scene : Scene T) (inv : Inv scene) where
         (went_on as_it_is tt tt (borrowed_counted (record { capacity = c; count = count }) r)))
 
     -- a count that has come to its end ends with the number that it has counted
-    counts_end : (number : ℕ) (ask : Option Ask) → Stays (of_set scene) (words_after ws ask)
+    counts_end : {number : ℕ} (ask : Option Ask) → Stays (of_set scene) (words_after ws ask)
         → IsLength p c number events → set_knows.IsPaid (set_stages.sees (of_set scene) ask false)
         → steps + step_count ask ≤ c + 2 + backs_then scene false * (c + 2)
         → Leads scene (counts_as which) ask false scene.states [] (Done (counted which number))
-    counts_end number ask stays is_length paid few =
+    counts_end {number} ask stays is_length paid few =
         let party_after = party_then scene start ask false (Done (counted which number)) in
         let written = Finished p (Container start) (counted which number) ∷ [] in
         let well_formed = was_well_formed scene start (no_replace T which) here.span (words_after ws ask) party_after written (refl, tt) in
         ends scene start (counted which number) ask false scene.states [] here.span none_lengthens
-        (ends_there scene inv start (count_at which c count) tt here party_after (words_after ws ask) stays
+        (ends_there inv tt here party_after stays
         (counted which number)
         (quiet_end p (Container start) (counted which number) (settles_not T which p number)
         (rights_not T which p number))
@@ -154,7 +154,7 @@ module _ {T : Type 0} (scene : Scene T) (inv : Inv scene) where
         let party_after = party_then scene start ask back (GoOn (count_at which c next)) in
         let well_formed = was_well_formed scene start (no_replace T which) here.span (words_after ws ask) party_after [] tt in
         goes_calmly scene start (count_at which c next) ask back scene.states here.span
-        (moves scene inv start (count_at which c count) tt here party_after (words_after ws ask)
+        (moves inv tt here party_after
         (stays_same (of_set scene) (inv_of_set scene inv) (words_after ws ask) same) well_formed
         (still (words_after ws ask) party_after [] well_formed))
         (omega arith) (at_count T which c code.size (all scene) (done scene) next next_at none)
@@ -162,12 +162,12 @@ module _ {T : Type 0} (scene : Scene T) (inv : Inv scene) where
         -- the set is locked: the count is 0
         (λ ask same shut paid few.
         let low = few 0 (c + 2) (omega arith) (omega arith) in
-        counts_end 0 ask (stays_same (of_set scene) (inv_of_set scene inv) (words_after ws ask) same)
+        counts_end ask (stays_same (of_set scene) (inv_of_set scene inv) (words_after ws ask) same)
         (record { none = λ t. refl; some = λ f. both_ways _ f (is_shut (of_set scene) (inv_of_set scene inv) shut) }) paid (omega arith))
         -- the counter is at its end: the count is what was found
         (λ filled ask same worn end most says paid few.
         let low = few 0 (c + 2) (omega arith) (omega arith) in
-        counts_end filled ask (stays_same (of_set scene) (inv_of_set scene inv) (words_after ws ask) same)
+        counts_end ask (stays_same (of_set scene) (inv_of_set scene inv) (words_after ws ask) same)
         (record {
           none = λ t. both_ways _ (unlocked (of_set scene) (inv_of_set scene inv) (λ shut. absurd (omega arith))) t;
           some = λ f. says;
@@ -175,7 +175,7 @@ module _ {T : Type 0} (scene : Scene T) (inv : Inv scene) where
         -- the counter has not moved since it was loaded: the count is what was found
         (λ filled ask less new most says unheld paid few.
         let low = few 0 (c + 2) (omega arith) (omega arith) in
-        counts_end filled ask (stays_raised (of_set scene) (inv_of_set scene inv) (words_after ws ask) less new)
+        counts_end ask (stays_raised (of_set scene) (inv_of_set scene inv) (words_after ws ask) less new)
         (record {
           none =
               λ t. both_ways _ (unlocked (of_set scene) (inv_of_set scene inv) (not_shut (of_set scene) (inv_of_set scene inv) less)) t;
@@ -203,9 +203,9 @@ module _ {T : Type 0} (scene : Scene T) (inv : Inv scene) where
       let well_formed = was_well_formed scene starts.IsLocked tt here.span (words_after ws ask) party_after written (refl, tt) in
       let paid = knows.paid in
       ends scene starts.IsLocked answer ask false scene.states [] here.span none_lengthens
-      (ends_there scene inv starts.IsLocked lock_at tt here party_after (words_after ws ask)
+      (ends_there inv tt here party_after
       (stays_same (of_set scene) (inv_of_set scene inv) (words_after ws ask) (set_stages.loads_same ws 0)) answer
       (quiet_end p (Container starts.IsLocked) answer (λ i o. refl) (λ i r. refl))
       (λ i b. refl) inv.good.lock well_formed (λ holds. tt)
-      (owes_none scene starts.IsLocked lock_at party_after here refl))
+      (owes_none scene party_after here refl))
       ((refl, none), tt) (omega arith) (omega arith)

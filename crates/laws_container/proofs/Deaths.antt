@@ -76,8 +76,8 @@ module _ {T : Type 0} (terms : Terms) (code : Coding T) (c : ℕ) (words dead : 
         answers = Each-append (AnswersBy terms.by (set.IsWorn terms.by words) c) events es held.answers (tt, tt);
         contains = λ well_formed. Each-append ContainsRight events es (held.contains (was_well_formed well_formed)) (tt, tt);
         places = λ well_formed. Each-append EndsRight events es (held.places (was_well_formed well_formed)) (tt, tt);
-        rests = λ q s idle found. rests_later code c m m' es refl passes q s (held.rests q s idle found);
-        fresh = λ q. rests_later code c m m' es refl passes q _ (held.fresh q);
+        rests = λ q s idle found. rests_later code c es refl passes q s (held.rests q s idle found);
+        fresh = λ q. rests_later code c es refl passes q _ (held.fresh q);
       }
 
   -- the death of an owner shows all that `Dies` asks
@@ -87,7 +87,7 @@ module _ {T : Type 0} (terms : Terms) (code : Coding T) (c : ℕ) (words dead : 
         good = death_good terms.by c words dead events turns o g alive;
         elements = elements_then;
         knows = λ q since changes backs flight k.
-            still_knows code c (view terms words states latest events q since changes backs)
+            still_knows
             (record {
               words_then = words;
               states_then = states;

@@ -133,7 +133,7 @@ module _ {T : Type 0} (scene : Scene T) (inv : Inv scene) (words' : List ℕ) (y
   -- ---- a turn that stores a word of an element, by the party that writes there
 
   -- the turn stores word `k` of `value` at index `i`, where its party writes and has stored the words before
-  module _ (i : ℕ) (below : i < c) (k : ℕ) (ks : k < code.size) (value : T) (owner : ℕ)
+  module _ {i : ℕ} (below : i < c) {k : ℕ} (ks : k < code.size) {value : T} (owner : ℕ)
       (mine : WellFormed m → IsWriter p i owner events) (writing : WellFormed m → Writing code c ws i value k)
       (new : words' ≡ set ws (element_word c code.size i k) (get_or (code.words_of value) k 0)) (calm : LeavesReadings) (still : OwesStill) where
     count_kept : (a : ℕ) → a < c → count_in code c m' a ≡ count_in code c m a
@@ -181,7 +181,7 @@ module _ {T : Type 0} (scene : Scene T) (inv : Inv scene) (words' : List ℕ) (y
               let h = well_formed holds in
               let all : IsWhole code c words' events =
               subst (λ w. IsWhole code c w events) (sym new)
-              (store_whole code c ws events (e.whole h) e.wide i below value k ks (writing h)) in
+              (store_whole code c ws events (e.whole h) e.wide i below ks (writing h)) in
               subst (WordsShow code c words' a) (sym (calm.contents a)) (all a low);
         }
 

@@ -84,16 +84,15 @@ module _ {T : Type 0} (finding : Finding T) where
         let acts_then : acts_of p (events ++ copying) ≡ done scene ++ Copies k value ∷ [] =
         acts_more scene start here.span copying (refl, tt) (λ start w. refl) in
         goes_on scene start (find_at c owner room (finds.Asks k found)) check_it false scene.states copying here.span (λ start w. refl)
-        (silently scene inv (words_after ws check_it) same party_after copying (tt, tt) (refl, tt) start
-        (find_at c owner room (finds.ChecksCount k found count)) tt here well_formed
-        (owes_none scene start (find_at c owner room (finds.ChecksCount k found count)) party_after here refl)
+        (silently inv (words_after ws check_it) same party_after copying (tt, tt) (refl, tt) tt here well_formed
+        (owes_none scene party_after here refl)
         -- its event is right: the copy is the value that stands
         (record {
           asks = (tt, tt);
           recovers = (tt, tt);
           answers = (tt, tt);
           contains =
-              λ holds. (copied_value code c v k count room.words inv.elements.coded inv.elements.whole knows.2 is (well_formed holds), tt);
+              λ holds. (copied_value code c inv.elements.coded inv.elements.whole knows.2 is (well_formed holds), tt);
           places = λ holds. (tt, tt);
         }))
         (stands.1.1, tt) (omega arith) (

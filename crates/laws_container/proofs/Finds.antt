@@ -219,9 +219,9 @@ module _ {T : Type 0} (finding : Finding T) where
     calm_step room' next ask same few stands known =
         let party_after = then_at room' next ask in
         goes_calmly scene start (find_at c owner room' next) ask false scene.states here.span
-        (silently scene inv (words_after ws ask) same party_after [] tt tt start (find_at c owner room stage) tt here
+        (silently inv (words_after ws ask) same party_after [] tt tt tt here
         (was_well_formed scene start tt here.span (words_after ws ask) party_after [] tt)
-        (owes_none scene start (find_at c owner room stage) party_after here refl) (right_none (words_after ws ask) party_after))
+        (owes_none scene party_after here refl) (right_none (words_after ws ask) party_after))
         few (refl, refl, fits, stands) known
 
     -- a step that writes nothing leaves right what a find has counted and copied
@@ -241,9 +241,9 @@ module _ {T : Type 0} (finding : Finding T) where
         let party_after = party_then scene start ask false (Done (answers.Number number)) in
         let written = Finished p (Container start) (answers.Number number) ∷ [] in
         ends scene start (answers.Number number) ask false scene.states [] here.span none_lengthens
-        (silently scene inv (words_after ws ask) same party_after written (tt, tt) (refl, tt) start (find_at c owner room stage) tt
+        (silently inv (words_after ws ask) same party_after written (tt, tt) (refl, tt) tt
         here (was_well_formed scene start tt here.span (words_after ws ask) party_after written (refl, tt))
-        (owes_none scene start (find_at c owner room stage) party_after here refl)
+        (owes_none scene party_after here refl)
         (record {
           asks = (tt, tt);
           recovers = (tt, tt);
@@ -376,8 +376,7 @@ module _ {T : Type 0} (finding : Finding T) where
         → Copying code c k count room'.words (at + 1)
         (SeesCalmly room (finds.LoadsWord k found count at) here stands.0 room' next load_word)
     copied_on next =
-        copying_more code c v (SeesCalmly room (finds.LoadsWord k found count at) here stands.0 room' next load_word)
-        k count room.words at stands.2 inv.elements.coded.few same_words (λ kept. kept)
+        copying_more code c stands.2 inv.elements.coded.few same_words (λ kept. kept)
         (was_well_formed_calmly scene start tt here.span (then_at room (finds.LoadsWord k found count at) here stands.0 room' next load_word)) knows.2
 
     -- after the load of a word, the element that stands at the index still has the number

@@ -22,8 +22,8 @@ module _ {T : Type 0} where
 
 -- party `q` knows this of the index in the machine `m`, and another party takes a turn to
 -- `m'`; `c` is the capacity
-module _ {T : Type 0} (code : Coding T) (c q owner index count : ℕ) (m : Now T) (words' : List ℕ)
-    (latest' : List (ℕ × Party T)) (es : List (Event T)) (goes : Goes m.words words' m.events es)
+module _ {T : Type 0} {code : Coding T} {c q : ℕ} (owner index count : ℕ) {m : Now T} {words' : List ℕ}
+    (latest' : List (ℕ × Party T)) {es : List (Event T)} (goes : Goes m.words words' m.events es)
     (spares : Spares m.terms.by q m.events es)
     (passes : Passes code c m (record { terms = m.terms; words = words'; latest = latest'; events = m.events ++ es }))
     (leaves : LeavesParty code c q m (record { terms = m.terms; words = words'; latest = latest'; events = m.events ++ es }))
@@ -61,8 +61,8 @@ module _ {T : Type 0} (code : Coding T) (c q owner index count : ℕ) (m : Now T
   hidden_stands = grind (arith, inl, held_later, stands_on, is_some)
 
 -- party `q` knows this in the machine `m`, and another party takes a turn; `c` is the capacity
-module _ {T : Type 0} (code : Coding T) (c q owner : ℕ) (But : ℕ → Type 0) (m : Now T) (words' : List ℕ)
-    (latest' : List (ℕ × Party T)) (es : List (Event T)) (spares : Spares m.terms.by q m.events es)
+module _ {T : Type 0} {code : Coding T} {c q : ℕ} (owner : ℕ) (But : ℕ → Type 0) {m : Now T} (words' : List ℕ)
+    (latest' : List (ℕ × Party T)) {es : List (Event T)} (spares : Spares m.terms.by q m.events es)
     (passes : Passes code c m (record { terms = m.terms; words = words'; latest = latest'; events = m.events ++ es })) where
   -- what a call has freed is hidden still, with the same exempt indices
   pub hidden_later : HasHidden code c q owner But m

@@ -37,15 +37,15 @@ pub total_is : (c z index owner : ℕ) (mode : ReleaseMode) (backs : ℕ) (T : T
 total_is = grind arith
 
 -- a remove that answers a state has freed its index
-removed_frees : (T : Type 0) (index owner : ℕ) (mode : ReleaseMode) (state : ReleaseState) (made : List SetAct)
+removed_frees : (T : Type 0) (index owner : ℕ) (mode : ReleaseMode) (state : ReleaseState) {made : List SetAct}
     → HasDone {T = T} (Remove index owner mode) (answers.State state) made [] → IsOneOf (Frees index owner) made
-removed_frees T index owner Default states.Locked made has_done = absurd has_done
-removed_frees T index owner Default states.Unlocked made has_done =
+removed_frees T index owner Default states.Locked has_done = absurd has_done
+removed_frees T index owner Default states.Unlocked has_done =
     subst (IsOneOf (Frees index owner)) (sym has_done) (record { before = []; after = []; is = refl })
-removed_frees T index owner LockIfLastIndex states.Locked made has_done =
+removed_frees T index owner LockIfLastIndex states.Locked has_done =
     ⊎_elim (λ e. subst (IsOneOf (Frees index owner)) (sym e) (record { before = []; after = []; is = refl }))
     (λ e. subst (IsOneOf (Frees index owner)) (sym e) (record { before = []; after = Locks ∷ []; is = refl })) has_done
-removed_frees T index owner LockIfLastIndex states.Unlocked made has_done =
+removed_frees T index owner LockIfLastIndex states.Unlocked has_done =
     subst (IsOneOf (Frees index owner)) (sym has_done) (record { before = []; after = []; is = refl })
 
 -- what a remove that answers a state has done to the set is right, whatever it has done to elements
@@ -105,7 +105,7 @@ module _ {T : Type 0} (removing : Removing T) where
   -- ---- what stands there is hidden
 
   -- the remove has freed its index, and hides the element there if it has the odd number `count` still
-  module _ (count : ℕ) (state : ReleaseState) (here : IsAtStage (removes.Hides count state))
+  module _ {count : ℕ} (state : ReleaseState) (here : IsAtStage (removes.Hides count state))
       (stands : RemoveAt c z (all scene) (done scene) index owner mode (removes.Hides count state))
       (knows : RemoveKnows code c index owner mode (removes.Hides count state) (sees_now scene))
       (few_steps : steps ≤ 1 + release_total c index owner mode backs) where
@@ -124,8 +124,8 @@ module _ {T : Type 0} (removing : Removing T) where
         by_bool (count_now == count)
         (λ t.
         let same_count : count_now ≡ count = grind (arith, nat_tests) in
-        (leaves_behind (of_set scene) (inv_of_set scene inv) (words_after ws hide_it) (count_word c index) _
-        (omega arith) (hides_count scene inv index count below same_count)).stuck
+        (leaves_behind (inv_of_set scene inv) (words_after ws hide_it) (count_word c index) _
+        (omega arith) (hides_count inv index count below same_count)).stuck
         end)
         (λ t.
         let other : count_now ≢ count = grind (arith, nat_tests) in
@@ -161,7 +161,7 @@ module _ {T : Type 0} (removing : Removing T) where
         let total = same_total in
         goes_on scene start (at_stage next) hide_it false scene.states written here.span (λ start w. refl)
         (hides scene inv start (at_stage (removes.Hides count state)) tt here party_after
-        (words_after ws hide_it) index below (hides_count scene inv index count below same_count) refl odd
+        (words_after ws hide_it) index below (hides_count inv index count below same_count) refl odd
         (λ holds q ne o theirs fresh. both_ways (left_of index events) fresh (knows.2.left holds same_count))
         (was_well_formed scene start tt here.span (words_after ws hide_it) party_after written (refl, tt)))
         ((refl, stands.2, stands.3), tt) (omega arith) (
@@ -184,8 +184,7 @@ module _ {T : Type 0} (removing : Removing T) where
         let party_after = then_at next hide_it false in
         let total = same_total in
         goes_on scene start (at_stage next) hide_it false scene.states [] here.span none_lengthens
-        (loads scene inv start (at_stage (removes.Hides count state)) tt here party_after
-        (words_after ws hide_it) (fails_same ws (count_word c index) count (one_more count) other)
+        (loads scene inv start (at_stage (removes.Hides count state)) tt here party_after (fails_same ws (count_word c index) count (one_more count) other)
         (was_well_formed scene start tt here.span (words_after ws hide_it) party_after [] tt) (λ was. refl))
         tt (omega arith) (
           refl,
@@ -216,8 +215,8 @@ module _ {T : Type 0} (removing : Removing T) where
     -- a counter at its end is at its end after the change is counted
     counter_stays_then : counter_of ws ≡ greatest → counter_of (words_after ws end_it) ≡ greatest
     counter_stays_then end =
-        (leaves_behind (of_set scene) (inv_of_set scene inv) (words_after ws end_it) (change_word c) _ (omega arith)
-        (adds_to_change scene inv)).stuck
+        (leaves_behind (inv_of_set scene inv) (words_after ws end_it) (change_word c) _ (omega arith)
+        (adds_to_change inv)).stuck
         end
 
     -- the answer of the remove is right, from what the remove knows of its state (`RemoveSays`)
@@ -232,17 +231,17 @@ module _ {T : Type 0} (removing : Removing T) where
         let party_after = party_then scene start end_it false (Done (answers.State state)) in
         let written = Finished p (Container start) (answers.State state) ∷ [] in
         let well_formed = was_well_formed scene start tt here.span (words_after ws end_it) party_after written (refl, tt) in
-        let new = adds_to_change scene inv in
+        let new = adds_to_change inv in
         let most = total_is c z index owner mode (backs_then scene false) T in
         let total = same_total in
         ends scene start (answers.State state) end_it false scene.states [] here.span none_lengthens
-        (ends_counted scene inv start (at_stage (removes.AddsChange state)) tt here party_after (words_after ws end_it) (answers.State state)
+        (ends_counted scene inv start (at_stage (removes.AddsChange state)) tt here party_after (answers.State state)
         (set_effects.quietly (of_set scene) (inv_of_set scene inv) (words_after ws end_it) written
-        (leaves_behind (of_set scene) (inv_of_set scene inv) (words_after ws end_it) (change_word c) _ (omega arith) new)
+        (leaves_behind (inv_of_set scene inv) (words_after ws end_it) (change_word c) _ (omega arith) new)
         (quiet_end p (Container start) (answers.State state) (λ i o. refl) (λ i r. refl))
         (refl, tt) (tt, tt) (tt, tt))
         (answers_right mode state knows.1) well_formed
         (λ holds. ⊎_elim (λ empty. empty) (λ never. absurd never)
-        (knows.2 (well_formed holds) index (removed_frees T index owner mode state (all scene) has_done)))
+        (knows.2 (well_formed holds) index (removed_frees T index owner mode state has_done)))
         new (λ holds i said. inv.elements.announced holds i said))
         ((refl, removed_done index owner mode state (all scene) (done scene) has_done), tt) (omega arith) (let paid = knows.0 in omega arith)

@@ -102,9 +102,9 @@ module _ {T : Type 0} (p : ℕ) where
 
     -- an event that a step writes for a call which is for no owner who is gone is honest, and the call is for
     -- no such owner still
-    one : (events : List (Event T)) (e : Event T) → IsEffectOf (Next p) e → StandsRight promise c events e → ActsForLiving events
+    one : {events : List (Event T)} (e : Event T) → IsEffectOf (Next p) e → StandsRight promise c events e → ActsForLiving events
         → ActsForRight events e × ActsForLiving (events ++ e ∷ [])
-    one events e its right goes =
+    one {events} e its right goes =
         let own = effect_own e its in
         let there = stand_by c e its (span_of p events) (at_party p (whose e) (λ q. Stands promise c e (span_of q events)) own right) in
         let stands : may_stand e (Open (Container start) goes.wrote) = subst (may_stand e) goes.span there in (
@@ -118,13 +118,14 @@ module _ {T : Type 0} (p : ℕ) where
 
     -- all that a step writes for a call which is for no owner who is gone is honest, and the call is for no
     -- such owner still
-    all_right : (events es : List (Event T)) → AllByRecursion (IsEffectOf (Next p)) es → Each (StandsRight promise c) (events ++ es) → ActsForLiving events
+    all_right : {events : List (Event T)} (es : List (Event T)) → AllByRecursion (IsEffectOf (Next p)) es
+        → Each (StandsRight promise c) (events ++ es) → ActsForLiving events
         → AreRight ActsForRight events es × ActsForLiving (events ++ es)
-    all_right events [] its spans goes = (tt, subst ActsForLiving (sym (append-nil events)) goes)
-    all_right events (e ∷ es) its spans goes =
+    all_right {events} [] its spans goes = (tt, subst ActsForLiving (sym (append-nil events)) goes)
+    all_right {events} (e ∷ es) its spans goes =
         let joined : (events ++ e ∷ []) ++ es ≡ events ++ e ∷ es = append_assoc events (e ∷ []) es in
-        let first = one events e its.0 (spans events es e refl) goes in
-        let rest = all_right (events ++ e ∷ []) es its.1 (subst (Each (StandsRight promise c)) (sym joined) spans) first.1 in
+        let first = one {events = events} e its.0 (spans events es e refl) goes in
+        let rest = all_right {events = (events ++ e ∷ [])} es its.1 (subst (Each (StandsRight promise c)) (sym joined) spans) first.1 in
         ((first.0, rest.0), subst ActsForLiving joined rest.1)
 
     -- the end of a call that is for no owner who is gone is honest
@@ -134,15 +135,15 @@ module _ {T : Type 0} (p : ℕ) where
 
     -- an honest run is honest after a step of a call that is for no owner who is gone, and after
     -- the end of that call
-    honest_more : (events did : List (Event T)) (outcome : Option (Answer T))
+    honest_more : {events : List (Event T)} (did : List (Event T)) (outcome : Option (Answer T))
         → AllByRecursion (IsEffectOf (Next p)) did → ActsForLiving events → IsHonest events
         → Each (StandsRight promise c) (events ++ (did ++ ending_of p (Container start) outcome))
         → IsHonest (events ++ (did ++ ending_of p (Container start) outcome))
-    honest_more events did outcome its goes honest spans =
+    honest_more {events} did outcome its goes honest spans =
         let ends = ending_of p (Container start) outcome in
         let joined : (events ++ did) ++ ends ≡ events ++ (did ++ ends) = append_assoc events did ends in
         let before = Each-less (StandsRight promise c) (events ++ did) ends (subst (Each (StandsRight promise c)) (sym joined) spans) in
-        let r = all_right events did its before goes in
+        let r = all_right did its before goes in
         subst IsHonest joined
         (Each-append ActsForRight (events ++ did) ends (Each-append ActsForRight events did honest r.0) (end_right (events ++ did) outcome r.1.living))
 
@@ -172,27 +173,27 @@ module _ {T : Type 0} (terms : Terms) (code : Coding T) (c : ℕ) (t : Trace T)
 
     -- the run stays honest with what the call writes, if it acts for nobody who is gone or
     -- waits for a decision
-    by_name : (start : Start T) (flight : Flight T) → StandsThere (family_by terms code c) t sound p x since start flight → MayWrite flight
+    by_name : {start : Start T} {flight : Flight T} → StandsThere (family_by terms code c) t sound p x since start flight → MayWrite flight
         → StandRightWith (writes (registries.Container sound.state.dead sound.state.states) start flight)
         → IsHonestWith (writes (registries.Container sound.state.dead sound.state.states) start flight)
-    by_name (Container start) (flights.Container flight) stands minds spans =
+    by_name {start = (Container start)} {flight = (flights.Container flight)} stands minds spans =
         let state = state_of p sound.state.states in
         let did : List (Event T) = effects t.world.coding p state flight answer ++ questions p flight answer in
         let live : IsForLiving t.events start =
         ⊎_elim (λ alive. living_by t.events t.world.coding c code.size _ _ start flight stands.at alive)
         (λ asks. living_asked t.events t.world.coding c code.size _ _ start flight stands.at asks) minds in
-        honest_more p c start t.events did (answer_in (any_call (after t.world.coding state flight answer)))
+        honest_more p c start did (answer_in (any_call (after t.world.coding state flight answer)))
         (all_effects (Next p) p refl t.world.coding state flight answer)
         (record { wrote = wrote_of p sound.state.events; span = stands.span; living = live }) honest spans
-    by_name start flight stands minds spans = absurd stands.at
+    by_name stands minds spans = absurd stands.at
 
     -- the run stays honest with what the party's call under way writes, by the machine's own words and states
-    went : (flight : Flight T) → party_of p t.world.latest ≡ Some x → x.doing ≡ Going flight since → MayWrite flight
+    went : {flight : Flight T} → party_of p t.world.latest ≡ Some x → x.doing ≡ Going flight since → MayWrite flight
         → StandRightWith (writes t.world.kept x.start flight)
         → IsHonestWith (writes t.world.kept x.start flight)
-    went flight found doing minds =
+    went {flight} found doing minds =
         subst (λ kept. StandRightWith (writes kept x.start flight) → IsHonestWith (writes kept x.start flight)) (sym sound.fit.kept)
-        (by_name x.start flight (stands_there (family_by terms code c) t sound p x since flight found doing) minds)
+        (by_name (stands_there (family_by terms code c) t sound p x since flight found doing) minds)
 
   -- the old value of the word for which the call asks
   abbrev old : Doing T → ℕ
@@ -213,9 +214,9 @@ module _ {T : Type 0} (terms : Terms) (code : Coding T) (c : ℕ) (t : Trace T)
   by_question flight asks = tt
 
   -- what a party has under way is the call that the machine finds
-  flies : (p : ℕ) (x : Party T) (flight : Flight T) (since : ℕ) → party_of p t.world.latest ≡ Some x → x.doing ≡ Going flight since
+  flies : (p : ℕ) (x : Party T) {flight : Flight T} {since : ℕ} → party_of p t.world.latest ≡ Some x → x.doing ≡ Going flight since
       → flight_in t.world p ≡ Some flight
-  flies p x flight since found doing_is = ap (λ o. flight_of (doing_of o)) found ∙ ap (λ doing_is. flight_of (Some doing_is)) doing_is
+  flies p x found doing_is = ap (λ o. flight_of (doing_of o)) found ∙ ap (λ doing_is. flight_of (Some doing_is)) doing_is
 
   -- a step of a party whose call acts for nobody who is gone leaves the run honest
   next_honest : (p : ℕ) → is_for_gone t.events (flight_in t.world p) ≡ false → (o : Option (Party T)) → party_of p t.world.latest ≡ o
@@ -228,8 +229,8 @@ module _ {T : Type 0} (terms : Terms) (code : Coding T) (c : ℕ) (t : Trace T)
           → IsHonestWith (events_of_answer t.world p x (old doing) doing)
       go (Over others) same_doing spans = same
       go (Going flight since) same_doing spans =
-          went p (old (Going flight since)) x since flight party_is same_doing
-          (by_steps flight (subst (λ o. is_for_gone t.events o ≡ false) (flies p x flight since party_is same_doing) steps)) spans
+          went p (old (Going flight since)) x since party_is same_doing
+          (by_steps flight (subst (λ o. is_for_gone t.events o ≡ false) (flies p x party_is same_doing) steps)) spans
 
   -- a decision leaves the run honest
   decision_honest : (p : ℕ) (said : Bool) → is_due t.world.coding (flight_in t.world p) ≡ true → (o : Option (Party T)) → party_of p t.world.latest ≡ o
@@ -242,8 +243,8 @@ module _ {T : Type 0} (terms : Terms) (code : Coding T) (c : ℕ) (t : Trace T)
           → IsHonestWith (events_of_answer t.world p x (number_of said) doing)
       go (Over others) same_doing spans = same
       go (Going flight since) same_doing spans =
-          went p (number_of said) x since flight party_is same_doing
-          (by_question flight (subst (λ o. is_due t.world.coding o ≡ true) (flies p x flight since party_is same_doing) due))
+          went p (number_of said) x since party_is same_doing
+          (by_question flight (subst (λ o. is_due t.world.coding o ≡ true) (flies p x party_is same_doing) due))
           spans
 
   -- a turn that an open run does not refuse, and that is no step for an owner who is gone,

@@ -244,7 +244,7 @@ module _ {T : Type 0} (scene : Scene T) where
     pub rests : (s : ContainerState T) → is_looking (flight_of (Some y.doing)) ≡ false → state_of p states' ≡ Some s → Rests code c (after words' y es) p s
 
   -- a turn that keeps the invariant leaves this machine, and what holds of the elements before it is `h`
-  module _ (words' : List ℕ) (states' : List (ℕ × ContainerState T)) (y : Party T) (es : List (Event T))
+  module _ {words' : List ℕ} {states' : List (ℕ × ContainerState T)} {y : Party T} {es : List (Event T)}
       (does : KeepsInvariant words' states' y es) (elements : Elements code c before scene.states turns) where
     abbrev m' : Now T
     m' = after words' y es
@@ -264,7 +264,7 @@ module _ {T : Type 0} (scene : Scene T) where
         -- the state of another party is at rest as it was before the turn
         there : q ≢ p → Rests code c m' q s
         there ne =
-            rests_later code c before m' es refl does.changes.passes q s
+            rests_later code c es refl does.changes.passes q s
             (elements.rests q s (ap (λ o. is_looking (flight_of (doing_of o))) (sym (party_put_other q p y latest ne)) ∙ idle) (sym (does.others q ne) ∙ found))
 
     -- what holds of the elements and of the states holds after the turn
@@ -292,7 +292,7 @@ module _ {T : Type 0} (scene : Scene T) where
               λ well_formed. Each-append EndsRight events es
               (elements.places (does.changes.passes.well_formed well_formed)) (does.right.places well_formed);
           rests = still_rests;
-          fresh = λ q. rests_later code c before m' es refl does.changes.passes q (fresh code c) (elements.fresh q);
+          fresh = λ q. rests_later code c es refl does.changes.passes q (fresh code c) (elements.fresh q);
         }
 
 -- ---- what a turn shows, where the party's span was this
@@ -321,13 +321,13 @@ module _ {T : Type 0} (scene : Scene T) where
     pub seen : IsSeen scene.words words' scene.changes changes'
 
   -- a turn of one party leaves to the call of each other party what it knows
-  any_knows : (words' : List ℕ) (states' : List (ℕ × ContainerState T)) (y : Party T) (es : List (Event T)) (changes' : ℕ)
+  any_knows : {words' : List ℕ} {states' : List (ℕ × ContainerState T)} {y : Party T} {es : List (Event T)} (changes' : ℕ)
       → KeepsInvariant scene words' states' y es → IsSeen scene.words words' scene.changes changes' → (q : ℕ) → q ≢ p
       → (since backs : ℕ) (flight : Flight T)
       → Knowing code c flight (view scene.terms scene.words scene.states latest events q since scene.changes backs)
       → Knowing code c flight (view scene.terms words' states' (put p y latest) (events ++ es) q since changes' backs)
-  any_knows words' states' y es changes' does seen q ne since backs (flights.Container flight) knowing =
-      still_knows code c (view scene.terms scene.words scene.states latest events q since scene.changes backs)
+  any_knows {words'} {states'} {y} {es} changes' does seen q ne since backs (flights.Container flight) knowing =
+      still_knows
       (record {
         words_then = words';
         states_then = states';
@@ -344,7 +344,7 @@ module _ {T : Type 0} (scene : Scene T) where
         same_state = does.others q ne;
       })
       flight knowing
-  any_knows words' states' y es changes' does seen q ne since backs flight knowing = absurd knowing
+  any_knows changes' does seen q ne since backs flight knowing = absurd knowing
 
   -- a call stands where it stood if its span has the same events
   pub at_written : (c z : ℕ) (w w' : List (Event T)) (start : Start T) (flight : Flight T) → w' ≡ w
@@ -376,7 +376,7 @@ module _ {T : Type 0} (scene : Scene T) where
                 still_wrote q ne,
               );
           others_know = λ q ne since backs flight known.
-              any_knows words' states' y es changes' shows_it.does shows_it.seen q ne since backs flight
+              any_knows changes' shows_it.does shows_it.seen q ne since backs flight
               (subst (λ (o : ContainerNow T). Knowing code c flight
               (view scene.terms o.words o.states o.latest events q since scene.changes backs))
               here known);
@@ -393,5 +393,5 @@ module _ {T : Type 0} (scene : Scene T) where
           same_latest = refl;
           begun = λ q x found. omega arith;
           good = shows_it.does.set.good;
-          elements = elements_then scene words' states' y es shows_it.does elements;
+          elements = elements_then scene shows_it.does elements;
         }

@@ -52,9 +52,9 @@ module _ {T : Type 0} (shown : Shown T) (code : Coding T) (c : ℕ) where
           let passed = passes t.world turn unrefused in
           let new : Trace T = after_turn t turn in
           let tells =
-          tells_if shown dying code t sound (may_go_on dying code t.world.capacity t sound passed.turns) turn
+          tells_if shown code sound (may_go_on dying code t.world.capacity t sound passed.turns) turn
           (allowed_by t.world turn passed.on) (IsWellFormedRun new)
-          (λ well_formed. well_formed_so_far new well_formed) in
+          (λ well_formed. well_formed_so_far well_formed) in
           record {
             finds = tells.finds;
             finds_up_to = λ p owner is here.
@@ -73,7 +73,7 @@ module _ {T : Type 0} (shown : Shown T) (code : Coding T) (c : ℕ) where
       record {
         promise = refl;
         bounds = bounds code c;
-        promised = λ t s few. container_kept code t (subst (λ n. frame.Sound (family code n) t) (sym s.capacity) s);
+        promised = λ t s few. container_kept code (subst (λ n. frame.Sound (family code n) t) (sym s.capacity) s);
         writes = λ t s p x since small start flight here. writes t (Next p) p refl _ s.state start flight here.at;
         decides = λ t s p x since said start flight asks here. writes t (Decide p said) p refl (number_of said) s.state start flight here.at;
         goes = told;

@@ -113,8 +113,8 @@ module _ {T : Type 0} (code : Coding T) (c : ℕ) (v : View T) (turn : OthersTur
   lives owner alive = gone_less v.terms.by owner events es alive
 
   -- what the call knows of the set it knows still
-  pub set_knows : (flight : _) → set.Knows c flight (of_set v) → set.Knows c flight (of_set later)
-  set_knows flight knows = knows_later v.terms.by v.words words' events es q v.since v.changes changes' v.backs goes spares seen c flight knows
+  pub set_knows : {flight : _} → set.Knows c flight (of_set v) → set.Knows c flight (of_set later)
+  set_knows {flight} knows = knows_later v.terms.by v.words words' events es q v.since v.changes changes' v.backs goes spares seen c flight knows
 
   -- what held at a moment of the party's call held at one still
   pub once : (P : List (Event T) → Type 0) → HeldSometime q P events → HeldSometime q P (events ++ es)
@@ -131,9 +131,9 @@ module _ {T : Type 0} (code : Coding T) (c : ℕ) (v : View T) (turn : OthersTur
   -- ---- a writer
 
   -- an add still owns its index
-  add_owns : (owner index : ℕ) → AddOwns c owner index v → AddOwns c owner index later
-  add_owns owner index owned =
-      record { paid = paid owned.paid; within = owned.within; owns = add_later v.terms.by events es q index owner spares owned.owns }
+  add_owns : {owner index : ℕ} → AddOwns c owner index v → AddOwns c owner index later
+  add_owns {owner} {index} owned =
+      record { paid = paid owned.paid; within = owned.within; owns = add_later spares owned.owns }
 
   -- a replace that has taken a step is still the party's call
   pub found : (index owner : ℕ) (value : T) → HasFound index owner value v → HasFound index owner value later
@@ -141,11 +141,11 @@ module _ {T : Type 0} (code : Coding T) (c : ℕ) (v : View T) (turn : OthersTur
 
   -- a replace still has its right to the index
   replace_owns : (index owner : ℕ) → ReplaceOwns v.terms.by q index owner events → ReplaceOwns v.terms.by q index owner (events ++ es)
-  replace_owns index owner owned = replace_later v.terms.by events es q index owner spares owned
+  replace_owns index owner owned = replace_later index owner spares owned
 
   -- a replace that has found its owner in the cell knows so still
-  replace_knows : (index owner : ℕ) (value : T) → ReplaceKnows c index owner value v → ReplaceKnows c index owner value later
-  replace_knows index owner value knows =
+  replace_knows : {index owner : ℕ} {value : T} → ReplaceKnows c index owner value v → ReplaceKnows c index owner value later
+  replace_knows {index} {owner} {value} knows =
       record {
         paid = paid knows.paid;
         within = knows.within;
@@ -159,21 +159,21 @@ module _ {T : Type 0} (code : Coding T) (c : ℕ) (v : View T) (turn : OthersTur
   IsTheWriter owner index = WellFormed (now v) → Lives owner v → IsWriter q index owner events
 
   -- an add that owns its index may write there
-  adds_write : (owner index : ℕ) → AddOwns c owner index v → IsTheWriter owner index
-  adds_write owner index owns well_formed alive = inl (owns.owns well_formed.calm alive).by
+  adds_write : {owner index : ℕ} → AddOwns c owner index v → IsTheWriter owner index
+  adds_write owns well_formed alive = inl (owns.owns well_formed.calm alive).by
 
   -- a replace that has found its owner may write at its index
-  replaces_write : (owner index : ℕ) (value : T) → ReplaceKnows c index owner value v → IsTheWriter owner index
-  replaces_write owner index value knows well_formed alive = inr (replacing c index owner value v knows well_formed alive)
+  replaces_write : {owner index : ℕ} {value : T} → ReplaceKnows c index owner value v → IsTheWriter owner index
+  replaces_write {owner} {index} {value} knows well_formed alive = inr (replacing c index owner value v knows well_formed alive)
 
   -- the loaded number is still there, or what stood there is hidden
   covers : (owner index count : ℕ) → index < c → IsTheWriter owner index → Covers code c owner index count v → Covers code c owner index count later
   covers owner index count below writer covered well_formed alive = let by_lives = lives in grind arith
 
   -- the words that a writer has stored stand there still
-  writes : (owner index : ℕ) (value : T) (k : ℕ) → index < c → IsTheWriter owner index
+  writes : {owner index : ℕ} {value : T} {k : ℕ} → index < c → IsTheWriter owner index
       → Writes code c owner index value k v → Writes code c owner index value k later
-  writes owner index value k below writer wrote = let by_lives = lives in grind arith
+  writes below writer wrote = let by_lives = lives in grind arith
 
   -- a value that a call has placed is still the one that it has placed
   placed : (index : ℕ) (value : T) → HasPlaced code c index value v → HasPlaced code c index value later
@@ -185,22 +185,22 @@ module _ {T : Type 0} (code : Coding T) (c : ℕ) (v : View T) (turn : OthersTur
 
   -- an add at any stage knows what it knew before
   pub add_knows : (value : T) (owner : ℕ) (stage : AddStage) → AddKnows code c value owner stage v → AddKnows code c value owner stage later
-  add_knows value owner (adds.Acquires stage) knew = set_knows (acquire_at c owner stage) knew
-  add_knows value owner (adds.LoadsCount index) knew = add_owns owner index knew
+  add_knows value owner (adds.Acquires stage) knew = set_knows knew
+  add_knows value owner (adds.LoadsCount index) knew = add_owns knew
   add_knows value owner (adds.Hides index count) knew =
-      (add_owns owner index knew.0, covers owner index count knew.0.within (adds_write owner index knew.0) knew.1)
+      (add_owns knew.0, covers owner index count knew.0.within (adds_write knew.0) knew.1)
   add_knows value owner (adds.Stores index at) knew = (
-    add_owns owner index knew.0,
-    writes owner index value at knew.0.within (adds_write owner index knew.0) knew.1,
+    add_owns knew.0,
+    writes knew.0.within (adds_write knew.0) knew.1,
   )
   add_knows value owner (adds.AddsCount index) knew = (
-    add_owns owner index knew.0,
-    writes owner index value code.size knew.0.within (adds_write owner index knew.0) knew.1,
+    add_owns knew.0,
+    writes knew.0.within (adds_write knew.0) knew.1,
   )
   add_knows value owner (adds.AddsChange index) knew = (
-    add_owns owner index knew.0,
+    add_owns knew.0,
     placed index value knew.1,
-    stood owner index knew.0.within (adds_write owner index knew.0) knew.2,
+    stood owner index knew.0.within (adds_write knew.0) knew.2,
   )
 
   -- a replace at any stage knows what it knew before
@@ -208,26 +208,26 @@ module _ {T : Type 0} (code : Coding T) (c : ℕ) (v : View T) (turn : OthersTur
       → ReplacesKnow code c index value owner stage v → ReplacesKnow code c index value owner stage later
   replaces_know index value owner replaces.Refuses knew = paid knew
   replaces_know index value owner replaces.LoadsCell knew = (paid knew.0, replace_owns index owner knew.1)
-  replaces_know index value owner replaces.LoadsCount knew = replace_knows index owner value knew
+  replaces_know index value owner replaces.LoadsCount knew = replace_knows knew
   replaces_know index value owner (replaces.Hides count) knew = (
-    replace_knows index owner value knew.0,
-    covers owner index count knew.0.within (replaces_write owner index value knew.0)
+    replace_knows knew.0,
+    covers owner index count knew.0.within (replaces_write knew.0)
         knew.1,
   )
   replaces_know index value owner (replaces.Stores at) knew = (
-    replace_knows index owner value knew.0,
-    writes owner index value at knew.0.within
-        (replaces_write owner index value knew.0) knew.1,
+    replace_knows knew.0,
+    writes knew.0.within
+        (replaces_write knew.0) knew.1,
   )
   replaces_know index value owner replaces.AddsCount knew = (
-    replace_knows index owner value knew.0,
-    writes owner index value code.size knew.0.within
-        (replaces_write owner index value knew.0) knew.1,
+    replace_knows knew.0,
+    writes knew.0.within
+        (replaces_write knew.0) knew.1,
   )
   replaces_know index value owner replaces.AddsChange knew = (
-    replace_knows index owner value knew.0,
+    replace_knows knew.0,
     placed index value knew.1,
-    stood owner index knew.0.within (replaces_write owner index value knew.0) knew.2,
+    stood owner index knew.0.within (replaces_write knew.0) knew.2,
   )
 
   -- ---- a remove
@@ -255,8 +255,8 @@ module _ {T : Type 0} (code : Coding T) (c : ℕ) (v : View T) (turn : OthersTur
   was_there index count low come kept same_number = grind arith
 
   -- what a remove left at its index is left there still
-  pub has_left : (index count : ℕ) → HasLeft code c index count v → HasLeft code c index count later
-  has_left index count left = grind arith
+  pub has_left : {index count : ℕ} → HasLeft code c index count v → HasLeft code c index count later
+  has_left left = grind arith
 
   -- what a release in a remove knows of what it left it knows still
   release_left : (index count : ℕ) (stage : ReleaseStage) → ReleaseLeft code c index count stage v → ReleaseLeft code c index count stage later
@@ -267,30 +267,30 @@ module _ {T : Type 0} (code : Coding T) (c : ℕ) (v : View T) (turn : OthersTur
       → set.Knows c (release_at c index owner mode stage) (of_set v) → ReleaseLeft code c index count stage v
       → ReleaseHides code c index owner count stage v → ReleaseHides code c index owner count stage later
   release_hides index owner mode count releases.EmptiesCell knows left was_hidden =
-      remove_covers code c q owner index count (now v) words' latest' es goes spares passes leaves left.0 knows.owns was_hidden
+      remove_covers owner index count latest' goes spares passes leaves left.0 knows.owns was_hidden
   release_hides index owner mode count (releases.Raises raise) knows left was_hidden =
-      hidden_stands code c q owner index count (now v) words' latest' es goes spares passes leaves left.within was_hidden
+      hidden_stands owner index count latest' goes spares passes leaves left.within was_hidden
   release_hides index owner mode count (releases.Locks lock) knows left was_hidden =
-      hidden_stands code c q owner index count (now v) words' latest' es goes spares passes leaves left.within was_hidden
+      hidden_stands owner index count latest' goes spares passes leaves left.within was_hidden
 
   -- a remove at any stage knows what it knew before
   pub remove_knows : (index owner : ℕ) (mode : ReleaseMode) (stage : RemoveStage)
       → RemoveKnows code c index owner mode stage v → RemoveKnows code c index owner mode stage later
   remove_knows index owner mode removes.Refuses knew = paid knew
-  remove_knows index owner mode removes.LoadsCount knew = set_knows (release_at c index owner mode releases.EmptiesCell) knew
+  remove_knows index owner mode removes.LoadsCount knew = set_knows knew
   remove_knows index owner mode (removes.Releases count stage) knew = (
-    set_knows (release_at c index owner mode stage) knew.0,
+    set_knows knew.0,
     release_left index count stage knew.1,
     release_hides index owner mode count stage knew.0 knew.1 knew.2,
   )
   remove_knows index owner mode (removes.Hides count state) h = (
     paid h.0,
     remove_says index owner mode state h.1,
-    has_left index count h.2,
-    hidden_stands code c q owner index count (now v) words' latest' es goes spares passes leaves h.2.within h.3,
+    has_left h.2,
+    hidden_stands owner index count latest' goes spares passes leaves h.2.within h.3,
   )
   remove_knows index owner mode (removes.AddsChange state) h =
-      (paid h.0, remove_says index owner mode state h.1, hidden_later code c q owner no_index (now v) words' latest' es spares passes h.2)
+      (paid h.0, remove_says index owner mode state h.1, hidden_later owner no_index words' latest' spares passes h.2)
 
   -- ---- a copy, and a find
 

@@ -33,7 +33,7 @@ use Rattle.model.proofs.Locks.{locked_later}
 
 -- `c` is the capacity, `v` what the party sees before the turn of another party, and `later`
 -- what it sees after it
-module _ {T : Type 0} (code : Coding T) (c : ℕ) (v : View T) (turn : OthersTurn code c v) where
+module _ {T : Type 0} {code : Coding T} {c : ℕ} {v : View T} (turn : OthersTurn code c v) where
   open turn use {
     words_then as words',
     latest_then as latest',
@@ -88,10 +88,10 @@ module _ {T : Type 0} (code : Coding T) (c : ℕ) (v : View T) (turn : OthersTur
   gone_but = grind (arith, inl, lost, inr, honest_less, told_before)
 
   -- what a recovery knows of the indices below `k` it knows still, if what it has freed is hidden still
-  recovers_then : (owner k : ℕ) (Here But But' : ℕ → Type 0)
+  recovers_then : {owner k : ℕ} {Here But But' : ℕ → Type 0}
       → (HasHidden code c q owner But (now v) → HasHidden code c q owner But' (now later))
       → Recovers code c owner k Here But v → Recovers code c owner k Here But' later
-  recovers_then owner k Here But But' stays recovered_so =
+  recovers_then {owner} {k} {Here = Here} stays recovered_so =
       record {
         dead = still_gone owner recovered_so.dead;
         was_open = once code c v turn IsUnlocked recovered_so.was_open;
@@ -101,19 +101,19 @@ module _ {T : Type 0} (code : Coding T) (c : ℕ) (v : View T) (turn : OthersTur
       }
 
   -- what a recovery that has hidden all that it freed knows of the indices below `k` it knows still
-  recovers_on : (owner k : ℕ) (Here : ℕ → Type 0) → Recovers code c owner k Here no_index v → Recovers code c owner k Here no_index later
-  recovers_on owner k Here recovered_so =
-      recovers_then owner k Here no_index no_index (λ g. hidden_later code c q owner no_index (now v) words' latest' es spares passes g) recovered_so
+  recovers_on : {owner k : ℕ} {Here : ℕ → Type 0} → Recovers code c owner k Here no_index v → Recovers code c owner k Here no_index later
+  recovers_on {owner} {k} {Here = Here} recovered_so =
+      recovers_then (λ g. hidden_later owner no_index words' latest' spares passes g) recovered_so
 
   -- where the owner fills the index still, the loaded number covers what stands there still
   covers_on : (owner index count : ℕ) → index < c → IsGone owner v → RecoverCovers code c owner index count (now v)
       → RecoverCovers code c owner index count (now later)
   covers_on owner index count below dead covered =
-      recover_covers code c q owner index count (now v) words' latest' es goes spares passes leaves below dead covered
+      recover_covers owner index count latest' goes spares passes leaves below dead covered
 
   -- what a recovery of an owner must have done by its end is done still
-  recovered : (owner : ℕ) → IsGone owner v → HasRecoveredBy v.terms.by q owner events → HasRecoveredBy v.terms.by q owner (events ++ es)
-  recovered owner dead had_recovered =
+  recovered : {owner : ℕ} → IsGone owner v → HasRecoveredBy v.terms.by q owner events → HasRecoveredBy v.terms.by q owner (events ++ es)
+  recovered {owner} dead had_recovered =
       record {
         gone =
             λ honest i told e. had_recovered.gone (honest_less v.terms.by events es honest) i
@@ -127,7 +127,7 @@ module _ {T : Type 0} (code : Coding T) (c : ℕ) (v : View T) (turn : OthersTur
   recover_says owner mode states.Unlocked said = (
     still_gone owner said.0,
     unlocked_later q owner events es spares.none (set_acts_same code c v turn) said.1,
-    recovered owner said.0 said.2,
+    recovered said.0 said.2,
     each_later q owner (Worn v) (Worn later) (worn code c v turn) mode events es spares.none (set_acts_same code c v turn) said.3,
   )
 
@@ -154,22 +154,22 @@ module _ {T : Type 0} (code : Coding T) (c : ℕ) (v : View T) (turn : OthersTur
   )
   -- before the question: the turns back stay paid for, and the words read are still those
   -- of the loaded number
-  recover_knows owner mode room (recovers.LoadsCell index) h = (paid code c v turn h.0, recovers_on owner index none h.1)
+  recover_knows owner mode room (recovers.LoadsCell index) h = (paid code c v turn h.0, recovers_on h.1)
   recover_knows owner mode room (recovers.LoadsCount index) h = (
     paid code c v turn h.0,
-    recovers_on owner index none h.1,
+    recovers_on h.1,
     once code c v turn (IsFilledWith owner index) h.2,
   )
   recover_knows owner mode room (recovers.LoadsWord index count at) h = (
     check_paid code c v turn index count h.0,
-    recovers_on owner index none h.1,
+    recovers_on h.1,
     once code c v turn (IsFilledWith owner index) h.2,
     copying code c v turn index count room.words at h.3,
     covers_on owner index count h.3.within h.1.dead h.4,
   )
   recover_knows owner mode room (recovers.ChecksCount index count) h = (
     check_paid code c v turn index count h.0,
-    recovers_on owner index none h.1,
+    recovers_on h.1,
     once code c v turn (IsFilledWith owner index) h.2,
     copying code c v turn index count room.words code.size h.3,
     covers_on owner index count h.3.within h.1.dead h.4,
@@ -177,7 +177,7 @@ module _ {T : Type 0} (code : Coding T) (c : ℕ) (v : View T) (turn : OthersTur
   -- at the question, and once the recovery may free the index
   recover_knows owner mode room (recovers.Asks index count) h = (
     paid code c v turn h.0,
-    recovers_on owner (index + 1) none h.1,
+    recovers_on h.1,
     h.2,
     count_below code c v turn index count h.2 h.3,
     has_copied code c v turn index room h.4,
@@ -185,7 +185,7 @@ module _ {T : Type 0} (code : Coding T) (c : ℕ) (v : View T) (turn : OthersTur
   )
   recover_knows owner mode room (recovers.EmptiesCell index count) h = (
     paid code c v turn h.0,
-    recovers_on owner (index + 1) (λ i. i ≡ index) h.1,
+    recovers_on h.1,
     h.2,
     count_below code c v turn index count h.2 h.3,
     covers_on owner index count h.2 h.1.dead h.4,
@@ -193,27 +193,26 @@ module _ {T : Type 0} (code : Coding T) (c : ℕ) (v : View T) (turn : OthersTur
   -- once the index is freed: what stood there stands under the loaded number, or is hidden
   recover_knows owner mode room (recovers.Hides index count) h = (
     paid code c v turn h.0,
-    recovers_then owner (index + 1) none (StillStands code c index count (now v))
-        (StillStands code c index count (now later))
-        (λ g. hidden_stands code c q owner index count (now v) words' latest' es goes spares passes leaves h.2.within g)
+    recovers_then
+        (λ g. hidden_stands owner index count latest' goes spares passes leaves h.2.within g)
         h.1,
-    has_left code c v turn index count h.2,
+    has_left code c v turn h.2,
   )
   recover_knows owner mode room (recovers.Raises index raise) h = (
     held_paid v.terms.by v.words words' events es q v.since v.changes changes' v.backs goes spares seen (set.raise_holds raise) h.0,
-    recovers_on owner (index + 1) none h.1,
+    recovers_on h.1,
   )
   recover_knows owner mode room (recovers.Locks index lock) h = (
     held_paid v.terms.by v.words words' events es q v.since v.changes changes' v.backs goes spares seen (set.lock_holds lock) h.0,
-    recovers_on owner (index + 1) none h.1,
+    recovers_on h.1,
     still_scanned v.terms.by v.words words' events es q v.since v.changes changes' v.backs goes spares seen (set.lock_scan c lock) h.2,
   )
   -- behind the last index
-  recover_knows owner mode room recovers.LoadsCounterAgain h = (paid code c v turn h.0, recovers_on owner c none h.1)
+  recover_knows owner mode room recovers.LoadsCounterAgain h = (paid code c v turn h.0, recovers_on h.1)
   recover_knows owner mode room (recovers.AddsChange state) h = (
     paid code c v turn h.0,
     recover_says owner mode state h.1,
-    hidden_later code c q owner no_index (now v) words' latest' es spares passes h.2,
+    hidden_later owner no_index words' latest' spares passes h.2,
   )
 
   -- ---- a look
@@ -223,23 +222,23 @@ module _ {T : Type 0} (code : Coding T) (c : ℕ) (v : View T) (turn : OthersTur
 
   -- the turn of another party is no part of the look, so the call goes on and has copied nothing more
   calls_on : CallsOn q None events (events ++ es)
-  calls_on = calls_same q events (events ++ es) span
+  calls_on = calls_same span
 
   -- a look has gone over the same indices still
-  looks_on : (k x : ℕ) → Looks code c k x v → Looks code c k x later
-  looks_on k x looked =
+  looks_on : {k x : ℕ} → Looks code c k x v → Looks code c k x later
+  looks_on {k} {x} looked =
       record {
         state = looked.state;
         found = same_state ∙ looked.found;
-        course = course_later code c (now v) m' es refl passes q looked.state calls_on spares.none leaves.alone k x looked.course;
+        course = course_later code c es refl passes q looked.state calls_on spares.none leaves.alone looked.course;
       }
 
   -- the words of a copy in a look are still those that stand under the loaded number
-  look_copies : (index count k : ℕ) → LookCopies code c index count k v → LookCopies code c index count k later
+  look_copies : {index count k : ℕ} → LookCopies code c index count k v → LookCopies code c index count k later
   unfolding looks_on
-  look_copies index count k h =
+  look_copies {index} {count} {k} h =
       record {
-        looks = looks_on index index h.looks;
+        looks = looks_on h.looks;
         number = h.number;
         copying = copying code c v turn index count h.looks.state.shown.copy k h.copying;
       }
@@ -250,19 +249,19 @@ module _ {T : Type 0} (code : Coding T) (c : ℕ) (v : View T) (turn : OthersTur
       record {
         state = at_rest.state;
         found = same_state ∙ at_rest.found;
-        rests = rests_later code c (now v) m' es refl passes q at_rest.state at_rest.rests;
-        own = own_later q None events (events ++ es) calls_on at_rest.state c at_rest.own;
+        rests = rests_later code c es refl passes q at_rest.state at_rest.rests;
+        own = own_later calls_on at_rest.state c at_rest.own;
       }
 
   -- a look at any stage knows what it knew before
   look_knows : (stage : LookStage) → LookKnows code c stage v → LookKnows code c stage later
   look_knows looks.LoadsChange knew = (paid code c v turn knew.0, look_rests knew.1)
-  look_knows (looks.LoadsCount index) knew = (paid code c v turn knew.0, looks_on index c knew.1)
+  look_knows (looks.LoadsCount index) knew = (paid code c v turn knew.0, looks_on knew.1)
   look_knows (looks.LoadsWord index count at) knew =
-      (check_paid code c v turn index count knew.0, look_copies index count at knew.1)
+      (check_paid code c v turn index count knew.0, look_copies knew.1)
   look_knows (looks.ChecksCount index count) knew = (
     check_paid code c v turn index count knew.0,
-    look_copies index count code.size knew.1,
+    look_copies knew.1,
   )
 
   -- ---- any call
@@ -279,5 +278,5 @@ module _ {T : Type 0} (code : Coding T) (c : ℕ) (v : View T) (turn : OthersTur
     recover_fills run.given.owner run.given.mode run.call.stage knows.2,
   )
   still_knows (Look which call) h = look_knows call.stage h
-  still_knows (Count which run) h = set_knows code c v turn (borrowed_at c run.call.count) h
-  still_knows (IsLocked run) h = set_knows code c v turn looking h
+  still_knows (Count which run) h = set_knows code c v turn h
+  still_knows (IsLocked run) h = set_knows code c v turn h

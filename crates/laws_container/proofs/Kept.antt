@@ -28,9 +28,9 @@ module _ {T : Type 0} where
           absurd (cc)
 
   -- each value that a state at rest shows was copied by its party
-  at_rest : (code : Coding T) (c : ℕ) (m : _) (q i : ℕ) (s : ContainerState T) (value : T) → Rests code c m q s
+  at_rest : {code : Coding T} {c : ℕ} {m : _} {q i : ℕ} {s : ContainerState T} {value : T} → Rests code c m q s
       → shows s i ≡ Some value → WasCopied q i value m.events
-  at_rest code c m q i s value rests shown = let by_shown_within = shown_within in grind arith
+  at_rest rests shown = let by_shown_within = shown_within in grind arith
 
 -- ---- what is promised
 
@@ -62,7 +62,7 @@ module _ {T : Type 0} (terms : Terms) (code : Coding T) (t : Trace T) (sound : f
   pub states : ShowsCopies t.world t.events
   states p i state value idle found shown =
       let here : state_of p sound.state.states ≡ Some state = subst (λ kept. state_in kept p ≡ Some state) kept_are found in
-      at_rest code c (moment terms sound.state.words t.world.latest t.events) p i state value (sound.holds.elements.rests p state idle here) shown
+      at_rest (sound.holds.elements.rests p state idle here) shown
 
   -- in a well-formed run the words of each element say what stands there
   elements : IsWellFormedSoFar terms t.world.latest t.events → HasElements t
@@ -87,7 +87,7 @@ module _ {T : Type 0} (terms : Terms) (code : Coding T) (t : Trace T) (sound : f
 -- ---- where owners die
 
 -- `t` is the run up to now, of a machine whose owners die, and `s` that it is sound
-module _ {T : Type 0} (code : Coding T) (t : Trace T) (sound : frame.Sound (family code t.world.capacity) t) where
+module _ {T : Type 0} (code : Coding T) {t : Trace T} (sound : frame.Sound (family code t.world.capacity) t) where
   -- what holds of the machine is what is promised of a container where owners die
   pub container_kept : IsContainer t
   container_kept =
@@ -102,5 +102,5 @@ module _ {T : Type 0} (code : Coding T) (t : Trace T) (sound : frame.Sound (fami
         dead = dead dying code t sound;
         questions = questions dying code t sound;
         states = states dying code t sound;
-        well_formed = λ well_formed. contained dying code t sound (well_formed_so_far t well_formed);
+        well_formed = λ well_formed. contained dying code t sound (well_formed_so_far well_formed);
       }

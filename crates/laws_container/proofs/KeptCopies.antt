@@ -45,9 +45,9 @@ module _ {T : Type 0} where
     pub now : (i : ℕ) (value : T) → what ≡ Some (i, value) → HasCopied p i value events'
 
   -- what is said of a `get_state` holds when the call has gone on
-  pub own_later : (p : ℕ) (what : Option (ℕ × T)) (events events' : List (Event T)) → CallsOn p what events events'
+  pub own_later : {p : ℕ} {what : Option (ℕ × T)} {events events' : List (Event T)} → CallsOn p what events events'
       → (s : ContainerState T) (copying : ℕ) → ShowsOwn p s copying events → ShowsOwn p s copying events'
-  own_later p what events events' calls_on s copying shows_own getting i value ne e = calls_on.has i value (shows_own (calls_on.getting getting) i value ne e)
+  own_later calls_on s copying shows_own getting i value ne e = calls_on.has i value (shows_own (calls_on.getting getting) i value ne e)
 
   -- a state shows no value past its elements
   not_past : (c : ℕ) (s : ContainerState T) (i : ℕ) (value : T) → length s.shown.elements ≡ c → shows s i ≡ Some value → i ≢ c
@@ -60,13 +60,13 @@ module _ {T : Type 0} where
       → HasCopied p i value events'
 
   -- a `get_state` that has gone over all indices has copied each value that it shows
-  pub own_then : (p c : ℕ) (what : Option (ℕ × T)) (events events' : List (Event T)) → CallsOn p what events events'
+  pub own_then : {p : ℕ} (c : ℕ) {what : Option (ℕ × T)} {events events' : List (Event T)} → CallsOn p what events events'
       → (s : ContainerState T) → length s.shown.elements ≡ c → ShowsOwn p s c events' → ShowsCopied p s events events'
-  own_then p c what events events' calls_on s wide shows_own getting i value e = shows_own (calls_on.still getting) i value (not_past c s i value wide e) e
+  own_then c calls_on s wide shows_own getting i value e = shows_own (calls_on.still getting) i value (not_past c s i value wide e) e
 
   -- where the span is the same the call goes on and copies nothing
-  pub calls_same : (p : ℕ) (events events' : List (Event T)) → span_of p events' ≡ span_of p events → CallsOn p None events events'
-  calls_same p events events' same = grind arith
+  pub calls_same : {p : ℕ} {events events' : List (Event T)} → span_of p events' ≡ span_of p events → CallsOn p None events events'
+  calls_same same = grind arith
 
   -- ---- a step of the call's own
 

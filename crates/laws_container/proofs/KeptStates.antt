@@ -52,8 +52,8 @@ module _ {T : Type 0} where
   stays = grind (arith, written)
 
   -- a step that is no step of a look of this party is one of another party, or of no look
-  apart_is : (p q : ℕ) (flight : Flight T) → ((q == p) && is_looking (Some flight)) ≡ false → IsApart p q flight
-  apart_is p q flight none = grind arith
+  apart_is : {p : ℕ} (q : ℕ) (flight : Flight T) → ((q == p) && is_looking (Some flight)) ≡ false → IsApart p q flight
+  apart_is q flight none = grind arith
 
   -- no look waits for a decision
   no_look : (code : Coding T) (flight : Flight T) → is_question (want_of code flight) ≡ true → is_looking (Some flight) ≡ false
@@ -97,7 +97,7 @@ module _ {T : Type 0} where
 -- ---- a step of a party's call
 
 -- `c` is the capacity, `t` the run up to this turn, `s` that it is sound; `x` is the call of party `q`
-module _ {T : Type 0} (shown : Shown T) (terms : Terms) (code : Coding T) (c : ℕ) (t : Trace T)
+module _ {T : Type 0} (shown : Shown T) (terms : Terms) (code : Coding T) (c : ℕ) {t : Trace T}
     (sound : frame.Sound (family_by terms code c) t) (q : ℕ) (x : Party T) (since : ℕ)
     (found : party_of q t.world.latest ≡ Some x) where
   -- a step of the call leaves the state of each party of which it is no look
@@ -113,8 +113,8 @@ module _ {T : Type 0} (shown : Shown T) (terms : Terms) (code : Coding T) (c : �
   step_stays = grind (arith, stays)
 
   -- a step of the party's call under way leaves the state of each other party, and its own if it is no look
-  any_stays : (n : ℕ) (flight : Flight T) → x.doing ≡ Going flight since → LeavesOtherStates n t.world.coding t.world.kept x.start flight
-  any_stays n flight doing =
+  any_stays : (n : ℕ) {flight : Flight T} → x.doing ≡ Going flight since → LeavesOtherStates n t.world.coding t.world.kept x.start flight
+  any_stays n {flight} doing =
       subst (λ y. LeavesOtherStates n y t.world.kept x.start flight) (sym sound.coding)
       (subst (λ kept. LeavesOtherStates n code kept x.start flight) (sym sound.fit.kept)
       (step_stays n x.start flight (stands_there (family_by terms code c) t sound q x since flight found doing)))
@@ -143,8 +143,8 @@ module _ {T : Type 0} (shown : Shown T) (terms : Terms) (code : Coding T) (t : T
       go (Over others) same_doing = refl
       go (Going flight since) same_doing =
           let here = flies q x flight since found same_doing in
-          any_stays shown terms code t.world.capacity t sound q x since found _ flight same_doing p
-          (apart_is p q flight (subst (λ o. ((q == p) && is_looking o) ≡ false) here none))
+          any_stays shown terms code t.world.capacity sound q x since found _ same_doing p
+          (apart_is q flight (subst (λ o. ((q == p) && is_looking o) ≡ false) here none))
 
   -- a decision leaves each party's state
   decision_moves : (q p : ℕ) (said : Bool) → is_due t.world.coding (flight_in t.world q) ≡ true
@@ -159,7 +159,7 @@ module _ {T : Type 0} (shown : Shown T) (terms : Terms) (code : Coding T) (t : T
       go (Going flight since) same_doing =
           let here = flies q x flight since found same_doing in
           let asks : is_question (want_of t.world.coding flight) ≡ true = subst (λ o. is_due t.world.coding o ≡ true) here due in
-          any_stays shown terms code t.world.capacity t sound q x since found _ flight same_doing p (inr (no_look t.world.coding flight asks))
+          any_stays shown terms code t.world.capacity sound q x since found _ same_doing p (inr (no_look t.world.coding flight asks))
 
   -- a begin leaves a party's state if it is no look of that party
   begin_moves : (p q : ℕ) (start : Start T) → is_look_of t.world q (Begin p start) ≡ false → (o : Option (Flight T))
@@ -192,11 +192,11 @@ module _ {T : Type 0} where
   first_step code c which stage o n name ends_so = grind arith
 
 -- party `p` ends an update with the answer false in this turn
-module _ {T : Type 0} (shown : Shown T) (terms : Terms) (code : Coding T) (t : Trace T) (turn : Turn T)
+module _ {T : Type 0} (shown : Shown T) {terms : Terms} (code : Coding T) {t : Trace T} (turn : Turn T)
     (r : IsAllowed t.world turn) (sound : frame.Sound (family_by terms code t.world.capacity) t) (may : MayGoOn terms t)
-    (p : ℕ) (ends : EndsLook p UpdateState (Truth false) t (after_turn t turn)) where
+    {p : ℕ} (ends : EndsLook p UpdateState (Truth false) t (after_turn t turn)) where
   abbrev end : LookEnd shown terms code t.world.capacity t sound may p UpdateState (Truth false) ends.is_look ends.wrote (after_turn t turn)
-  end = ended shown terms code t turn r sound may p UpdateState (Truth false) ends
+  end = ended shown code turn r sound may p UpdateState (Truth false) ends
 
   -- an update that answers false has taken one step
   one_step : steps_of (progress_in (after_turn t turn).world p) ≡ 1
@@ -213,7 +213,7 @@ module _ {T : Type 0} (shown : Shown T) (terms : Terms) (code : Coding T) (t : T
 
   -- an update that answers false leaves its party's state as it was
   state_left : state_in (after_turn t turn).world.kept p ≡ state_in t.world.kept p
-  state_left = by (state_in (after_turn t turn).world.kept p) refl (looks_leave shown terms code t turn r sound may p UpdateState (Truth false) ends)
+  state_left = by (state_in (after_turn t turn).world.kept p) refl (looks_leave shown code turn r sound may p UpdateState (Truth false) ends)
     where
       -- the cases are whether the party has a state after the turn, as the party of an ended look has
       by : (o : Option (ContainerState T)) → state_in (after_turn t turn).world.kept p ≡ o
@@ -222,7 +222,7 @@ module _ {T : Type 0} (shown : Shown T) (terms : Terms) (code : Coding T) (t : T
       by None state_is some = let none : is_some (state_in (after_turn t turn).world.kept p) ≡ false = ap is_some state_is in both_ways _ none some
       by (Some state) state_is some =
           state_is ∙ sym
-          (looks_right shown terms code t turn r sound may ⊥ (λ never. absurd never) p UpdateState (Truth false) state ends state_is).0
+          (looks_right shown code turn r sound may ⊥ (λ never. absurd never) p UpdateState (Truth false) state ends state_is).0
 
 -- ---- as the promise says it
 
@@ -236,6 +236,6 @@ module _ {T : Type 0} (shown : Shown T) (terms : Terms) (code : Coding T) (t : T
       record {
         moves = moves shown terms code t sound turn r;
         begins = begins shown terms code t sound turn r;
-        at_once = λ p ends. (one_step shown terms code t turn r sound may p ends, state_left shown terms code t turn r sound may p ends);
-        own = looks_own shown terms code t turn r sound may;
+        at_once = λ p ends. (one_step shown code turn r sound may ends, state_left shown code turn r sound may ends);
+        own = looks_own shown code turn r sound may;
       }

@@ -44,7 +44,7 @@ module _ {T : Type 0} (q : ℕ) (events : List (Event T)) where
 -- ---- a step of a party's call
 
 -- `c` is the capacity, `t` the run up to this turn, and `s` that it is sound; `x` is the call of party `q`
-module _ {T : Type 0} (shown : AllShown T) (terms : Terms) (code : Coding T) (c : ℕ) (t : Trace T)
+module _ {T : Type 0} (shown : AllShown T) {terms : Terms} (code : Coding T) (c : ℕ) {t : Trace T}
     (sound : frame.Sound (family_by terms code c) t) (may : MayGoOn terms t) (q : ℕ) (x : Party T) (since : ℕ)
     (found : party_of q t.world.latest ≡ Some x) where
   -- what the step of the call writes, without its end
@@ -69,13 +69,13 @@ module _ {T : Type 0} (shown : AllShown T) (terms : Terms) (code : Coding T) (c 
   step_visits = grind (arith, with_end, after, all_visit, all_effects, began_by, is_there)
 
   -- what a step of the party's call under way writes of visits is right
-  any_visits : (n : ℕ) (flight : Flight T) → x.doing ≡ Going flight since → StepVisitsRight n t.world.coding t.world.kept x.start flight
-  any_visits n flight doing = let by_step_visits = step_visits in grind arith
+  any_visits : (n : ℕ) {flight : Flight T} → x.doing ≡ Going flight since → StepVisitsRight n t.world.coding t.world.kept x.start flight
+  any_visits n doing = let by_step_visits = step_visits in grind arith
 
 -- ---- any turn
 
 -- a turn from a sound machine
-module _ {T : Type 0} (shown : AllShown T) (terms : Terms) (code : Coding T) (t : Trace T) (turn : Turn T)
+module _ {T : Type 0} (shown : AllShown T) {terms : Terms} (code : Coding T) {t : Trace T} (turn : Turn T)
     (sound : frame.Sound (family_by terms code t.world.capacity) t) (may : MayGoOn terms t) where
   -- what a step writes of visits is right
   next_visits : (q : ℕ) (o : Option (Party T)) → party_of q t.world.latest ≡ o → VisitsAreRight q t.events (events_of_next t.world q o)
@@ -86,7 +86,7 @@ module _ {T : Type 0} (shown : AllShown T) (terms : Terms) (code : Coding T) (t 
       go : (doing : Doing T) → x.doing ≡ doing
           → VisitsAreRight q t.events (events_of_answer t.world q x (old_of t.world.words (ask_of_doing t.world.coding doing)) doing)
       go (Over others) same_doing = tt
-      go (Going flight since) same_doing = any_visits shown terms code t.world.capacity t sound may q x since found _ flight same_doing
+      go (Going flight since) same_doing = any_visits shown code t.world.capacity sound may q x since found _ same_doing
 
   -- what a decision writes of visits is right
   decision_visits : (q : ℕ) (said : Bool) (o : Option (Party T)) → party_of q t.world.latest ≡ o
@@ -97,7 +97,7 @@ module _ {T : Type 0} (shown : AllShown T) (terms : Terms) (code : Coding T) (t 
       -- the cases are whether the party's call is over or under way
       go : (doing : Doing T) → x.doing ≡ doing → VisitsAreRight q t.events (events_of_answer t.world q x (number_of said) doing)
       go (Over others) same_doing = tt
-      go (Going flight since) same_doing = any_visits shown terms code t.world.capacity t sound may q x since found _ flight same_doing
+      go (Going flight since) same_doing = any_visits shown code t.world.capacity sound may q x since found _ same_doing
 
   -- what any turn writes of visits is right
   visits : (u : Turn T) → AllByRecursion (VisitsRight t.events) (events_of t.world u)

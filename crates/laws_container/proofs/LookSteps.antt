@@ -128,14 +128,14 @@ module _ {T : Type 0} (code : Coding T) (c : ℕ) (m : Now T) (p : ℕ) where
   -- ---- the look begins to go over the indices
 
   -- a look that begins with a state at rest, and keeps the number of changes, has gone over no index
-  pub course_first : (s : ContainerState T) (change : ℕ) → change ≡ change_in code c m → Rests code c m p s
+  pub course_first : {s : ContainerState T} (change : ℕ) → change ≡ change_in code c m → Rests code c m p s
       → ShowsOwn p s c m.events → Course code c m p (record s { shown = with_change s.shown change }) 0 c
-  course_first s change change_shown rests own = grind arith
+  course_first change change_shown rests own = grind arith
 
   -- ---- at an index
 
   -- the look has come to index `k`, its state `s` becomes `s'`, and `x` is the index that it was copying, if any
-  module _ (s s' : ContainerState T) (k x : ℕ) (below : k < c) (course : Course code c m p s k x) (put : IsPut s s' k)
+  module _ {s s' : ContainerState T} {k x : ℕ} (below : k < c) (course : Course code c m p s k x) (put : IsPut s s' k)
       (number : number_at s' k ≡ count_in code c m k) where
     -- at other indices the state has the numbers that it had
     number_there : (i : ℕ) → i ≢ k → number_at s' i ≡ number_at s i
@@ -273,8 +273,9 @@ module _ {T : Type 0} (code : Coding T) (c : ℕ) (m : Now T) (p : ℕ) where
   -- ---- a word is read
 
   -- a word that is read into the copy leaves how far the look has gone
-  pub course_word : (s : ContainerState T) (k x at word : ℕ) → Course code c m p s k x → Course code c m p (record s { shown = with_word s.shown at word }) k x
-  course_word s k x at word course = let room = length-set s.shown.copy at word in grind arith
+  pub course_word : {s : ContainerState T} {k x : ℕ} (at word : ℕ) → Course code c m p s k x
+      → Course code c m p (record s { shown = with_word s.shown at word }) k x
+  course_word {s} at word course = let room = length-set s.shown.copy at word in grind arith
 
   -- ---- the look has gone over all of them
 

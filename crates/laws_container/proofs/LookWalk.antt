@@ -196,7 +196,7 @@ module _ {T : Type 0} (scene : Scene T) (inv : Inv scene) where
           -- where the number is even the look has passed the index, and the state shows nothing there
           passed_even : is_even n ≡ true → (m' : Now T) → IsAfterLookStep m' None → Course code c m' p s' (index + 1) c
           passed_even even m' comes =
-              course_passed code c m' p s s' index x below (comes.later s index x course) (count_put s index low n) (number_is m' None comes) apart
+              course_passed code c m' p below (comes.later s index x course) (count_put s index low n) (number_is m' None comes) apart
               (λ value is. some_none (shows s' index) value (counted_none s index low n even) is)
               (λ well_formed.
               counted_none s index low n even
@@ -226,7 +226,7 @@ module _ {T : Type 0} (scene : Scene T) (inv : Inv scene) where
                         state = s';
                         found = found;
                         course =
-                            course_copying code c m' p s s' index x below (comes.later s index x course)
+                            course_copying code c m' p below (comes.later s index x course)
                             (count_put s index low n) (number_is m' None comes)
                             (λ i less ne. apart i ne (λ e. absurd (omega arith)));
                       };
@@ -246,7 +246,7 @@ module _ {T : Type 0} (scene : Scene T) (inv : Inv scene) where
             passed_same : (m' : Now T) → IsAfterLookStep m' None → Course code c m' p s' (index + 1) c
             passed_same m' comes =
                 let h = comes.later s index x course in
-                course_passed code c m' p s s' index x below h (count_put s index low n) (number_is m' None comes) apart
+                course_passed code c m' p below h (count_put s index low n) (number_is m' None comes) apart
                 (λ value is. h.sight.copied index value other (sym (counted_same s index low n was) ∙ is))
                 (λ well_formed. counted_same s index low n was ∙ h.sight.same well_formed index below other (sym was ∙ sym (count_same m' None comes)))
                 (λ getting value is. h.own getting index value other (sym (counted_same s index low n was) ∙ is))
@@ -281,9 +281,9 @@ module _ {T : Type 0} (scene : Scene T) (inv : Inv scene) where
               state = record s { shown = with_change s.shown (change_in code c m) };
               found = found;
               course =
-                  course_first code c (record { terms = scene.terms; words = words'; latest = latest'; events = es' }) p
-                  s (change_in code c m) (sym (ap (change_at c) comes.words)) (comes.rests s rests)
-                  (own_later p None events es' comes.on s c own);
+                  course_first code c (record { terms = scene.terms; words = words'; latest = latest'; events = es' })
+                  p (change_in code c m) (sym (ap (change_at c) comes.words)) (comes.rests s rests)
+                  (own_later comes.on s c own);
             },
           )))
           (λ t. let some = inv.good.some in let less : c ≤ 0 = grind (arith, nat_tests) in absurd (omega arith)))
@@ -356,14 +356,11 @@ module _ {T : Type 0} (scene : Scene T) (inv : Inv scene) where
                       found = found;
                       course =
                           course_word code c (record { terms = scene.terms; words = words'; latest = latest'; events = es' })
-                          p s index index at (datum_in code c m index at) (comes.later s index index course);
+                          p at (datum_in code c m index at) (comes.later s index index course);
                     };
                 number = number;
                 copying =
-                    copying_more code c (sees_now scene)
-                    (view scene.terms words' states' latest' es' p (since_then scene word_ask)
-                    (changes_then scene word_ask) (backs_then scene false))
-                    index count s.shown.copy at ats inv.elements.coded.few comes.words (λ kept. kept) comes.well_formed
+                    copying_more code c ats inv.elements.coded.few comes.words (λ kept. kept) comes.well_formed
                     copying;
               },
             )))
@@ -382,7 +379,7 @@ module _ {T : Type 0} (scene : Scene T) (inv : Inv scene) where
                       found = found;
                       course =
                           course_word code c (record { terms = scene.terms; words = words'; latest = latest'; events = es' })
-                          p s index index at (datum_in code c m index at) (comes.later s index index course);
+                          p at (datum_in code c m index at) (comes.later s index index course);
                     };
                 number = number;
                 copying =
@@ -390,10 +387,7 @@ module _ {T : Type 0} (scene : Scene T) (inv : Inv scene) where
                     (view scene.terms words' states' latest' es' p (since_then scene word_ask)
                     (changes_then scene word_ask) (backs_then scene false)))
                     is_last
-                    (copying_more code c (sees_now scene)
-                    (view scene.terms words' states' latest' es' p (since_then scene word_ask)
-                    (changes_then scene word_ask) (backs_then scene false))
-                    index count s.shown.copy at ats inv.elements.coded.few comes.words (λ kept. kept)
+                    (copying_more code c ats inv.elements.coded.few comes.words (λ kept. kept)
                     comes.well_formed copying);
               },
             )))
@@ -423,7 +417,7 @@ module _ {T : Type 0} (scene : Scene T) (inv : Inv scene) where
           -- the copy is the value that stands at the index
           stands_now : WellFormed m → contents_of index events ≡ Some value
           stands_now well_formed =
-              copied_value code c (sees_now scene) index count s.shown.copy inv.elements.coded inv.elements.whole
+              copied_value code c inv.elements.coded inv.elements.whole
               copying same_number well_formed
 
           same_count : words_after ws check_ask ≡ ws
@@ -433,7 +427,7 @@ module _ {T : Type 0} (scene : Scene T) (inv : Inv scene) where
           -- state shows the copy
           passed_copied : (m' : Now T) → IsAfterLookStep m' (Some (index, value)) → Course code c m' p shown_now (index + 1) c
           passed_copied m' comes =
-              course_passed code c m' p s shown_now index index below (comes.later s index index course)
+              course_passed code c m' p below (comes.later s index index course)
               (value_put s index within code.value_of code.size count)
               (value_number s index within code.value_of code.size count ∙ sym (ap (λ w. count_at c w index) comes.words ∙ same_number)) (λ i ne other. ne)
               (λ shown e. let same : Some value ≡ Some shown =

@@ -144,7 +144,7 @@ module _ {T : Type 0} (scene : Scene T) (inv : Inv scene) (which : LookOf) (stag
   -- a raise that is owed to the changes is owed still after a step of a look
   still : (words' : List ℕ) (y : Party T) (es : List (Event T)) (well_formed : WellFormed (after scene words' y es) → WellFormed m)
       → OwesStill scene inv words' y es well_formed
-  still words' y es well_formed = owes_none scene start (look_at which c stage) y here refl
+  still words' y es well_formed = owes_none scene y here refl
 
   -- the machine after a step that writes the copy `what`, if any, and then `rest`
   module _ (words' : List ℕ) (same : words' ≡ ws) (y : Party T) (what : Option (ℕ × T)) (rest : List (Event T))
@@ -157,7 +157,7 @@ module _ {T : Type 0} (scene : Scene T) (inv : Inv scene) (which : LookOf) (stag
 
     -- what the step leaves to any party is what `Passes` says
     passes : Passes code c m (after scene words' y es)
-    passes = (silent_changes scene inv words' same y es silent own (well_formed_of words' y es own) (still words' y es (well_formed_of words' y es own))).passes
+    passes = (silent_changes inv words' same y es silent own (well_formed_of words' y es own) (still words' y es (well_formed_of words' y es own))).passes
 
     -- the copy that the step writes is one that the party has made
     copied_now : (o : Option (ℕ × T)) (i : ℕ) (value : T) → o ≡ Some (i, value) → WasCopied p i value (events ++ (copies_of p o ++ rest))
@@ -170,8 +170,8 @@ module _ {T : Type 0} (scene : Scene T) (inv : Inv scene) (which : LookOf) (stag
           well_formed = well_formed_of words' y es own;
           words = same;
           contents = contents;
-          later = λ st k x h. course_later code c m (after scene words' y es) es refl passes p st on none (λ alone i low. ap (λ w. count_at c w i) same) k x h;
-          rests = λ st h. rests_later code c m (after scene words' y es) es refl passes p st h;
+          later = λ st k x h. course_later code c es refl passes p st on none (λ alone i low. ap (λ w. count_at c w i) same) h;
+          rests = λ st h. rests_later code c es refl passes p st h;
           copied = λ i value e. copied_now what i value e;
           on = on;
         }
@@ -182,8 +182,8 @@ module _ {T : Type 0} (scene : Scene T) (inv : Inv scene) (which : LookOf) (stag
         → KeepsInvariant scene words' (set_state p st scene.states) y es
     does st right rests =
         record {
-          set = silent_set scene inv words' same y es silent own;
-          changes = silent_changes scene inv words' same y es silent own (well_formed_of words' y es own) (still words' y es (well_formed_of words' y es own));
+          set = silent_set inv words' same y es silent own;
+          changes = silent_changes inv words' same y es silent own (well_formed_of words' y es own) (still words' y es (well_formed_of words' y es own));
           right = right;
           others = λ q ne. written_other q p st scene.states ne;
           rests = λ other idle is.

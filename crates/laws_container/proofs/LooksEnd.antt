@@ -181,14 +181,14 @@ module _ {T : Type 0} (scene : Scene T) (inv : Inv scene) (which : LookOf) (stag
           (let m' : Now T = after scene (words_after ws ask_now) y (copies_of p passed.what ++ Finished p (Container start) answer ∷ []) in
           let comes' = comes_end passed.what in
           let course' = passed.course m' comes' in
-          own_then p c passed.what events m'.events comes'.on (settled st) course'.sight.wide course'.own)
+          own_then c comes'.on (settled st) course'.sight.wide course'.own)
 
     -- the look found that nothing had changed, so each value that its state shows was copied before
     same_own : (answer : Answer T) → IsSame did st → ShowsCopied p st events (events ++ (did ++ Finished p (Container start) answer ∷ []))
     same_own answer same =
         let on = calls_on p events (Container start) (wrote_of p events) here.span None (Some answer) in
         subst (λ d. ShowsCopied p st events (events ++ (d ++ Finished p (Container start) answer ∷ []))) (sym same.nothing)
-        (own_then p c None events _ on st same.rests.sight.wide (own_later p None events _ on st c same.own))
+        (own_then c on st same.rests.sight.wide (own_later on st c same.own))
 
     -- the look found that nothing had changed, and ends with `answer`
     module _ (answer : Answer T) (same : IsSame did st)

@@ -222,10 +222,10 @@ module _ {T : Type 0} (shown : Shown T) (terms : Terms) (code : Coding T) (c : �
 
     -- a step of the call under way, by the machine's own words and states, is the step in which the look
     -- ends, if it wrote this end last
-    pub any_look : (n : ℕ) (flight : Flight T) → x.doing ≡ Going flight since
+    pub any_look : (n : ℕ) {flight : Flight T} → x.doing ≡ Going flight since
         → (is_question (want_of t.world.coding flight) ≡ false → n ≡ old_of t.world.words (ask_of (want_of t.world.coding flight)))
         → IsLookEndFrom n t.world.coding t.world.kept x.start flight
-    any_look n flight doing is =
+    any_look n {flight} doing is =
         subst (λ y. IsLookEndFrom n y t.world.kept x.start flight) (sym sound.coding)
         (subst (λ kept. IsLookEndFrom n code kept x.start flight) (sym sound.fit.kept)
         (step_look n x.start flight (stands_there (family_by terms code c) t sound q x since flight found doing)
@@ -237,10 +237,10 @@ module _ {T : Type 0} (shown : Shown T) (terms : Terms) (code : Coding T) (c : �
   -- ---- any turn
 
   -- a step that wrote this end last is the step in which the look ends
-  next_look : (q : ℕ) → (o : Option (Party T)) → party_of q t.world.latest ≡ o → EndsLast (events_of_next t.world q o)
+  next_look : {q : ℕ} → (o : Option (Party T)) → party_of q t.world.latest ≡ o → EndsLast (events_of_next t.world q o)
       → LookTurn q (after_next t.world q o).kept (after_next t.world q o).latest (events_of_next t.world q o)
-  next_look q None found ended = absurd (no_more wrote (Finished p (Container start) answer) [] ended)
-  next_look q (Some x) found ended = go x.doing refl ended
+  next_look None found ended = absurd (no_more wrote (Finished p (Container start) answer) [] ended)
+  next_look {q} (Some x) found ended = go x.doing refl ended
     where
       -- the cases are whether the party's call is over or under way
       go : (doing : Doing T) → x.doing ≡ doing → EndsLast (events_of_answer t.world q x (old_of t.world.words (ask_of_doing t.world.coding doing)) doing)
@@ -249,16 +249,16 @@ module _ {T : Type 0} (shown : Shown T) (terms : Terms) (code : Coding T) (c : �
           (events_of_answer t.world q x (old_of t.world.words (ask_of_doing t.world.coding doing)) doing)
       go (Over others) same_doing ended = absurd (no_more wrote (Finished p (Container start) answer) [] ended)
       go (Going flight since) same_doing ended =
-          any_look q x since found (Next q) refl (old_of t.world.words (ask_of (want_of t.world.coding flight))) flight
+          any_look q x since found (Next q) refl (old_of t.world.words (ask_of (want_of t.world.coding flight)))
           same_doing (λ no. refl) _ (λ no. refl) ended
 
   -- a decision that wrote this end last is the step in which the look ends; there is none, since no look
   -- waits for a decision
-  decision_look : (q : ℕ) (said : Bool) → is_due t.world.coding (flight_in t.world q) ≡ true
+  decision_look : {q : ℕ} (said : Bool) → is_due t.world.coding (flight_in t.world q) ≡ true
       → (o : Option (Party T)) → party_of q t.world.latest ≡ o → EndsLast (events_of_decision t.world q said o)
       → LookTurn q (after_decision t.world q said o).kept (after_decision t.world q said o).latest (events_of_decision t.world q said o)
-  decision_look q said due None found ended = absurd (no_more wrote (Finished p (Container start) answer) [] ended)
-  decision_look q said due (Some x) found ended = go x.doing refl ended
+  decision_look said due None found ended = absurd (no_more wrote (Finished p (Container start) answer) [] ended)
+  decision_look {q} said due (Some x) found ended = go x.doing refl ended
     where
       -- the cases are whether the party's call is over or under way
       go : (doing : Doing T) → x.doing ≡ doing → EndsLast (events_of_answer t.world q x (number_of said) doing)
@@ -269,7 +269,7 @@ module _ {T : Type 0} (shown : Shown T) (terms : Terms) (code : Coding T) (c : �
       go (Going flight since) same_doing ended =
           let here : flight_in t.world q ≡ Some flight = ap (λ o. flight_of (doing_of o)) found ∙ ap (λ d. flight_of (Some d)) same_doing in
           let asks : is_question (want_of t.world.coding flight) ≡ true = rw here at due in
-          any_look q x since found (Decide q said) refl (number_of said) flight same_doing
+          any_look q x since found (Decide q said) refl (number_of said) same_doing
           (λ no. both_ways (is_question (want_of t.world.coding flight)) no asks) _
           (λ no. both_ways (is_question (want_of t.world.coding flight)) no asks) ended
 
@@ -284,13 +284,13 @@ module _ {T : Type 0} (shown : Shown T) (terms : Terms) (code : Coding T) (c : �
   pub look_end : (turn : Turn T) → IsAllowed t.world turn → EndsLast (events_of t.world turn) → LookEnd (after_turn t turn)
   look_end (Begin q a) allowed ended = absurd (no_end (Begun q a) p (Container start) answer wrote (λ h. cc) ended)
   look_end (Next q) allowed ended =
-      record { party = q; events = events_of t.world (Next q); is = refl; turn = next_look q (party_of q t.world.latest) refl ended }
+      record { party = q; events = events_of t.world (Next q); is = refl; turn = next_look (party_of q t.world.latest) refl ended }
   look_end (Decide q said) allowed ended =
       record {
         party = q;
         events = events_of t.world (Decide q said);
         is = refl;
-        turn = decision_look q said allowed (party_of q t.world.latest) refl ended;
+        turn = decision_look said allowed (party_of q t.world.latest) refl ended;
       }
   look_end (Die o) allowed ended = absurd (no_end (Died o) p (Container start) answer wrote (λ h. cc) ended)
 
@@ -301,7 +301,7 @@ module _ {T : Type 0} (shown : Shown T) (terms : Terms) (code : Coding T) (c : �
   alone_now q = grind arith
 
   -- `new` is the machine after the turn in which the look ended
-  module _ (new : Trace T) (end : LookEnd new) (well_formed : Type 0) (so_far : well_formed → IsWellFormedSoFar terms new.world.latest new.events) where
+  module _ {new : Trace T} (end : LookEnd new) (well_formed : Type 0) (so_far : well_formed → IsWellFormedSoFar terms new.world.latest new.events) where
     abbrev l : LookTurn end.party new.world.kept new.world.latest end.events
     l = end.turn
 
@@ -377,7 +377,7 @@ module _ {T : Type 0} (shown : Shown T) (terms : Terms) (code : Coding T) (c : �
 -- ---- as the promise says it
 
 -- a turn from a sound machine that is not refused
-module _ {T : Type 0} (shown : Shown T) (terms : Terms) (code : Coding T) (t : Trace T) (turn : Turn T)
+module _ {T : Type 0} (shown : Shown T) {terms : Terms} (code : Coding T) {t : Trace T} (turn : Turn T)
     (r : IsAllowed t.world turn) (sound : frame.Sound (family_by terms code t.world.capacity) t)
     (may : MayGoOn terms t) where
   pub ended : (p : ℕ) (start : ContainerStart T) (answer : Answer T) (ends : EndsLook p start answer t (after_turn t turn))
@@ -389,18 +389,18 @@ module _ {T : Type 0} (shown : Shown T) (terms : Terms) (code : Coding T) (t : T
       (so_far : well_formed → IsWellFormedSoFar terms (after_turn t turn).world.latest (after_turn t turn).events)
       → LooksRightIf well_formed t turn (after_turn t turn)
   looks_right well_formed so_far p start answer state ends found =
-      told_right shown terms code t.world.capacity t sound may p start answer ends.is_look ends.wrote (after_turn t turn)
+      told_right shown terms code t.world.capacity t sound may p start answer ends.is_look ends.wrote
       (ended p start answer ends) well_formed so_far state found
 
   -- each value that a finished `get_state` shows was copied by that call
   pub looks_own : ShowsOwnCopies t (after_turn t turn)
   looks_own p i answer state value ends found shown_there =
       told_own shown terms code t.world.capacity t sound may p starts.GetState answer ends.is_look
-      ends.wrote (after_turn t turn) (ended p starts.GetState answer ends) ⊥ (λ never. absurd never)
+      ends.wrote (ended p starts.GetState answer ends) ⊥ (λ never. absurd never)
       state found refl i value shown_there
 
   -- each look that ends in the turn leaves its party a state
   pub looks_leave : LeavesState t turn (after_turn t turn)
   looks_leave p start answer ends =
-      told_leaves shown terms code t.world.capacity t sound may p start answer ends.is_look ends.wrote (after_turn t turn)
+      told_leaves shown terms code t.world.capacity t sound may p start answer ends.is_look ends.wrote
       (ended p start answer ends) ⊥ (λ never. absurd never)

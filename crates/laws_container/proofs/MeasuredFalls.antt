@@ -92,12 +92,12 @@ module _ {T : Type 0} (code : Coding T) (c : ℕ) (words : List ℕ) where
     -- ---- an add
 
     -- the measure falls when an add has seen the counter, if its stage had steps enough left
-    acquire_sees_falls : (new : List ℕ) (value : T) (owner : ℕ) (stage : AcquireStage) → new ≡ words
+    acquire_sees_falls : {new : List ℕ} (value : T) (owner : ℕ) (stage : AcquireStage) → new ≡ words
         → c - 1 + 3 ≤ acquire_left c now stage
         → FallsIn M words new 1 (flights.Container (add_at c value owner (adds.Acquires stage)))
         (any_call (as_call calls.Add added (went_on as_it_is (record { value = value; owner = owner }) tt
         (add_acquired (record { capacity = c; stage = adds.Acquires stage; of = record {} }) (acquire_sees (inner_acquire c stage) now)))))
-    acquire_sees_falls new value owner stage same enough = go (now == locked) refl (now == greatest) refl (nat_lt 0 c) refl
+    acquire_sees_falls {new} value owner stage same enough = go (now == locked) refl (now == greatest) refl (nat_lt 0 c) refl
       where
         -- the cases are whether the counter is locked, whether the counter is at its end and whether there is a place
         go : (t : Bool) → (now == locked) ≡ t → (u : Bool) → (now == greatest) ≡ u → (v : Bool) → nat_lt 0 c ≡ v
@@ -115,7 +115,7 @@ module _ {T : Type 0} (code : Coding T) (c : ℕ) (words : List ℕ) where
     acquire_falls : (value : T) (owner : ℕ) (stage : AcquireStage) → AcquireStands c stage
         → StepFalls (add_at c value owner (adds.Acquires stage))
     acquire_falls value owner acquires.LoadsCounter stands =
-        acquire_sees_falls _ value owner acquires.LoadsCounter (load_leaves words 0) (omega arith)
+        acquire_sees_falls value owner acquires.LoadsCounter (load_leaves words 0) (omega arith)
     acquire_falls value owner (acquires.FillsCell counter index) stands =
         go (get_or words (cell_word index) 0 == empty) refl (nat_lt (index + 1) c) refl (now == counter) refl
       where
@@ -143,7 +143,7 @@ module _ {T : Type 0} (code : Coding T) (c : ℕ) (words : List ℕ) where
         by_bool (now == counter)
         (λ t. rw t tt)
         (λ t.
-        rw t (acquire_sees_falls _ value owner (acquires.ChecksCounter counter) (load_leaves words 0) (rw t (omega arith))))
+        rw t (acquire_sees_falls value owner (acquires.ChecksCounter counter) (load_leaves words 0) (rw t (omega arith))))
     acquire_falls value owner (acquires.Raises index raises.LoadsCounter) stands = go (now == locked) refl (now == greatest) refl
       where
         -- the cases are whether the counter is locked and whether the counter is at its end

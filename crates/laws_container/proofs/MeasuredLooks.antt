@@ -234,11 +234,11 @@ module _ {T : Type 0} (code : Coding T) (c : ℕ) (words : List ℕ) where
     LookFalls stage = StepFallsWith code c words (Some state) (look_at which c stage)
 
     -- the measure falls as a look comes past `index`, to the next index or to its end
-    look_comes : (new : List ℕ) (steps index : ℕ) (shown : ContainerState T) (stage : LookStage) → new ≡ words
+    look_comes : {new : List ℕ} (steps index : ℕ) (shown : ContainerState T) (stage : LookStage) → new ≡ words
         → behind code.size c (code.size - 1 + 3) index + steps ≤ look_left code.size c words stage + 1
         → FallsIn (M code c words) words new steps (flights.Container (look_at which c stage))
         (any_call code c words (look_came which shown (look_comes_to (record { capacity = c; stage = stage; of = record {} }) (index + 1))))
-    look_comes new steps index shown stage same enough =
+    look_comes steps index shown stage same enough =
         by_bool (nat_lt (index + 1) c)
         (λ u.
         let less : index + 1 < c = grind (arith, nat_tests) in
@@ -266,8 +266,8 @@ module _ {T : Type 0} (code : Coding T) (c : ℕ) (words : List ℕ) where
 
         -- the cases are whether the count is what the last look saw and whether the count that stands there is even
         go : (t : Bool) → (stands_at index == slice_index_or state.seen.counts index 0) ≡ t → (u : Bool) → is_even (stands_at index) ≡ u → LookFalls stage
-        go true seen_test u even_test = rw seen_test (look_comes _ 1 index _ stage (load_leaves words (count_word c index)) (omega arith))
-        go false seen_test true even_test = rw (seen_test, even_test) (look_comes _ 1 index _ stage (load_leaves words (count_word c index)) (omega arith))
+        go true seen_test u even_test = rw seen_test (look_comes 1 index _ stage (load_leaves words (count_word c index)) (omega arith))
+        go false seen_test true even_test = rw (seen_test, even_test) (look_comes 1 index _ stage (load_leaves words (count_word c index)) (omega arith))
         go false seen_test false even_test =
             let self = same_is (stands_at index) in
             rw (seen_test, even_test) (inl (load_leaves words (count_word c index), rw (inside, self) (omega arith), omega arith))
@@ -289,8 +289,8 @@ module _ {T : Type 0} (code : Coding T) (c : ℕ) (words : List ℕ) where
         go : (t : Bool) → (stands_at index == count) ≡ t → (u : Bool) → is_even (stands_at index) ≡ u → LookFalls stage
         go true number_test u even_test =
             let same = check_leaves words (count_word c index) count in
-            rw number_test (look_comes _ 1 index _ stage (rw number_test at same) (omega arith))
-        go false number_test true even_test = rw (number_test, even_test) (look_comes _ 1 index _ stage (load_leaves words (count_word c index)) (omega arith))
+            rw number_test (look_comes 1 index _ stage (rw number_test at same) (omega arith))
+        go false number_test true even_test = rw (number_test, even_test) (look_comes 1 index _ stage (load_leaves words (count_word c index)) (omega arith))
         go false number_test false even_test =
             let self = same_is (stands_at index) in
             rw (number_test, even_test) (inl (load_leaves words (count_word c index), rw (inside, number_test, even_test, self) (omega arith), omega arith))

@@ -83,8 +83,8 @@ module _ (c size : ℕ) (some : 1 ≤ c) (wide : 1 ≤ size) (words : List ℕ) 
       (one_of (get_or words _ 0 == count) 0 _ (z + 2) (omega arith) (one_of _ 0 (z + 2) (z + 2) (omega arith) (omega arith))) (omega arith)
 
   -- steps at the indices behind one and a few more are within the most of a call
-  ends_most : (k : ℕ) → (n : ℕ) → n ≤ (c - 1) * (z + 8) → k ≤ z + 8 + max 2 size → n + k ≤ alone
-  ends_most k n less end = let all = alone_is in omega arith
+  ends_most : (k : ℕ) → {n : ℕ} → n ≤ (c - 1) * (z + 8) → k ≤ z + 8 + max 2 size → n + k ≤ alone
+  ends_most k less end = let all = alone_is in omega arith
 
   -- as many steps as twice the capacity, the size and six are within the most of a call
   few_most : (n : ℕ) → n ≤ 2 * c + size + 6 → n ≤ alone
@@ -99,43 +99,43 @@ module _ (c size : ℕ) (some : 1 ≤ c) (wide : 1 ≤ size) (words : List ℕ) 
 
   -- a find has at most `alone` steps left
   find_most : (stage : FindStage) → find_left size c stage ≤ alone
-  find_most (finds.LoadsCell index found) = ends_most (z + 4) _ (finds_behind index) (omega arith)
-  find_most (finds.LoadsCount index found) = ends_most (z + 3) _ (finds_behind index) (omega arith)
-  find_most (finds.LoadsWord index found count at) = ends_most (size - (at + 1) + 2) _ (finds_behind index) (omega arith)
-  find_most (finds.ChecksCount index found count) = ends_most 1 _ (finds_behind index) (omega arith)
-  find_most (finds.Asks index found) = let most = ends_most 0 _ (finds_behind index) (omega arith) in omega arith
+  find_most (finds.LoadsCell index found) = ends_most (z + 4) (finds_behind index) (omega arith)
+  find_most (finds.LoadsCount index found) = ends_most (z + 3) (finds_behind index) (omega arith)
+  find_most (finds.LoadsWord index found count at) = ends_most (size - (at + 1) + 2) (finds_behind index) (omega arith)
+  find_most (finds.ChecksCount index found count) = ends_most 1 (finds_behind index) (omega arith)
+  find_most (finds.Asks index found) = let most = ends_most 0 (finds_behind index) (omega arith) in omega arith
 
   -- a recovery that does not lock has at most `alone` steps left
   recover_most : (stage : RecoverStage) → recover_left size c words stage ≤ alone
-  recover_most recovers.LoadsCounter = let max = two in ends_most (z + 10) _ (recovers_behind 0) (omega arith)
-  recover_most (recovers.LoadsCell index) = let max = two in ends_most (z + 9) _ (recovers_behind index) (omega arith)
-  recover_most (recovers.LoadsCount index) = ends_most (z + 8) _ (recovers_behind index) (omega arith)
+  recover_most recovers.LoadsCounter = let max = two in ends_most (z + 10) (recovers_behind 0) (omega arith)
+  recover_most (recovers.LoadsCell index) = let max = two in ends_most (z + 9) (recovers_behind index) (omega arith)
+  recover_most (recovers.LoadsCount index) = ends_most (z + 8) (recovers_behind index) (omega arith)
   recover_most (recovers.LoadsWord index count at) =
       let max = two in let most = again_most index count in
-      ends_most (size - (at + 1) + 7 + again_at size c words index count) _ (recovers_behind index) (omega arith)
+      ends_most (size - (at + 1) + 7 + again_at size c words index count) (recovers_behind index) (omega arith)
   recover_most (recovers.ChecksCount index count) =
       let max = two in let most = again_most index count in
-      ends_most (6 + again_at size c words index count) _ (recovers_behind index) (omega arith)
-  recover_most (recovers.Asks index count) = ends_most 5 _ (recovers_behind index) (omega arith)
-  recover_most (recovers.EmptiesCell index count) = ends_most 5 _ (recovers_behind index) (omega arith)
-  recover_most (recovers.Hides index count) = ends_most 4 _ (recovers_behind index) (omega arith)
+      ends_most (6 + again_at size c words index count) (recovers_behind index) (omega arith)
+  recover_most (recovers.Asks index count) = ends_most 5 (recovers_behind index) (omega arith)
+  recover_most (recovers.EmptiesCell index count) = ends_most 5 (recovers_behind index) (omega arith)
+  recover_most (recovers.Hides index count) = ends_most 4 (recovers_behind index) (omega arith)
   recover_most (recovers.Raises index raise) =
       let most = raise_most c some (get_or words 0 0) raise in
-      ends_most (2 + raise_left (get_or words 0 0) raise) _ (recovers_behind index) (omega arith)
+      ends_most (2 + raise_left (get_or words 0 0) raise) (recovers_behind index) (omega arith)
   recover_most (recovers.Locks index lock) = omega arith
   recover_most recovers.LoadsCounterAgain = few_most 1 (omega arith)
   recover_most (recovers.AddsChange end) = omega arith
 
   -- a look has at most `alone` steps left
   look_most : (stage : LookStage) → look_left size c words stage ≤ alone
-  look_most looks.LoadsChange = ends_most (z + 3) _ (looks_behind 0) (omega arith)
-  look_most (looks.LoadsCount index) = ends_most (z + 2) _ (looks_behind index) (omega arith)
+  look_most looks.LoadsChange = ends_most (z + 3) (looks_behind 0) (omega arith)
+  look_most (looks.LoadsCount index) = ends_most (z + 2) (looks_behind index) (omega arith)
   look_most (looks.LoadsWord index count at) =
       let max = two in let most = again_most index count in
-      ends_most (size - (at + 1) + 1 + again_at size c words index count) _ (looks_behind index) (omega arith)
+      ends_most (size - (at + 1) + 1 + again_at size c words index count) (looks_behind index) (omega arith)
   look_most (looks.ChecksCount index count) =
       let most = again_most index count in
-      ends_most (again_at size c words index count) _ (looks_behind index) (omega arith)
+      ends_most (again_at size c words index count) (looks_behind index) (omega arith)
 
   -- an acquire of the set has at most twice the capacity and two steps left
   acquire_few : (now : ℕ) (stage : AcquireStage) → acquire_left c now stage ≤ 2 * c + 2

@@ -113,7 +113,7 @@ look_asks_none size c stage = grind arith
 -- ---- any call
 
 -- the turn of the scene, where each step of each call keeps the invariant (`CallSteps`)
-module _ {T : Type 0} (scene : Scene T) (inv : Inv scene) (shown : CallSteps scene) where
+module _ {T : Type 0} {scene : Scene T} (inv : Inv scene) (shown : CallSteps scene) where
   open scene use {coding as code, capacity as c, steps as steps, backs as backs, events as events}
 
   -- an owner whom the machine does not keep as dead lives by the events

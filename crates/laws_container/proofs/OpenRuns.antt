@@ -59,11 +59,11 @@ module _ {T : Type 0} (kept : Bool) (code : Coding T) (c : ℕ) where
     rightly p x since found flight owner_lives = tt
 
     -- the begin of a call leads to a sound machine
-    begun : (p : ℕ) (start : Start T) (flight : Flight T) → MayRecoverIn shown terms code c t s p start → flight_in t.world p ≡ None
+    begun : {p : ℕ} {start : Start T} (flight : Flight T) → MayRecoverIn shown terms code c t s p start → flight_in t.world p ≡ None
         → first_of t.world.kind t.world.capacity start t.world.kept ≡ Some flight
         → frame.Comes (family_by terms code c) t p (kept_after_begin t.world.coding t.world.capacity start p t.world.kept) t.world.words
         (party_at_begin start flight t.world.changes) (Begun p start ∷ []) t.world.changes
-    begun p start flight recovers free begins_so =
+    begun {p} {start} flight recovers free begins_so =
         let now = kept_now shown terms code c t s in
         let party_after = party_at_begin start flight t.world.changes in
         let named : first_of kinds.Container c start now ≡ Some flight = rw (s.kind, s.capacity, s.fit.kept) at begins_so in
@@ -78,14 +78,14 @@ module _ {T : Type 0} (kept : Bool) (code : Coding T) (c : ℕ) where
         → is_none (first_of t.world.kind t.world.capacity start t.world.kept) ≡ false → IsSoundOn (after_turn t (Begin p start))
     begins p start recovers free call =
         frame.begin_sound (family_by terms code c) t p start call s
-        (λ flight e. begun p start flight recovers free e)
+        (λ flight e. begun flight recovers free e)
         (first_of t.world.kind t.world.capacity start t.world.kept) refl
 
     -- a begin that the machine's rows do not refuse leaves the machine sound
     begins_by_rows : (p : ℕ) (start : Start T) → call_refusal t.world (Begin p start) ≡ None → IsSoundOn (after_turn t (Begin p start))
     begins_by_rows p start unrefused =
         let b = may_begin t.world p start unrefused in
-        begins p start (recovers_by shown terms code c t s p start b) b.free b.call
+        begins p start (recovers_by shown terms code c t s p b) b.free b.call
 
     free_by : (o : Option (Flight T)) → is_some o ≡ false → o ≡ None
     free_by None nothing = refl
@@ -109,7 +109,7 @@ module _ {T : Type 0} (kept : Bool) (code : Coding T) (c : ℕ) where
         rw (s.coding, s.fit.kept) at (next_passes t.world p unrefused) in
         frame.next_sound F t p s (λ x flight since u.
         comes_from F t s p x since s.state.words (kept_now shown terms code c t s) flight s.fit.words s.fit.kept
-        (comes shown terms code c t s p x since u.found may x.start flight
+        (comes shown terms code c t s p x since u.found may
         (rightly p x since u.found flight (λ keeps. subst (λ o. is_for_gone t.events o ≡ false) u.is (faithful keeps)))
         (subst (λ o. first_row (going_rows code (kept_now shown terms code c t s) o None) ≡ None) u.is rows)
         (stands_there F t s p x since flight u.found u.doing)))
@@ -124,7 +124,7 @@ module _ {T : Type 0} (kept : Bool) (code : Coding T) (c : ℕ) where
         let F = family_by terms code c in
         frame.decision_sound F t p said s (λ x flight since u.
         decides_from F t s p x since said s.state.words (kept_now shown terms code c t s) flight s.fit.words s.fit.kept
-        (decides shown terms code c t s p x since u.found may said x.start flight (subst (λ o. is_due code o ≡ true) u.is due)
+        (decides shown terms code c t s p x since u.found may said (subst (λ o. is_due code o ≡ true) u.is due)
         (stands_there F t s p x since flight u.found u.doing)))
         (party_of p t.world.latest) refl
 
@@ -306,7 +306,7 @@ module _ {T : Type 0} (t : Trace T) (kind_is : t.world.kind ≡ kinds.Container)
       let on = terms (faithful && few) world.coding world.capacity in
       let are_few : (faithful && few) ≡ true → world.turns < 2 ^ 64 - 2 = λ keeps. few_is world.turns (both_true faithful few keeps).1 in
       let sound_there = reached_sound (faithful && few) (λ keeps. (both_true faithful few keeps).0) are_few in
-      tells_if shown on world.coding t sound_there (record { room = tt; few = are_few }) turn (allowed_open world turn unrefused)
+      tells_if shown world.coding sound_there (record { room = tt; few = are_few }) turn (allowed_open world turn unrefused)
       (IsFaithfulRun t r × IsWellFormedRun new × IsHonest new.events)
       (λ run. well_formed_on on new (and_true faithful few run.0.faithful (is_few world.turns run.0.few)) run.2 run.1)
 

@@ -57,8 +57,8 @@ module _ (z c : ℕ) where
       get_or-append first (replicate rest 0) 0 (1 + i) (omega arith) ∙ opening_cell c i below
 
   -- the words of the opening are those of a set in which no index is filled
-  words_good : {T : Type 0} (by : GoneBy) → 1 ≤ c → c < 2 ^ 32 → set.Good {T = T} by c (opening_words z c) [] [] 0
-  words_good by some few =
+  words_good : {T : Type 0} {by : GoneBy} → 1 ≤ c → c < 2 ^ 32 → set.Good {T = T} by c (opening_words z c) [] [] 0
+  words_good some few =
       let long = first_long in
       let all_long = rest_long in
       record {
@@ -127,7 +127,7 @@ module _ {T : Type 0} (terms : Terms) (code : Coding T) (c : ℕ) (coded : IsCod
       let long = first_long code.size c in
       let all_long = rest_long code.size c in
       record {
-        good = words_good code.size c terms.by some few;
+        good = words_good code.size c some few;
         elements =
             record {
               coded = coded;

@@ -139,8 +139,8 @@ module _ {T : Type 0} (recovery : Recovery T) where
     -- a counter at its end is at its end after the change is counted
     counter_stays : counter_of ws ≡ greatest → counter_of (words_after ws end_it) ≡ greatest
     counter_stays end =
-        (leaves_behind (of_set scene) (inv_of_set scene inv) (words_after ws end_it) (change_word c) _ (omega arith)
-        (adds_to_change scene inv)).stuck
+        (leaves_behind (inv_of_set scene inv) (words_after ws end_it) (change_word c) _ (omega arith)
+        (adds_to_change inv)).stuck
         end
 
     -- the answer of the recovery is right, from what the recovery knows of its state (`RecoverSays`)
@@ -155,14 +155,14 @@ module _ {T : Type 0} (recovery : Recovery T) where
         let party_after = party_then scene (Recover owner mode) end_it false (Done (answers.State state)) in
         let written = Finished p (Container (Recover owner mode)) (answers.State state) ∷ [] in
         let well_formed = was_well_formed scene (Recover owner mode) tt here.span (words_after ws end_it) party_after written (refl, tt) in
-        let new = adds_to_change scene inv in
+        let new = adds_to_change inv in
         let most = most_is c z owner (backs_then scene false) T mode in
         ends scene (Recover owner mode) (answers.State state) end_it false scene.states [] here.span none_lengthens
         (ends_counted scene inv (Recover owner mode)
-        (recover_at c owner mode room (recovers.AddsChange state)) tt here party_after (words_after ws end_it)
+        (recover_at c owner mode room (recovers.AddsChange state)) tt here party_after
         (answers.State state)
         (set_effects.quietly (of_set scene) (inv_of_set scene inv) (words_after ws end_it) written
-        (leaves_behind (of_set scene) (inv_of_set scene inv) (words_after ws end_it) (change_word c) _ (omega arith) new)
+        (leaves_behind (inv_of_set scene inv) (words_after ws end_it) (change_word c) _ (omega arith) new)
         (quiet_end p (Container (Recover owner mode)) (answers.State state) (λ i o. refl) (λ i r. refl))
         (refl, tt) (tt, tt) (tt, tt))
         (answers_right state knows.1) well_formed
@@ -190,7 +190,7 @@ module _ {T : Type 0} (recovery : Recovery T) where
   recover_step room (recovers.ChecksCount index count) at here k s = check_step recovery room index count here k.0 at k.1 s k.2
   recover_step room (recovers.Asks index count) at here k s = decided recovery room index count at here k.0 k.1 s k.2 0
   recover_step room (recovers.EmptiesCell index count) at here k s = empties_step recovery room index count here k.0 at k.1 s k.2
-  recover_step room (recovers.Hides index count) at here k s = hides_step recovery room index count here k.0 at k.1 s k.2
+  recover_step room (recovers.Hides index count) at here k s = hides_step recovery room here k.0 at k.1 s k.2
   recover_step room (recovers.Raises index raises.LoadsCounter) at here k s =
       (raises_step recovery) room index raises.LoadsCounter here k.0 at.0 at.1 k.1 s k.2
   recover_step room (recovers.Raises index (raises.ExchangesCounter number)) at here k s =

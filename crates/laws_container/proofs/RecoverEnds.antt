@@ -60,8 +60,8 @@ module _ {T : Type 0} (recovery : Recovery T) where
     pub stays_recs : (y : Party T) → Recovers code c owner (index + 1) none none (then_sees scene ask back scene.states y [])
     stays_recs y =
         let goes = (set_effects.quietly (of_set scene) (inv_of_set scene inv) (words_after ws ask) [] stays.leaves set_effects.quiet_none tt tt tt).goes in
-        recs recovery room stage here ask back y [] tt tt none_lengthens goes (index + 1) (index + 1) none none none none none rec
-        (asked_on recovery room stage here ask back y [] tt tt none_lengthens goes (index + 1) rec.asked)
+        recs recovery room stage here ask back y tt tt none_lengthens goes rec
+        (asked_on recovery room stage here ask back y tt tt none_lengthens goes (index + 1) rec.asked)
         (told_none recovery room stage here) (λ i e. absurd e) (λ i e. absurd e) (hidden_still recovery room stage here ask y rec.hidden)
 
     -- a step that leaves all words but the counter, and writes nothing, leads a recovery to the stage `next`,
@@ -73,8 +73,7 @@ module _ {T : Type 0} (recovery : Recovery T) where
         (then_sees scene ask back scene.states (then_at recovery room stage here room next ask back) [])
         → LeadsToStage recovery ask back [] room next
     stays_on next few stands known =
-        go_on recovery room stage here room next ask back [] none_lengthens (stays_does recovery room stage here (words_after ws ask) stays
-        (then_at recovery room stage here room next ask back) refl)
+        go_on recovery room stage here room next ask back none_lengthens (stays_does recovery room stage here stays refl)
         tt few stands known
 
     -- a step that leaves all words but the counter, and writes nothing, brings a recovery to the next index,
@@ -84,8 +83,8 @@ module _ {T : Type 0} (recovery : Recovery T) where
         → FilledBut (IsWorn scene.terms.by (words_after ws ask)) mode p owner NoIndex (events ++ [])
         → LeadsOn recovery ask back [] room (recover_comes_to (first recovery) (index + 1))
     stays_next few course fill =
-        comes_to_next recovery room stage here long ask back [] none_lengthens tt
-        (λ y owe. stays_does recovery room stage here (words_after ws ask) stays y owe) index few
+        comes_to_next recovery room stage here long ask back none_lengthens tt
+        (λ y owe. stays_does recovery room stage here stays owe) index few
         course.within (λ i low. course_calm recovery index (index + 1) i (index + 1) course low (omega arith)) paid stays_recs fill
 
   pub just_on : HasJustFreed (all scene) → HasJustFreed (all scene ++ [])
@@ -118,12 +117,11 @@ module _ {T : Type 0} (recovery : Recovery T) where
         let stage = recovers.EmptiesCell index count in
         let stays = set_effects.stays_same (of_set scene) (inv_of_set scene inv) (words_after ws empty_it) same in
         let goes = (set_effects.quietly (of_set scene) (inv_of_set scene inv) (words_after ws empty_it) [] stays.leaves set_effects.quiet_none tt tt tt).goes in
-        comes_to_next recovery room stage here long empty_it false [] none_lengthens tt
-        (λ y owe. stays_does recovery room stage here (words_after ws empty_it) stays y owe) index (omega arith) stands.0.within
+        comes_to_next recovery room stage here long empty_it false none_lengthens tt
+        (λ y owe. stays_does recovery room stage here stays owe) index (omega arith) stands.0.within
         (λ i low. course_calm recovery index (index + 1) i (index + 1) stands.0 low (omega arith)) paid_now
-        (λ y. recs recovery room stage here empty_it false y [] tt tt none_lengthens goes
-        (index + 1) (index + 1) (λ i. i ≡ index) none none none none knows.1
-        (asked_on recovery room stage here empty_it false y [] tt tt none_lengthens goes (index + 1) knows.1.asked) (told_none recovery room stage here)
+        (λ y. recs recovery room stage here empty_it false y tt tt none_lengthens goes knows.1
+        (asked_on recovery room stage here empty_it false y tt tt none_lengthens goes (index + 1) knows.1.asked) (told_none recovery room stage here)
         (λ i e. inl (λ filled. other (inv.good.cells index stands.0.within
         ∙ ap cell_of
         (subst (λ n. filled_of n events ≡ Some owner) e (subst (λ es. filled_of i es ≡ Some owner) (append-nil events) filled)))))
@@ -164,8 +162,8 @@ module _ {T : Type 0} (recovery : Recovery T) where
       was_known = grind (arith, inl, by_latest, all, inr, has_latest, done)
 
       -- the exchange that empties the cell does for the machine what freeing the index does
-      does : (y : Party T) → owes (flight_of (Some y.doing)) ≡ true → KeepsInvariant scene (words_after ws empty_it) scene.states y freeing
-      does y owe =
+      does : {y : Party T} → owes (flight_of (Some y.doing)) ≡ true → KeepsInvariant scene (words_after ws empty_it) scene.states y freeing
+      does {y} owe =
           frees scene inv (Recover owner mode) (recover_at c owner mode room (recovers.EmptiesCell index count)) tt here y (words_after ws empty_it)
           (rest_set scene inv (Recover owner mode)
           (recover_at c owner mode room (recovers.EmptiesCell index count)) tt here y
@@ -183,11 +181,9 @@ module _ {T : Type 0} (recovery : Recovery T) where
           (StillStands code c index count (after scene (words_after ws empty_it) y freeing))
           (then_sees scene empty_it false scene.states y freeing)
       recs_freed y =
-          recs recovery room (recovers.EmptiesCell index count) here empty_it false y
-          freeing (refl, tt) tt (λ start w. refl) set_does.goes (index + 1) (index + 1) (λ i. i ≡ index) none none
-          none (StillStands code c index count (after scene (words_after ws empty_it) y freeing)) knows.1
+          recs recovery room (recovers.EmptiesCell index count) here empty_it false y (refl, tt) tt (λ start w. refl) set_does.goes knows.1
           (asked_on recovery room (recovers.EmptiesCell index count) here empty_it
-          false y freeing (refl, tt) tt (λ start w. refl) set_does.goes (index + 1) knows.1.asked)
+          false y (refl, tt) tt (λ start w. refl) set_does.goes (index + 1) knows.1.asked)
           (λ i said. inl
           (⊎_elim (λ yes. ⊎_elim (λ had. inl had) (λ e. absurd (cc)) (was_one (Yes i owner) (Frees index owner) (all scene) yes))
           (λ seen. inr (has_of_none (Sees i) (done scene) seen)) said))
@@ -206,14 +202,14 @@ module _ {T : Type 0} (recovery : Recovery T) where
           (StillStands code c index count (after scene (words_after ws empty_it) y freeing)) none
           (then_sees scene empty_it false scene.states y freeing) (recs_freed y)
           (hidden_even code c p owner index count (after scene (words_after ws empty_it) y freeing)
-          (does y owe).changes.whole stands.0.within (even_is count even) (recs_freed y).hidden)
+          (does owe).changes.whole stands.0.within (even_is count even) (recs_freed y).hidden)
 
       -- what a recovery that may lock has to show of each index that it has freed, it has shown of all but
       -- the one that it frees now
       fills_freed : (y : Party T) → FilledBut (IsWorn scene.terms.by (words_after ws empty_it)) mode p owner (λ i. i ≡ index) (events ++ freeing)
       fills_freed y =
           fills_on recovery room (recovers.EmptiesCell index count) here empty_it false
-          y freeing (refl, tt) tt (λ start w. refl) set_does.goes NoIndex (λ i. i ≡ index)
+          y (refl, tt) tt (λ start w. refl) set_does.goes NoIndex (λ i. i ≡ index)
           (λ i was. ⊎_elim (λ had. inl had) (λ e. let same : index ≡ i = cc in inr (sym same))
           (was_one (Frees i owner) (Frees index owner) (all scene) was))
           (λ i e. absurd e) filled_since
@@ -221,8 +217,7 @@ module _ {T : Type 0} (recovery : Recovery T) where
       -- the recovery has asked about the index that it has freed, or was shown it, and keeps its course
       course_freed : IsInCourse c z (all scene ++ Frees index owner ∷ []) (done scene ++ []) owner index (index + 1)
       course_freed =
-          course_then c z (all scene) (Frees index owner ∷ []) (done scene) [] owner index (index + 1) index
-          (index + 1) stands.0 stands.0.within (omega arith) tt tt
+          course_then (Frees index owner ∷ []) [] stands.0 stands.0.within (omega arith) tt tt
           (λ j was. ⊎_elim (λ had. inl had)
           (λ e. inr (let same : index ≡ j = cc in
           subst (λ n. AskedOrShown c z (all scene) (done scene) owner n) same
@@ -236,15 +231,15 @@ module _ {T : Type 0} (recovery : Recovery T) where
           (if b then recover_raises (first recovery) index else GoOn (record (first recovery) { stage = recovers.Hides index count })))
       empties true even_test =
           let party_after = then_at recovery room (recovers.EmptiesCell index count) here room (recovers.Raises index raises.LoadsCounter) empty_it false in
-          go_on recovery room (recovers.EmptiesCell index count) here room (recovers.Raises index raises.LoadsCounter) empty_it false freeing
-          (λ start w. refl) (does party_after refl)
+          go_on recovery room (recovers.EmptiesCell index count) here room (recovers.Raises index raises.LoadsCounter) empty_it false
+          (λ start w. refl) (does refl)
           ((refl, ⊎_elim (λ yes. inl yes.0) (λ shown. inr shown) stands.1), tt) (omega arith)
           (course_freed, record { index = index; owner = owner; latest = record { before = all scene; is = refl } })
           (long, (paid_now, recs_empty even_test party_after refl), fills_freed party_after)
       empties false even_test =
           let party_after = then_at recovery room (recovers.EmptiesCell index count) here room (recovers.Hides index count) empty_it false in
           go_on recovery room (recovers.EmptiesCell index count) here room
-          (recovers.Hides index count) empty_it false freeing (λ start w. refl) (does party_after refl)
+          (recovers.Hides index count) empty_it false (λ start w. refl) (does refl)
           ((refl, ⊎_elim (λ yes. inl yes.0) (λ shown. inr shown) stands.1), tt) (omega arith)
           (course_freed, odd_is count even_test, record { before = all scene; is = refl }) (
             long,
@@ -277,7 +272,7 @@ module _ {T : Type 0} (recovery : Recovery T) where
   -- ---- what stands there is hidden
 
   -- the recovery has freed `index`, and hides the element there if it has the odd number `count` still
-  module _ (room : buffers.Buffer 128) (index count : ℕ) (here : IsAtStage recovery room (recovers.Hides index count)) (long : IsLong room)
+  module _ (room : buffers.Buffer 128) {index count : ℕ} (here : IsAtStage recovery room (recovers.Hides index count)) (long : IsLong room)
       (stands : RecoverAt c z (all scene) (done scene) owner mode (recovers.Hides index count))
       (knows : RecoverKnows code c owner mode room (recovers.Hides index count) (sees_now scene))
       (few_steps : steps ≤ 5 + z + index * for_index c z mode + backs * for_back c z mode)
@@ -317,14 +312,14 @@ module _ {T : Type 0} (recovery : Recovery T) where
         let does =
         hides scene inv (Recover owner mode)
         (recover_at c owner mode room (recovers.Hides index count)) tt here party_after
-        (words_after ws hide_it) index stands.0.within (hides_count scene inv index count stands.0.within same_count)
+        (words_after ws hide_it) index stands.0.within (hides_count inv index count stands.0.within same_count)
         refl odd
         (λ holds q ne o theirs fresh. both_ways (left_of index events) fresh (knows.2.left holds same_count))
         (was_well_formed scene (Recover owner mode) tt here.span (words_after ws hide_it) party_after hiding (refl, tt)) in
         go_on recovery room (recovers.Hides index count) here room next hide_it
-        false hiding (λ start w. refl) does (stands.2, tt) (omega arith) (
+        false (λ start w. refl) does (stands.2, tt) (omega arith) (
           -- the recovery keeps its course: the step frees no index, and asks about none
-          course_then c z (all scene) [] (done scene) (acts hiding) owner index (index + 1) index (index + 1)
+          course_then [] (acts hiding)
               stands.0 stands.0.within (omega arith) tt tt
               (λ j was. inl (one_of_none (Frees j owner) (all scene) was)),
           just_on just,
@@ -333,18 +328,18 @@ module _ {T : Type 0} (recovery : Recovery T) where
           long,
           (
             paid_hide,
-            recs recovery room (recovers.Hides index count) here hide_it false party_after
-                hiding (refl, tt) tt (λ start w. refl) does.set.goes (index + 1) (index + 1) none none none
-                (StillStands code c index count (before scene)) none knows.1 (asked_on recovery room (recovers.Hides index count) here hide_it
-                false party_after hiding (refl, tt) tt (λ start w. refl) does.set.goes (index + 1) knows.1.asked)
+            recs recovery room (recovers.Hides index count) here hide_it false party_after (refl, tt) tt
+                (λ start w. refl) does.set.goes knows.1
+                (asked_on recovery room (recovers.Hides index count) here hide_it
+                false party_after (refl, tt) tt (λ start w. refl) does.set.goes (index + 1) knows.1.asked)
                 (λ i said. inl (⊎_elim (λ yes. inl (one_of_none (Yes i owner) (all scene) yes))
-                (λ seen. ⊎_elim (λ had. inr had) (λ e. absurd (cc)) (was_act (Sees i) (HidesOne index) (done scene) seen))
+                (λ seen. ⊎_elim (λ had. inr had) (λ e. absurd (cc)) (was_act (HidesOne index) seen))
                 said))
                 (λ i e. absurd e) (λ i e. absurd e)
                 (hides_it scene (Recover owner mode) tt here.span owner (words_after ws hide_it) party_after index count knows.1.hidden),
           ),
-          fills_on recovery room (recovers.Hides index count) here hide_it false party_after
-              hiding (refl, tt) tt (λ start w. refl) does.set.goes (λ i. i ≡ index) (λ i. i ≡ index)
+          fills_on recovery room (recovers.Hides index count) here hide_it false party_after (refl, tt) tt
+              (λ start w. refl) does.set.goes (λ i. i ≡ index) (λ i. i ≡ index)
               (λ i was. inl (one_of_none (Frees i owner) (all scene) was)) (λ i e. e) filled_since,
         ))
         -- the number is another one: another call has hidden what stood there, and the step changes nothing

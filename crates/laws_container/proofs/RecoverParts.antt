@@ -103,43 +103,43 @@ module _ {T : Type 0} (recovery : Recovery T) where
 
     -- a step that leaves the words, and writes events that change nothing of the set or of what
     -- stands, keeps the invariant
-    pub reads_does : (words' : List ℕ) → words' ≡ ws → (y : Party T) (es : List (Event T))
+    pub reads_does : {words' : List ℕ} → words' ≡ ws → {y : Party T} {es : List (Event T)}
         → AllByRecursion Silent es → AreOwn p es → AreAllRight scene words' y es
         → owes (flight_of (Some y.doing)) ≡ true → KeepsInvariant scene words' scene.states y es
-    reads_does words' same y es silent own right owe =
-        silently scene inv words' same y es silent own start (recover_at c owner mode room stage) tt here
+    reads_does {words'} same {y} {es} silent own right owe =
+        silently inv words' same y es silent own tt here
         (was_well_formed scene start tt here.span words' y es own) (λ was. owe) right
 
     -- a step that leaves all words but the counter, and writes nothing, keeps the invariant
-    pub stays_does : (words' : List ℕ) → set_effects.Stays (of_set scene) words' → (y : Party T)
+    pub stays_does : {words' : List ℕ} → set_effects.Stays (of_set scene) words' → {y : Party T}
         → owes (flight_of (Some y.doing)) ≡ true → KeepsInvariant scene words' scene.states y []
-    stays_does words' stays y owe =
+    stays_does {words'} stays {y} owe =
         let well_formed = was_well_formed scene start tt here.span words' y [] tt in
-        does_with scene inv start (recover_at c owner mode room stage) tt here words' y []
+        does_with scene inv tt here
         (calmly scene inv words' y [] well_formed (λ n behind. stays.others n (omega arith)) stays.leaves.wide
         (calm_none scene inv start (recover_at c owner mode room stage) tt here y words' well_formed) (λ was. owe))
         (set_effects.quietly (of_set scene) (inv_of_set scene inv) words' [] stays.leaves set_effects.quiet_none tt tt tt)
-        (right_none scene inv start (recover_at c owner mode room stage) tt here y words')
+        (right_none scene inv start (recover_at c owner mode room stage) tt here y)
 
     -- ---- it goes on
 
     -- a step leads a recovery to the stage `next`, where the conditions of that stage hold
     pub go_on :
-        (room' : buffers.Buffer 128) (next : RecoverStage) (ask : Option Ask) (back : Bool) (es : List (Event T))
+        (room' : buffers.Buffer 128) (next : RecoverStage) (ask : Option Ask) (back : Bool) {es : List (Event T)}
         → Lengthens es → KeepsInvariant scene (words_after ws ask) scene.states (then_at room' next ask back) es
         → AllFollow (Stands promise c) (Open (Container (Recover owner mode)) (wrote_of p events)) es
         → steps + step_count ask ≤ recover_number c z mode next (backs_then scene back)
         → RecoverAt c z (all scene ++ set_acts es) (done scene ++ acts es) owner mode next
         → Knows code c (recover_at c owner mode room' next) (then_sees scene ask back scene.states (then_at room' next ask back) es)
         → ShowsThen scene start ask back scene.states es (GoOn (recover_at c owner mode room' next))
-    go_on room' next ask back es longer does stands few stands_there known =
+    go_on room' next ask back {es} longer does stands few stands_there known =
         goes_on scene start (recover_at c owner mode room' next) ask back scene.states es here.span longer does
         stands few (refl, refl, fits, stands_there) known
 
     -- ---- what it knows then
 
     -- the step has the operation `ask`, and writes the events `es`
-    module _ (ask : Option Ask) (back : Bool) (y : Party T) (es : List (Event T)) (own : AreOwn p es)
+    module _ (ask : Option Ask) (back : Bool) (y : Party T) {es : List (Event T)} (own : AreOwn p es)
         (fresh : BeginsNone p es) (longer : Lengthens es) (goes : Goes ws (words_after ws ask) events es) where
       -- what the recovery was told to free or shown by the end of the step, it was told or shown before, or
       -- is in `New`
@@ -150,17 +150,16 @@ module _ {T : Type 0} (recovery : Recovery T) where
 
       -- what a recovery knows after a step, from what it knew, how far it has come, and what it was told or
       -- shown in the step
-      pub recs : (k k' : ℕ) (Was Now New But But' : ℕ → Type 0) → Recovers code c owner k Was But (sees_now scene)
+      pub recs : {k k' : ℕ} {Was Now New But But' : ℕ → Type 0} → Recovers code c owner k Was But (sees_now scene)
           → AskedBelow code c owner k' (then_sees scene ask back scene.states y es) → Told New
           → ((i : ℕ) → Was i → (filled_of i (events ++ es) ≢ Some owner) ⊎ Now i)
           → ((i : ℕ) → New i → (filled_of i (events ++ es) ≢ Some owner) ⊎ Now i)
           → HasHidden code c p owner But' (after scene (words_after ws ask) y es)
           → Recovers code c owner k' Now But' (then_sees scene ask back scene.states y es)
-      recs k k' Was Now New But But' recovers_so_far asked told was new hidden =
-          knowing.recovers_then code c owner (sees_now scene) (words_after ws ask) scene.states (put p y latest)
-          (since_then scene ask) (changes_then scene ask) (backs_then scene back) es fresh
-          (set_acts_more scene start here.span es own longer) (acts_more scene start here.span es own longer) goes
-          k k' Was Now New But But' recovers_so_far asked told was new hidden
+      recs {k} {k'} {Was = Was} {Now = Now} {New = New} {But = But} {But' = But'} recovers_so_far asked told was new hidden =
+          knowing.recovers_then code c owner (sees_now scene) scene.states (put p y latest)
+          (since_then scene ask) (changes_then scene ask) (backs_then scene back) fresh
+          (set_acts_more scene start here.span es own longer) (acts_more scene start here.span es own longer) goes New recovers_so_far asked told was new hidden
 
       -- after the step a recovery still knows of its locks what was filled since each freed index
       pub fills_on : (Was But : ℕ → Type 0)
@@ -176,8 +175,8 @@ module _ {T : Type 0} (recovery : Recovery T) where
       -- after the step a recovery has still asked about the indices below `k`
       pub asked_on : (k : ℕ) → AskedBelow code c owner k (sees_now scene) → AskedBelow code c owner k (then_sees scene ask back scene.states y es)
       asked_on k asked_below =
-          knowing.asked_then code c owner (sees_now scene) (words_after ws ask) scene.states (put p y latest)
-          (since_then scene ask) (changes_then scene ask) (backs_then scene back) es fresh
+          knowing.asked_then code c owner (sees_now scene) scene.states (put p y latest)
+          (since_then scene ask) (changes_then scene ask) (backs_then scene back) fresh
           (set_acts_more scene start here.span es own longer) (acts_more scene start here.span es own longer) goes k asked_below
 
       -- a recovery has asked about one index more, if it need not free that one, or has asked about it, or
@@ -187,8 +186,8 @@ module _ {T : Type 0} (recovery : Recovery T) where
           → IsOneOf (Asks k owner) (set_acts_of p (events ++ es)) ⊎ WasShown p k (events ++ es))
           → AskedBelow code c owner (k + 1) (then_sees scene ask back scene.states y es)
       asked_more k asked_below now =
-          knowing.asked_next code c owner (sees_now scene) (words_after ws ask) scene.states (put p y latest)
-          (since_then scene ask) (changes_then scene ask) (backs_then scene back) es fresh
+          knowing.asked_next code c owner (sees_now scene) scene.states (put p y latest)
+          (since_then scene ask) (changes_then scene ask) (backs_then scene back) fresh
           (set_acts_more scene start here.span es own longer) (acts_more scene start here.span es own longer) goes k asked_below
           now
 
@@ -209,7 +208,7 @@ module _ {T : Type 0} (recovery : Recovery T) where
     -- ---- it comes to the next index, or to the counter
 
     -- the recovery has come past `index` in a step that keeps the invariant and writes `es`
-    module _ (long : IsLong room) (ask : Option Ask) (back : Bool) (es : List (Event T)) (longer : Lengthens es)
+    module _ (long : IsLong room) (ask : Option Ask) (back : Bool) {es : List (Event T)} (longer : Lengthens es)
         (stands : AllFollow (Stands promise c) (Open (Container (Recover owner mode)) (wrote_of p events)) es)
         (does : (y : Party T) → owes (flight_of (Some y.doing)) ≡ true → KeepsInvariant scene (words_after ws ask) scene.states y es)
         (index : ℕ) (few : Few ask back 1 (index + 1)) (below : index < c)
@@ -227,14 +226,14 @@ module _ {T : Type 0} (recovery : Recovery T) where
           (λ t.
           let more : index + 1 < c = grind (arith, nat_tests) in
           let party_after = then_at room (recovers.LoadsCell (index + 1)) ask back in
-          go_on room (recovers.LoadsCell (index + 1)) ask back es longer (does party_after refl) stands few
+          go_on room (recovers.LoadsCell (index + 1)) ask back longer (does party_after refl) stands few
           (course (index + 1) more) (long, (paid, rec party_after), fill))
           (λ t.
           let last : c ≤ index + 1 = grind (arith, nat_tests) in
           let is_last : index + 1 ≡ c = omega arith in
           let times : (index + 1) * for_index c z mode ≡ c * for_index c z mode = ap (λ n. n * for_index c z mode) is_last in
           let party_after = then_at room recovers.LoadsCounterAgain ask back in
-          go_on room recovers.LoadsCounterAgain ask back es longer (does party_after refl) stands
+          go_on room recovers.LoadsCounterAgain ask back longer (does party_after refl) stands
           (omega arith) ((course index below).freed) (
             long,
             (paid, subst (λ n. Recovers code c owner n none none (then_sees scene ask back scene.states party_after es)) is_last (rec party_after)),

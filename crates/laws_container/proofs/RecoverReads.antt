@@ -87,7 +87,7 @@ module _ {T : Type 0} (recovery : Recovery T) where
   pub course_calm : (index bound index' bound' : ℕ) → IsInCourseAt index bound → index' < c → bound ≤ bound'
       → IsInCourse c z (all scene ++ []) (done scene ++ []) owner index' bound'
   course_calm index bound index' bound' on_course low more =
-      course_then c z (all scene) [] (done scene) [] owner index bound index' bound' on_course low more tt tt
+      course_then [] [] on_course low more tt tt
       (λ j was. inl (one_of_none (Frees j owner) (all scene) was))
 
   -- ---- any step that changes and writes nothing
@@ -100,20 +100,20 @@ module _ {T : Type 0} (recovery : Recovery T) where
     pub calm_recs : (y : Party T) (k : ℕ) → Recovers code c owner k none none (sees_now scene)
         → Recovers code c owner k none none (then_sees scene ask back scene.states y [])
     calm_recs y k recovers_so_far =
-        let goes = (silent_set scene inv (words_after ws ask) same y [] tt tt).goes in
-        recs recovery room stage here ask back y [] tt tt none_lengthens goes k k none none none
-        none none recovers_so_far (asked_on recovery room stage here ask back y [] tt tt none_lengthens goes k recovers_so_far.asked)
+        let goes = (silent_set inv (words_after ws ask) same y [] tt tt).goes in
+        recs recovery room stage here ask back y tt tt none_lengthens goes recovers_so_far
+        (asked_on recovery room stage here ask back y tt tt none_lengthens goes k recovers_so_far.asked)
         (told_none recovery room stage here) (λ i e. absurd e) (λ i e. absurd e) (hidden_still recovery room stage here ask y recovers_so_far.hidden)
 
     -- a recovery that has asked about index `k`, or was shown it, or need not free it, has come past it
-    calm_recs_more : (y : Party T) (k : ℕ) → Recovers code c owner k none none (sees_now scene)
+    calm_recs_more : (y : Party T) {k : ℕ} → Recovers code c owner k none none (sees_now scene)
         → (HeldThroughout p (StillToFree p owner k) (events ++ [])
         → IsOneOf (Asks k owner) (set_acts_of p (events ++ [])) ⊎ WasShown p k (events ++ []))
         → Recovers code c owner (k + 1) none none (then_sees scene ask back scene.states y [])
-    calm_recs_more y k recovers_so_far now =
-        let goes = (silent_set scene inv (words_after ws ask) same y [] tt tt).goes in
-        recs recovery room stage here ask back y [] tt tt none_lengthens goes k (k + 1) none none
-        none none none recovers_so_far (asked_more recovery room stage here ask back y [] tt tt none_lengthens goes k recovers_so_far.asked now)
+    calm_recs_more y {k} recovers_so_far now =
+        let goes = (silent_set inv (words_after ws ask) same y [] tt tt).goes in
+        recs recovery room stage here ask back y tt tt none_lengthens goes recovers_so_far
+        (asked_more recovery room stage here ask back y tt tt none_lengthens goes k recovers_so_far.asked now)
         (told_none recovery room stage here) (λ i e. absurd e) (λ i e. absurd e) (hidden_still recovery room stage here ask y recovers_so_far.hidden)
 
     -- a step that changes and writes nothing leads a recovery to the stage `next`, where the conditions of
@@ -126,7 +126,7 @@ module _ {T : Type 0} (recovery : Recovery T) where
         → LeadsToStage ask back [] room' next
     calm_on room' next few stands known =
         let party_after = then_at recovery room stage here room' next ask back in
-        go_on recovery room stage here room' next ask back [] none_lengthens (reads_does recovery room stage here (words_after ws ask) same party_after [] tt tt
+        go_on recovery room stage here room' next ask back none_lengthens (reads_does recovery room stage here same tt tt
         (right_none (words_after ws ask) party_after) refl)
         tt few stands known
 
@@ -139,8 +139,8 @@ module _ {T : Type 0} (recovery : Recovery T) where
         → FilledBut (IsWorn scene.terms.by ws) mode p owner NoIndex events
         → LeadsOn ask back [] room (recover_comes_to (first recovery) (index + 1))
     calm_next index few course rec filled_but =
-        comes_to_next recovery room stage here long ask back [] none_lengthens tt
-        (λ y owe. reads_does recovery room stage here (words_after ws ask) same y [] tt tt (right_none (words_after ws ask) y) owe)
+        comes_to_next recovery room stage here long ask back none_lengthens tt
+        (λ y owe. reads_does recovery room stage here same tt tt (right_none (words_after ws ask) y) owe)
         index few (⊎_elim (λ h. h.within) (λ h. h.within) course)
         (λ i low. ⊎_elim (λ h. course_calm index index i (index + 1) h low (omega arith))
         (λ h. course_calm index (index + 1) i (index + 1) h low (omega arith)) course)
@@ -270,7 +270,7 @@ module _ {T : Type 0} (recovery : Recovery T) where
         calm_next room (recovers.LoadsCell index) here long load_cell
         (loads_same ws (cell_word index)) false paid_cell index (omega arith) (inl course)
         (λ y. calm_recs_more room (recovers.LoadsCell index) here long load_cell
-        (loads_same ws (cell_word index)) false paid_cell y index knows.1 (not_to_free other))
+        (loads_same ws (cell_word index)) false paid_cell y knows.1 (not_to_free other))
         filled_since)
 
   -- ---- the number of an element, loaded or found at a check
@@ -297,12 +297,12 @@ module _ {T : Type 0} (recovery : Recovery T) where
     is_shown : is_even number ≡ true → LeadsToStage ask back showing room (recovers.EmptiesCell index number)
     is_shown even =
         let party_after = then_at recovery room stage here room (recovers.EmptiesCell index number) ask back in
-        let goes = (silent_set scene inv (words_after ws ask) same party_after showing (tt, tt) (refl, tt)).goes in
+        let goes = (silent_set inv (words_after ws ask) same party_after showing (tt, tt) (refl, tt)).goes in
         let acts_then : acts_of p (events ++ showing) ≡ done scene ++ Sees index ∷ [] =
         acts_more scene (Recover owner mode) here.span showing (refl, tt) (λ start w. refl) in
-        go_on recovery room stage here room (recovers.EmptiesCell index number) ask back showing (λ start w. refl)
+        go_on recovery room stage here room (recovers.EmptiesCell index number) ask back (λ start w. refl)
         -- its event is right: under an even number nothing stands
-        (reads_does recovery room stage here (words_after ws ask) same party_after showing (tt, tt) (refl, tt) (record {
+        (reads_does recovery room stage here same (tt, tt) (refl, tt) (record {
           asks = (tt, tt);
           recovers = (tt, tt);
           answers = (tt, tt);
@@ -318,7 +318,7 @@ module _ {T : Type 0} (recovery : Recovery T) where
         refl)
         -- the recovery keeps its course, with one index more seen
         (course.seen, tt) (omega arith) (
-          course_then c z (all scene) [] (done scene) (Sees index ∷ []) owner index index index (index + 1) course
+          course_then [] (Sees index ∷ []) course
               course.within (omega arith) (omega arith, tt) tt
               (λ j was. inl (one_of_none (Frees j owner) (all scene) was)),
           inr (record { before = done scene; is = refl }),
@@ -327,13 +327,12 @@ module _ {T : Type 0} (recovery : Recovery T) where
           long,
           (
             paid,
-            recs recovery room stage here ask back party_after showing (refl, tt) tt (λ start w. refl) goes
-                index (index + 1) none (λ i. i ≡ index) (λ i. i ≡ index) none none rec
-                (asked_more recovery room stage here ask back party_after showing (refl, tt) tt (λ start w. refl) goes index rec.asked
+            recs recovery room stage here ask back party_after (refl, tt) tt (λ start w. refl) goes rec
+                (asked_more recovery room stage here ask back party_after (refl, tt) tt (λ start w. refl) goes index rec.asked
                 (λ through. inr (subst (IsOneOf (Sees index)) (sym acts_then) (has_last (Sees index) (done scene)))))
                 (λ i said. ⊎_elim (λ yes. inl (inl (one_of_none (Yes i owner) (all scene) yes)))
                 (λ seen. ⊎_elim (λ had. inl (inr had)) (λ e. let is : index ≡ i = cc in inr (sym is))
-                (was_act (Sees i) (Sees index) (done scene) seen))
+                (was_act (Sees index) seen))
                 said)
                 (λ i e. absurd e) (λ i e. inr e)
                 (hidden_on scene (Recover owner mode) tt here.span owner (words_after ws ask) party_after showing (refl, tt)
@@ -342,7 +341,7 @@ module _ {T : Type 0} (recovery : Recovery T) where
             λ kept. omega (arith, same_number),
             λ holds filled. inl same_number,
           ),
-          fills_on recovery room stage here ask back party_after showing (refl, tt) tt (λ start w. refl) goes
+          fills_on recovery room stage here ask back party_after (refl, tt) tt (λ start w. refl) goes
               NoIndex NoIndex (λ i was. inl (one_of_none (Frees i owner) (all scene) was)) (λ i e. e) filled_since,
         )
 

@@ -89,7 +89,7 @@ module _ {T : Type 0} (recovery : Recovery T) where
     long_word = length-set room.words at word ∙ long
 
     -- what a recovery knows of its copy, and of the indices below, after it has read one word more
-    knows_word : (next : RecoverStage) (n : ℕ) → n ≡ at + 1
+    knows_word : (next : RecoverStage) {n : ℕ} → n ≡ at + 1
         → CheckPaid code c index count
         (then_sees scene load_word false scene.states (then_at recovery room (recovers.LoadsWord index count at) here room' next load_word false) [])
         × Recovers code c owner index none none
@@ -101,14 +101,14 @@ module _ {T : Type 0} (recovery : Recovery T) where
         (then_sees scene load_word false scene.states (then_at recovery room (recovers.LoadsWord index count at) here room' next load_word false) [])
         × RecoverCovers code c owner index count
         (after scene (words_after ws load_word) (then_at recovery room (recovers.LoadsWord index count at) here room' next load_word false) [])
-    knows_word next n is =
+    knows_word next is =
         let party_after = then_at recovery room (recovers.LoadsWord index count at) here room' next load_word false in
         let v' = then_sees scene load_word false scene.states party_after [] in (
           ⊎_elim (λ h. let paid = h.1 in inl (ap (λ w. count_at c w index) same_words ∙ h.0, omega arith)) (λ h. inr (omega arith)) knows.0,
           (calm_recs recovery) room (recovers.LoadsWord index count at) here long load_word same_words false paid_word party_after index knows.1,
           held_later p (IsFilledWith owner index) events [] tt knows.2,
           subst (λ m. Copying code c index count room'.words m v') (sym is)
-              (copying_more code c (sees_now scene) v' index count room.words at stands.2 inv.elements.coded.few
+              (copying_more code c stands.2 inv.elements.coded.few
               same_words (λ kept. kept)
               (was_well_formed scene (Recover owner mode) tt here.span (words_after ws load_word) party_after [] tt) knows.3),
           covers_on scene (Recover owner mode) tt here.span owner (words_after ws load_word) party_after [] tt index count
@@ -130,7 +130,7 @@ module _ {T : Type 0} (recovery : Recovery T) where
         paid_word room' (recovers.LoadsWord index count (at + 1)) (omega arith)
         ((course_calm recovery) index index index index stands.0 stands.0.within (omega arith), stands.1, more) (
           long_word,
-          knows_word (recovers.LoadsWord index count (at + 1)) (at + 1) refl,
+          knows_word (recovers.LoadsWord index count (at + 1)) refl,
           fill_same recovery load_word same_words NoIndex filled_since,
         ))
         (λ t.
@@ -140,7 +140,7 @@ module _ {T : Type 0} (recovery : Recovery T) where
         paid_word room' (recovers.ChecksCount index count) (omega arith)
         ((course_calm recovery) index index index index stands.0 stands.0.within (omega arith), stands.1) (
           long_word,
-          knows_word (recovers.ChecksCount index count) z (omega arith),
+          knows_word (recovers.ChecksCount index count) (omega arith),
           fill_same recovery load_word same_words NoIndex filled_since,
         ))
 
@@ -180,7 +180,7 @@ module _ {T : Type 0} (recovery : Recovery T) where
         exchange_sets ws (count_word c index) count count is
         ∙ (ap (set ws (count_word c index)) (sym is) ∙ set-get_or ws (count_word c index) 0) in
         let party_after = then_at recovery room (recovers.ChecksCount index count) here room (recovers.Asks index count) check_it false in
-        let goes = (silent_set scene inv (words_after ws check_it) same party_after asking (tt, (tt, tt)) (refl, (refl, tt))).goes in
+        let goes = (silent_set inv (words_after ws check_it) same party_after asking (tt, (tt, tt)) (refl, (refl, tt))).goes in
         -- with this step the recovery has copied the element, and has asked about it
         let set_acts_then : set_acts_of p (events ++ asking) ≡ all scene ++ Asks index owner ∷ [] =
         set_acts_more scene (Recover owner mode) here.span asking (refl, (refl, tt)) asking_longer in
@@ -190,8 +190,8 @@ module _ {T : Type 0} (recovery : Recovery T) where
         flat_map-append act (wrote_of p events) (Copied p index value ∷ []) in
         let copy_set_acts : set_acts (wrote_of p events ++ Copied p index value ∷ []) ≡ all scene =
         flat_map-append set_act (wrote_of p events) (Copied p index value ∷ []) ∙ append-nil (all scene) in
-        go_on recovery room (recovers.ChecksCount index count) here room (recovers.Asks index count) check_it false asking asking_longer
-        (reads_does recovery room (recovers.ChecksCount index count) here (words_after ws check_it) same party_after asking (tt, (tt, tt)) (refl, (refl, tt))
+        go_on recovery room (recovers.ChecksCount index count) here room (recovers.Asks index count) check_it false asking_longer
+        (reads_does recovery room (recovers.ChecksCount index count) here same (tt, (tt, tt)) (refl, (refl, tt))
         -- its events are right: the copy is the value that stands, and the question is of an
         -- index that its owner had
         (record {
@@ -210,7 +210,7 @@ module _ {T : Type 0} (recovery : Recovery T) where
           answers = (tt, (tt, tt));
           contains =
               λ holds. (
-                copied_value code c (sees_now scene) index count room.words inv.elements.coded inv.elements.whole knows.3 is
+                copied_value code c inv.elements.coded inv.elements.whole knows.3 is
                     (was_well_formed scene (Recover owner mode) tt here.span (words_after ws check_it) party_after asking (refl, (refl, tt)) holds),
                 (tt, tt),
               );
@@ -229,8 +229,7 @@ module _ {T : Type 0} (recovery : Recovery T) where
           ),
         ) (omega arith) (
           -- the recovery keeps its course, with one index more seen and asked about
-          course_then c z (all scene) (Asks index owner ∷ []) (done scene) (Copies index value ∷ []) owner index
-              index index (index + 1) stands.0 stands.0.within (omega arith) (omega arith, tt) (omega arith, tt)
+          course_then (Asks index owner ∷ []) (Copies index value ∷ []) stands.0 stands.0.within (omega arith) (omega arith, tt) (omega arith, tt)
               (λ j was. ⊎_elim (λ had. inl had) (λ e. absurd (cc)) (was_one (Frees j owner) (Asks index owner) (all scene) was)),
           stands.1,
           record { before = all scene; is = refl },
@@ -239,14 +238,13 @@ module _ {T : Type 0} (recovery : Recovery T) where
           long,
           (
             ⊎_elim (λ h. let paid = h.1 in omega arith) (λ h. omega arith) knows.0,
-            recs recovery room (recovers.ChecksCount index count) here check_it false party_after
-                asking (refl, (refl, tt)) tt asking_longer goes index (index + 1) none none none none none knows.1
+            recs recovery room (recovers.ChecksCount index count) here check_it false party_after (refl, (refl, tt)) tt asking_longer goes knows.1
                 (asked_more recovery room (recovers.ChecksCount index count) here
-                check_it false party_after asking (refl, (refl, tt)) tt asking_longer goes index knows.1.asked
+                check_it false party_after (refl, (refl, tt)) tt asking_longer goes index knows.1.asked
                 (λ through. inl (subst (IsOneOf (Asks index owner)) (sym set_acts_then) (last_one (Asks index owner) (all scene)))))
                 (λ i said. inl
                 (⊎_elim (λ yes. ⊎_elim (λ had. inl had) (λ e. absurd (cc)) (was_one (Yes i owner) (Asks index owner) (all scene) yes))
-                (λ seen. ⊎_elim (λ had. inr had) (λ e. absurd (cc)) (was_act (Sees i) (Copies index value) (done scene) seen))
+                (λ seen. ⊎_elim (λ had. inr had) (λ e. absurd (cc)) (was_act (Copies index value) seen))
                 said))
                 (λ i e. absurd e) (λ i e. absurd e)
                 (hidden_on scene (Recover owner mode) tt here.span owner (words_after ws check_it) party_after asking
@@ -261,7 +259,7 @@ module _ {T : Type 0} (recovery : Recovery T) where
                 (fold-append (filled_after index) None events asking) knows.4,
           ),
           fills_on recovery room (recovers.ChecksCount index count) here check_it false
-              party_after asking (refl, (refl, tt)) tt asking_longer goes NoIndex NoIndex
+              party_after (refl, (refl, tt)) tt asking_longer goes NoIndex NoIndex
               (λ i was. ⊎_elim (λ had. inl had) (λ e. absurd (cc)) (was_one (Frees i owner) (Asks index owner) (all scene) was))
               (λ i e. e) filled_since,
         )
@@ -307,14 +305,13 @@ module _ {T : Type 0} (recovery : Recovery T) where
     says_yes : LeadsToStage None false telling room (recovers.EmptiesCell index count)
     says_yes =
         let party_after = then_at recovery room (recovers.Asks index count) here room (recovers.EmptiesCell index count) None false in
-        let goes = (silent_set scene inv ws refl party_after telling (tt, tt) (refl, tt)).goes in
-        go_on recovery room (recovers.Asks index count) here room (recovers.EmptiesCell index count) None false telling (λ start w. refl)
-        (reads_does recovery room (recovers.Asks index count) here ws refl party_after telling (tt, tt) (refl, tt)
+        let goes = (silent_set inv ws refl party_after telling (tt, tt) (refl, tt)).goes in
+        go_on recovery room (recovers.Asks index count) here room (recovers.EmptiesCell index count) None false (λ start w. refl)
+        (reads_does recovery room (recovers.Asks index count) here refl (tt, tt) (refl, tt)
         (record { asks = (knows.1.dead, tt); recovers = (tt, tt); answers = (tt, tt); contains = λ holds. (tt, tt); places = λ holds. (tt, tt) }) refl)
         ((refl, stands.2), tt) (omega arith) (
           -- the recovery keeps its course, and was told to free the index that it asked about
-          course_then c z (all scene) (Yes index owner ∷ []) (done scene) [] owner index (index + 1) index
-              (index + 1) stands.0 stands.0.within (omega arith) tt tt
+          course_then (Yes index owner ∷ []) [] stands.0 stands.0.within (omega arith) tt tt
               (λ j was. ⊎_elim (λ had. inl had) (λ e. absurd (cc)) (was_one (Frees j owner) (Yes index owner) (all scene) was)),
           inl (
             record { before = all scene; is = refl },
@@ -326,10 +323,10 @@ module _ {T : Type 0} (recovery : Recovery T) where
           long,
           (
             paid_now,
-            recs recovery room (recovers.Asks index count) here None false party_after telling
-                (refl, tt) tt (λ start w. refl) goes (index + 1) (index + 1) none (λ i. i ≡ index) (λ i. i ≡ index) none
-                none knows.1 (asked_on recovery room (recovers.Asks index count) here None false party_after
-                telling (refl, tt) tt (λ start w. refl) goes (index + 1) knows.1.asked)
+            recs recovery room (recovers.Asks index count) here None false party_after
+                (refl, tt) tt (λ start w. refl) goes knows.1
+                (asked_on recovery room (recovers.Asks index count) here None false party_after (refl, tt) tt
+                (λ start w. refl) goes (index + 1) knows.1.asked)
                 (λ i said. ⊎_elim (λ yes. ⊎_elim (λ had. inl (inl had)) (λ e. let is : index ≡ i = cc in inr (sym is))
                 (was_one (Yes i owner) (Yes index owner) (all scene) yes))
                 (λ seen. inl (inr (has_of_none (Sees i) (done scene) seen))) said)
@@ -343,7 +340,7 @@ module _ {T : Type 0} (recovery : Recovery T) where
             covers_on scene (Recover owner mode) tt here.span owner ws party_after telling (refl, tt) index count refl
                 (fold-append (filled_after index) None events telling) knows.5,
           ),
-          fills_on recovery room (recovers.Asks index count) here None false party_after telling (refl, tt) tt (λ start w. refl) goes NoIndex NoIndex
+          fills_on recovery room (recovers.Asks index count) here None false party_after (refl, tt) tt (λ start w. refl) goes NoIndex NoIndex
               (λ i was. ⊎_elim (λ had. inl had) (λ e. absurd (cc)) (was_one (Frees i owner) (Yes index owner) (all scene) was))
               (λ i e. e) filled_since,
         )

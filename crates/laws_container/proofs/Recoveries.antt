@@ -28,8 +28,8 @@ module _ {T : Type 0} where
   has_of_none one all is_one = subst (IsOneOf one) (append-nil all) is_one
 
   -- where one act was added, each act is one of the earlier ones, or that last one
-  pub was_act : (one last : Act T) (all : List (Act T)) → IsOneOf one (all ++ last ∷ []) → IsOneOf one all ⊎ (last ≡ one)
-  was_act one last all is_one = go (split_last all last is_one.before one is_one.after is_one.is)
+  pub was_act : {one : Act T} (last : Act T) {all : List (Act T)} → IsOneOf one (all ++ last ∷ []) → IsOneOf one all ⊎ (last ≡ one)
+  was_act {one} last {all} is_one = go (split_last all last is_one.before one is_one.after is_one.is)
     where
       -- the cases are whether the act is the last one
       go : SplitAt all last is_one.before one is_one.after → IsOneOf one all ⊎ (last ≡ one)
@@ -42,11 +42,11 @@ module _ {T : Type 0} where
 
   -- the recovery keeps its course when it has done more, if it has seen and asked about indices below the new
   -- bound, and has freed none but those it had, or had asked about or was shown
-  pub course_then : (c z : ℕ) (all ds : List SetAct) (done fresh : List (Act T)) (owner i b i' b' : ℕ)
+  pub course_then : {c z : ℕ} {all : List SetAct} (ds : List SetAct) {done : List (Act T)} (fresh : List (Act T)) {owner i b i' b' : ℕ}
       → IsInCourse c z all done owner i b → i' < c → b ≤ b' → AreBelow b' (seen_in fresh) → AreBelow b' (asked_in ds)
       → ((j : ℕ) → IsOneOf (Frees j owner) (all ++ ds) → IsOneOf (Frees j owner) all ⊎ AskedOrShown c z all done owner j)
       → IsInCourse c z (all ++ ds) (done ++ fresh) owner i' b'
-  course_then c z all ds done fresh owner i b i' b' in_course low more seen asked freed =
+  course_then {c} {z} {all} ds {done} fresh {owner} {b = b} {b' = b'} in_course low more seen asked freed =
       record {
         within = low;
         seen =
@@ -67,9 +67,9 @@ module _ {T : Type 0} where
 
 -- `c` is the capacity, and `v` what the party sees before its turn, which leaves words, states and calls, and
 -- writes the events `es`
-module _ {T : Type 0} (code : Coding T) (c owner : ℕ) (v : View T) (words' : List ℕ)
+module _ {T : Type 0} (code : Coding T) (c owner : ℕ) (v : View T) {words' : List ℕ}
     (states' : List (ℕ × ContainerState T)) (latest' : List (ℕ × Party T)) (since' changes' backs' : ℕ)
-    (es : List (Event T)) (none : BeginsNone v.party es)
+    {es : List (Event T)} (none : BeginsNone v.party es)
     (set_acts_more : set_acts_of v.party (v.events ++ es) ≡ set_acts_of v.party v.events ++ set_acts es)
     (acts_more : acts_of v.party (v.events ++ es) ≡ acts_of v.party v.events ++ acts es)
     (goes : Goes v.words words' v.events es) where
@@ -125,12 +125,12 @@ module _ {T : Type 0} (code : Coding T) (c owner : ℕ) (v : View T) (words' : L
 
   -- what a recovery knows after a turn, from what it knew, how far it has come, and what it
   -- was told or shown in it
-  pub recovers_then : (k k' : ℕ) (Was Now New But But' : ℕ → Type 0) → Recovers code c owner k Was But v
+  pub recovers_then : {k k' : ℕ} {Was Now : ℕ → Type 0} (New : ℕ → Type 0) {But But' : ℕ → Type 0} → Recovers code c owner k Was But v
       → AskedBelow code c owner k' then_view → SplitsTold New
       → ((i : ℕ) → Was i → (filled_of i (v.events ++ es) ≢ Some owner) ⊎ Now i)
       → ((i : ℕ) → New i → (filled_of i (v.events ++ es) ≢ Some owner) ⊎ Now i)
       → HasHidden code c v.party owner But' (now then_view) → Recovers code c owner k' Now But' then_view
-  recovers_then k k' Was Now New But But' recovers asked told was new hidden =
+  recovers_then {Was = Was} {Now = Now} New recovers asked told was new hidden =
       record {
         dead = gone_more v.terms.by owner events es recovers.dead;
         was_open = held_later p IsUnlocked events es none recovers.was_open;

@@ -200,7 +200,7 @@ module _ {T : Type 0} (recovery : Recovery T) where
         → locks_to ask false locking (Done states.Locked)
     locks_set ask nobody less new paid few =
         let set_does = set_locks.locks (of_set scene) (inv_of_set scene inv) (words_after ws ask) [] set_effects.quiet_none tt tt tt nobody less new in
-        comes_to_next recovery room locks_at here long ask false locking (λ start w. refl)
+        comes_to_next recovery room locks_at here long ask false (λ start w. refl)
         (subst (λ m. AllFollow (Stands promise c) (Open (Container (Recover owner m)) (wrote_of p events)) locking) (sym may_lock) (just, tt))
         (λ y owe.
         locks scene inv (Recover owner mode) (recover_at c owner mode room locks_at) tt here y (words_after ws ask)
@@ -211,12 +211,12 @@ module _ {T : Type 0} (recovery : Recovery T) where
         (λ was. owe))
         index few course.within
         -- the lock frees no index and asks about none, so the recovery keeps its course
-        (λ i low. course_then c z (all scene) (Locks ∷ []) (done scene) [] owner index (index + 1) i (index + 1)
+        (λ i low. course_then (Locks ∷ []) []
         course low (omega arith) tt tt
         (λ j was. ⊎_elim (λ had. inl had) (λ e. absurd (cc)) (was_one (Frees j owner) Locks (all scene) was)))
-        paid (λ y. recs recovery room locks_at here ask false y locking (refl, tt) tt (λ start w. refl)
-        set_does.goes (index + 1) (index + 1) none none none none none knows.1
-        (asked_on recovery room locks_at here ask false y locking (refl, tt) tt (λ start w. refl) set_does.goes (index + 1) knows.1.asked)
+        paid (λ y. recs recovery room locks_at here ask false y (refl, tt) tt (λ start w. refl)
+        set_does.goes knows.1
+        (asked_on recovery room locks_at here ask false y (refl, tt) tt (λ start w. refl) set_does.goes (index + 1) knows.1.asked)
         (λ i said. inl (⊎_elim (λ yes. ⊎_elim (λ had. inl had) (λ e. absurd (cc)) (was_one (Yes i owner) Locks (all scene) yes))
         (λ seen. inr (has_of_none (Sees i) (done scene) seen)) said))
         (λ i e. absurd e) (λ i e. absurd e)

@@ -73,7 +73,7 @@ module _ {T : Type 0} (removing : Removing T) where
 -- ---- any step of a remove
 
 -- a remove of this handle, in mode `mode`, is under way in the turn of the scene
-module _ {T : Type 0} (scene : Scene T) (inv : Inv scene) (index owner : ℕ) (mode : ReleaseMode) (fits : owner < empty) (acts : ActsFor scene owner) where
+module _ {T : Type 0} {scene : Scene T} (inv : Inv scene) (index : ℕ) {owner : ℕ} (mode : ReleaseMode) (fits : owner < empty) (acts : ActsFor scene owner) where
   open scene use {coding as code, capacity as c, party as p, steps as steps, backs as backs, events as events}
 
   -- a step of the remove at this stage, of the place `at`, keeps the invariant
@@ -91,10 +91,9 @@ module _ {T : Type 0} (scene : Scene T) (inv : Inv scene) (index owner : ℕ) (m
       let party_after = party_then scene start None false (Done (answers.NotRemoved ContainerHandleNotOwnedByContainer)) in
       let written = Finished p (Container start) (answers.NotRemoved ContainerHandleNotOwnedByContainer) ∷ [] in
       ends scene start (answers.NotRemoved ContainerHandleNotOwnedByContainer) None false scene.states [] here.span none_lengthens
-      (silently scene inv scene.words refl party_after written (tt, tt) (refl, tt) start
-      (remove_at c at owner mode removes.Refuses) tt here
+      (silently inv scene.words refl party_after written (tt, tt) (refl, tt) tt here
       (was_well_formed scene start tt here.span scene.words party_after written (refl, tt))
-      (owes_none scene start (remove_at c at owner mode removes.Refuses) party_after here refl)
+      (owes_none scene party_after here refl)
       (record {
         asks = (tt, tt);
         recovers = (tt, tt);
@@ -129,6 +128,6 @@ module _ {T : Type 0} (scene : Scene T) (inv : Inv scene) (index owner : ℕ) (m
       subst (StepShows (removes.Releases count stage)) (sym (place_is c index stands.0))
       (λ here k s. release_step (now stands.0) count stage here stands.1 stands.2 k.1 k.2 k.0 s)
   remove_step (removes.Hides count state) stands =
-      subst (StepShows (removes.Hides count state)) (sym (place_is c index stands.0)) (λ here k s. hides_step (now stands.0) count state here stands k s)
+      subst (StepShows (removes.Hides count state)) (sym (place_is c index stands.0)) (λ here k s. hides_step (now stands.0) state here stands k s)
   remove_step (removes.AddsChange state) stands =
       subst (StepShows (removes.AddsChange state)) (sym (place_is c index stands.0)) (λ here k s. end_step (now stands.0) state here stands.1 k s)

@@ -116,16 +116,16 @@ module _ {T : Type 0} (removing : Removing T) where
 
   -- a step of a remove that owes no raise of the changes, which leaves all words but the counter and writes
   -- nothing, keeps what holds of the machine
-  stays_does : (stage : RemoveStage) → IsAtStage stage → (words' : List ℕ) → set_effects.Stays (of_set scene) words'
-      → (y : Party T) → remove_owes stage ≡ false → KeepsInvariant scene words' scene.states y []
-  stays_does stage here words' stays y owes =
+  stays_does : (stage : RemoveStage) → IsAtStage stage → {words' : List ℕ} → set_effects.Stays (of_set scene) words'
+      → {y : Party T} → remove_owes stage ≡ false → KeepsInvariant scene words' scene.states y []
+  stays_does stage here {words'} stays {y} owes =
       let well_formed = was_well_formed scene start tt here.span words' y [] tt in
-      does_with scene inv start (at_stage stage) tt here words' y []
+      does_with scene inv tt here
       (calmly scene inv words' y [] well_formed (λ n behind. stays.others n (omega arith)) stays.leaves.wide
       (calm_none scene inv start (at_stage stage) tt here y words' well_formed)
-      (owes_none scene start (at_stage stage) y here owes))
+      (owes_none scene y here owes))
       (set_effects.quietly (of_set scene) (inv_of_set scene inv) words' [] stays.leaves set_effects.quiet_none tt tt tt)
-      (right_none scene inv start (at_stage stage) tt here y words')
+      (right_none scene inv start (at_stage stage) tt here y)
 
   -- a step that leaves all words but the counter, and writes nothing, leads a remove to the stage `next`,
   -- where the conditions of that stage hold
@@ -136,7 +136,7 @@ module _ {T : Type 0} (removing : Removing T) where
       → Knows code c (at_stage next) (SeesCalmly next ask back) → Leads scene start ask back scene.states [] (GoOn (at_stage next))
   stays_on stage next here owes ask back stays few stands known =
       goes_calmly scene start (at_stage next) ask back scene.states here.span
-      (stays_does stage here (words_after ws ask) stays (then_at next ask back) owes) few (refl, given_is, fits, stands)
+      (stays_does stage here stays owes) few (refl, given_is, fits, stands)
       known
 
   -- a remove that finds another owner in the cell ends with the answer that its handle is not the container's
@@ -149,9 +149,9 @@ module _ {T : Type 0} (removing : Removing T) where
       let written = Finished p (Container start) (answers.NotRemoved ContainerHandleNotOwnedByContainer) ∷ [] in
       let most = total_is c z index owner mode (backs_then scene false) T in
       ends scene start (answers.NotRemoved ContainerHandleNotOwnedByContainer) ask false scene.states [] here.span none_lengthens
-      (silently scene inv (words_after ws ask) same party_after written (tt, tt) (refl, tt) start (at_stage stage) tt here
+      (silently inv (words_after ws ask) same party_after written (tt, tt) (refl, tt) tt here
       (was_well_formed scene start tt here.span (words_after ws ask) party_after written (refl, tt))
-      (owes_none scene start (at_stage stage) party_after here owes)
+      (owes_none scene party_after here owes)
       (record {
         asks = (tt, tt);
         recovers = (tt, tt);
@@ -377,7 +377,7 @@ module _ {T : Type 0} (removing : Removing T) where
             locks scene inv start (at_stage this) tt here y (words_after ws ask)
             (rest_set scene inv start (at_stage this) tt here y (words_after ws ask) 0 locked (omega arith) new)
             (wide_set scene inv start (at_stage this) tt here y (words_after ws ask) 0 locked new) set_does
-            (was_well_formed scene start tt here.span (words_after ws ask) y (Locked p ∷ []) (refl, tt)) (owes_none scene start (at_stage this) y here refl)
+            (was_well_formed scene start tt here.span (words_after ws ask) y (Locked p ∷ []) (refl, tt)) (owes_none scene y here refl)
 
         -- the event of the lock may stand in this remove, which has freed its index
         stands : AllFollow (Stands promise c) (Open (Container (Remove index owner mode)) (wrote_of p events)) (Locked p ∷ [])
@@ -439,7 +439,7 @@ module _ {T : Type 0} (removing : Removing T) where
               (wide_set scene inv start (at_stage this) tt here party_after (words_after ws ask) (cell_word index) empty new)
               index owner does
               (was_well_formed scene start tt here.span (words_after ws ask) party_after written (refl, tt))
-              (owes_none scene start (at_stage this) party_after here refl)
+              (owes_none scene party_after here refl)
               (subst (FreedBy scene.terms.by p index owner events) (sym here.span) tt))
               ((refl, refl, none), tt) (omega arith)
               (refl, given_is, fits, (below, ap (λ d. d ++ Frees index owner ∷ []) none, ap (λ (d : List (Act T)). d ++ []) nothing)) (

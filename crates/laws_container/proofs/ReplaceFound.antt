@@ -117,7 +117,7 @@ module _ {T : Type 0} (replacing : Replacing T) where
       owns_then calm lives may =
           let h =
           knows.owns (calm_less scene.terms.by events es calm) (gone_less scene.terms.by owner events es lives)
-          (earlier p index owner events es none may).may in
+          (earlier none may).may in
           record {
             settled = fold-append (settled_after i) None events es ∙ (settled _ ∙ h.settled);
             latest = fold-append (replacer_after i owner) None events es ∙ (replacer _ ∙ h.latest);
@@ -189,7 +189,7 @@ module _ {T : Type 0} (replacing : Replacing T) where
     -- ---- what stands there is hidden
 
     -- the replace has found the odd number `count`, and hides what stands there
-    module _ (count : ℕ) (here : IsAtStage (replaces.Hides count)) (nothing : done scene ≡ [])
+    module _ {count : ℕ} (here : IsAtStage (replaces.Hides count)) (nothing : done scene ≡ [])
         (odd : count % 2 ≡ 1) (covers : Covers code c owner i count (sees_now scene)) (few_steps : steps ≤ 2) where
       abbrev hide_it : Ask
       hide_it = exchanges (count_word c i) count (one_more count)
@@ -211,7 +211,7 @@ module _ {T : Type 0} (replacing : Replacing T) where
           let wide = inv.elements.wide in
           let party_after = then_at (replaces.Stores 0) (Some hide_it) in
           let told_now = Hidden p i ∷ [] in
-          let new = hides_count scene inv i count below same_count in
+          let new = hides_count inv i count below same_count in
           let now_odd : now_at % 2 ≡ 1 = ap (λ n. n % 2) same_count ∙ odd in
           let well_formed =
           was_going replacing (replaces.Hides count) here knows.filled (words_after ws (Some hide_it)) party_after told_now
@@ -250,7 +250,7 @@ module _ {T : Type 0} (replacing : Replacing T) where
     -- ---- a word is stored
 
     -- the replace has stored the first `at` words of its value, and stores the next one
-    module _ (at : ℕ) (here : IsAtStage (replaces.Stores at))
+    module _ {at : ℕ} (here : IsAtStage (replaces.Stores at))
         (hidden : MayHaveHidden c code.size (all scene) (done scene) i) (ats : at < code.size)
         (has_stored : Writes code c owner i value at (sees_now scene)) (few_steps : steps ≤ 3 + at) where
       abbrev store_it : Ask
@@ -264,7 +264,7 @@ module _ {T : Type 0} (replacing : Replacing T) where
       store_to next owe few stands known =
           goes_calmly scene start (at_stage next) (Some store_it) false scene.states here.span
           (stores_word scene inv start (at_stage (replaces.Stores at)) tt here
-          (then_at next (Some store_it)) (words_after ws (Some store_it)) i below at ats value owner mine
+          (then_at next (Some store_it)) below ats owner mine
           (λ holds. has_stored.has holds (acts.stays holds.kept)) refl
           (was_going replacing (replaces.Stores at) here knows.filled (words_after ws (Some store_it))
           (then_at next (Some store_it)) [] tt tt none_lengthens (omega arith))
@@ -278,7 +278,7 @@ module _ {T : Type 0} (replacing : Replacing T) where
             few = omega arith;
             has = λ holds lives.
                 let before_it = was_calm replacing (replaces.Stores at) here knows.filled (then_at next (Some store_it)) (omega arith) holds in
-                store_writes code c ws events (inv.elements.whole before_it) inv.elements.wide i below value at ats
+                store_writes code c ws events (inv.elements.whole before_it) inv.elements.wide i below ats
                 (has_stored.has before_it (acts.stays before_it.kept));
           }
 
@@ -320,7 +320,7 @@ module _ {T : Type 0} (replacing : Replacing T) where
       y = then_at replaces.AddsChange (Some add_it)
 
       new : words_after ws (Some add_it) ≡ set ws (count_word c i) (one_more count_now)
-      new = adds_to_count scene inv i below
+      new = adds_to_count inv i below
 
       -- the step in which a replace raises the number to an odd one places its value
       place_step : StepOf scene start (at_stage replaces.AddsCount)
@@ -383,11 +383,11 @@ module _ {T : Type 0} (replacing : Replacing T) where
           let well_formed =
           well_formed_before scene.terms p party_after latest events written (refl, tt) (λ h. stands_if replacing replaces.AddsChange here
           (λ few. h.replaced events [] (Finished p (Container start) answers.Done) refl)) in
-          let new = adds_to_change scene inv in
+          let new = adds_to_change inv in
           ends scene start answers.Done (Some end_it) false scene.states [] here.span none_lengthens
-          (ends_counted scene inv start (at_stage replaces.AddsChange) tt here party_after (words_after ws (Some end_it)) answers.Done
+          (ends_counted scene inv start (at_stage replaces.AddsChange) tt here party_after answers.Done
           (set_effects.quietly (of_set scene) (inv_of_set scene inv) (words_after ws (Some end_it)) written
-          (leaves_behind (of_set scene) (inv_of_set scene inv) (words_after ws (Some end_it)) (change_word c) _ (omega arith) new)
+          (leaves_behind (inv_of_set scene inv) (words_after ws (Some end_it)) (change_word c) _ (omega arith) new)
           (quiet_end p (Container start) answers.Done (λ i o. refl) (λ i r. refl))
           (refl, tt) (tt, tt) (tt, tt))
           (below, knows.filled) well_formed (λ holds. placed (well_formed holds)) new says)
@@ -402,7 +402,7 @@ module _ {T : Type 0} (replacing : Replacing T) where
 -- ---- any step of a replace
 
 -- a replace of this value at `index` for `owner` is under way in the turn of the scene
-module _ {T : Type 0} (scene : Scene T) (inv : Inv scene) (index : ℕ) (value : T) (owner : ℕ) (fits : owner < empty) (acts : ActsFor scene owner) where
+module _ {T : Type 0} {scene : Scene T} (inv : Inv scene) (index : ℕ) (value : T) {owner : ℕ} (fits : owner < empty) (acts : ActsFor scene owner) where
   open scene use {coding as code, capacity as c, party as p, steps as steps, backs as backs, events as events, latest as latest}
 
   -- a step of the replace at this stage, of the place `at`, keeps the invariant
@@ -424,14 +424,14 @@ module _ {T : Type 0} (scene : Scene T) (inv : Inv scene) (index : ℕ) (value :
       (λ h. subst (λ o. StandsWellFormed p o events) (sym here.found)
       (λ index' owner' value' wrote' span few found. let taken = here.taken in absurd (omega arith))) in
       ends scene start (answers.NotRemoved ContainerHandleNotOwnedByContainer) None false scene.states [] here.span none_lengthens
-      (ends_calmly scene inv start (replace_at c at value owner replaces.Refuses) tt here party_after scene.words
+      (ends_calmly scene inv start (replace_at c at value owner replaces.Refuses) tt here party_after
       (answers.NotRemoved ContainerHandleNotOwnedByContainer)
       (set_effects.quietly (of_set scene) (inv_of_set scene inv) scene.words written
       (set_effects.stays_same (of_set scene) (inv_of_set scene inv) scene.words refl).leaves
       (quiet_end p (Container start) (answers.NotRemoved ContainerHandleNotOwnedByContainer)
       (λ i o. refl) (λ i r. refl))
       (refl, tt) (tt, tt) (tt, tt))
-      (inl past) well_formed (λ holds. tt) refl (λ i b. refl) (owes_none scene start (replace_at c at value owner replaces.Refuses) party_after here refl))
+      (inl past) well_formed (λ holds. tt) refl (λ i b. refl) (owes_none scene party_after here refl))
       ((refl, (none_done, nothing)), tt) (omega arith) (omega arith)
 
   -- the record of a replace whose index is below the capacity, and which has done nothing to the set
@@ -458,10 +458,10 @@ module _ {T : Type 0} (scene : Scene T) (inv : Inv scene) (index : ℕ) (value :
       subst (StepShows replaces.LoadsCount) (sym (place_is c index stands.0)) (λ here k s. count_step (now stands.0 stands.1) k here stands.2 s)
   replace_step (replaces.Hides count) stands =
       subst (StepShows (replaces.Hides count)) (sym (place_is c index stands.0))
-      (λ here k s. hide_step (now stands.0 stands.1) k.0 count here stands.2 stands.3 k.1 s)
+      (λ here k s. hide_step (now stands.0 stands.1) k.0 here stands.2 stands.3 k.1 s)
   replace_step (replaces.Stores word) stands =
       subst (StepShows (replaces.Stores word)) (sym (place_is c index stands.0))
-      (λ here k s. store_step (now stands.0 stands.1) k.0 word here stands.2 stands.3 k.1 s)
+      (λ here k s. store_step (now stands.0 stands.1) k.0 here stands.2 stands.3 k.1 s)
   replace_step replaces.AddsCount stands =
       subst (StepShows replaces.AddsCount) (sym (place_is c index stands.0)) (λ here k s. place_step (now stands.0 stands.1) k.0 here stands.2 k.1 s)
   replace_step replaces.AddsChange stands =

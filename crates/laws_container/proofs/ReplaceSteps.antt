@@ -104,7 +104,7 @@ module _ {T : Type 0} (replacing : Replacing T) where
       span_of-own p events es own ∙ (ap (λ s. fold own_after s es) here.span ∙ longer start (wrote_of p events)) in
       let stands : StandsWellFormed p (Some y) (events ++ es) =
       subst (λ o. StandsWellFormed p o (events ++ es)) (party_put_same p y latest) (well_formed_so_far.replaces p) in
-      (earlier p index owner events es none
+      (earlier none
       (stands index owner value (wrote_of p events ++ es) span few (held_later p (IsFilledWith owner index) events es none filled))).may
 
   -- the run was well-formed before a step of a replace that has found its owner, if it is after it
@@ -166,7 +166,7 @@ module _ {T : Type 0} (replacing : Replacing T) where
       → Leads scene start (Some ask) false scene.states [] (GoOn (at_stage next))
   calm_step stage next ask same here filled owe few stands known =
       goes_calmly scene start (at_stage next) (Some ask) false scene.states here.span
-      (loads scene inv start (at_stage stage) tt here (then_at next (Some ask)) (words_after ws (Some ask)) same
+      (loads scene inv start (at_stage stage) tt here (then_at next (Some ask)) same
       (was_going stage here filled (words_after ws (Some ask)) (then_at next (Some ask)) [] tt tt none_lengthens (omega arith))
       (λ was. owe))
       few (refl, given_is, fits, stands) known
@@ -190,15 +190,14 @@ module _ {T : Type 0} (replacing : Replacing T) where
         well_formed_before scene.terms p party_after latest events written (refl, tt)
         (λ h. stands_if replaces.LoadsCell here (λ few. absurd (omega arith))) in
         ends scene start (answers.NotRemoved ContainerHandleNotOwnedByContainer) (Some load_cell) false scene.states [] here.span none_lengthens
-        (ends_calmly scene inv start (at_stage replaces.LoadsCell) tt here party_after
-        (words_after ws (Some load_cell)) (answers.NotRemoved ContainerHandleNotOwnedByContainer)
+        (ends_calmly scene inv start (at_stage replaces.LoadsCell) tt here party_after (answers.NotRemoved ContainerHandleNotOwnedByContainer)
         (set_effects.quietly (of_set scene) (inv_of_set scene inv) (words_after ws (Some load_cell)) written
         (set_effects.stays_same (of_set scene) (inv_of_set scene inv) (words_after ws (Some load_cell)) same).leaves
         (quiet_end p (Container start)
         (answers.NotRemoved ContainerHandleNotOwnedByContainer) (λ i o. refl) (λ i r. refl))
         (refl, tt) (tt, tt) (tt, tt))
         (inr (λ filled. other (inv.good.cells index below ∙ ap cell_of filled))) well_formed (λ holds. tt) same
-        (λ i b. refl) (owes_none scene start (at_stage replaces.LoadsCell) party_after here refl))
+        (λ i b. refl) (owes_none scene party_after here refl))
         ((refl, (none_done, nothing)), tt) (omega arith) (omega arith)
 
     -- a cell that has the owner now had him at a moment of the call

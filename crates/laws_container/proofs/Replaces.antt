@@ -19,9 +19,9 @@ module _ {T : Type 0} where
   -- ---- it begins
 
   -- a replace has its right as it begins
-  pub replace_begun : (by : GoneBy) (p i o : ℕ) (value : T) (events : List (Event T))
+  pub replace_begun : (by : GoneBy) {p : ℕ} (i o : ℕ) (value : T) (events : List (Event T))
       → ReplaceOwns by p i o (events ++ Begun p (Container (Replace i value o)) ∷ [])
-  replace_begun by p i o value events calm alive may =
+  replace_begun by {p} i o value events calm alive may =
       let was : settled_of i events ≡ Some o =
       since_begun p (λ part. settled_of i part ≡ Some o) events (Container (Replace i value o))
       (record { before = may.before; start = may.start; since = may.since; is = may.is; within = may.within; holds = may.holds.0 }) in
@@ -54,8 +54,8 @@ module _ {T : Type 0} where
 
   -- a replace that may replace after events that begin no call of its party might do so before them, and none
   -- of them begins to give back or replace at the index for its owner
-  pub earlier : (p i o : ℕ) (events es : List (Event T)) → BeginsNone p es → MayReplace p i o (events ++ es) → Earlier p i o events es
-  earlier p i o events es none may =
+  pub earlier : {p i o : ℕ} {events es : List (Event T)} → BeginsNone p es → MayReplace p i o (events ++ es) → Earlier p i o events es
+  earlier {p} {i} {o} {events} {es} none may =
       let k =
       began_earlier p events es may.before may.start may.since may.is none may.within in
       let same : may.since ≡ k.since ++ es =
@@ -88,10 +88,10 @@ module _ {T : Type 0} where
       ap (λ r. fold (replacer_after i o) r es) (replacer_stays i o party e none_takes.0) ∙ replacers_stay i o party es none_takes.1
 
   -- any turn of another party leaves a replace its right
-  pub replace_later : (by : GoneBy) (events es : List (Event T)) (q i o : ℕ) → Spares by q events es
+  pub replace_later : {by : GoneBy} {events es : List (Event T)} {q : ℕ} (i o : ℕ) → Spares by q events es
       → ReplaceOwns by q i o events → ReplaceOwns by q i o (events ++ es)
-  replace_later by events es q i o spares has_right calm alive may =
-      let before = earlier q i o events es spares.none may in
+  replace_later {by} {events} {es} {q} i o spares has_right calm alive may =
+      let before = earlier spares.none may in
       let lives = gone_less by o events es alive in
       let own = has_right (calm_less by events es calm) lives before.may in
       record {
@@ -100,10 +100,10 @@ module _ {T : Type 0} where
       }
 
   -- any turn of another party leaves an add its right
-  pub add_later : (by : GoneBy) (events es : List (Event T)) (q i o : ℕ) → Spares by q events es
+  pub add_later : {by : GoneBy} {events es : List (Event T)} {q i o : ℕ} → Spares by q events es
       → (IsCalm by events → is_gone by o events ≡ false → Adds q i o events) → IsCalm by (events ++ es)
       → is_gone by o (events ++ es) ≡ false → Adds q i o (events ++ es)
-  add_later by events es q i o spares adds calm alive =
+  add_later {by} {events} {es} {i = i} {o = o} spares adds calm alive =
       let lives = gone_less by o events es alive in
       let own = adds (calm_less by events es calm) lives in
       record { by = spares.owned calm i o lives own.by; held = spares.held calm i o lives own.by own.held }

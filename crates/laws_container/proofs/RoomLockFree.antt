@@ -94,8 +94,8 @@ module _ (c size : ℕ) (some : 1 ≤ c) (wide : 1 ≤ size) (words : List ℕ) 
   behind_most : (index : ℕ) → behind size c each_is index ≤ (c - 1) * each_is
   behind_most index = worth (c - (index + 1)) (c - 1) each_is (omega arith)
 
-  ends_most : (k n : ℕ) → n ≤ (c - 1) * each_is → k ≤ each_is + c + max 2 size → n + k ≤ owns size c
-  ends_most k n less end = let all = owns_is in omega arith
+  ends_most : (k : ℕ) {n : ℕ} → n ≤ (c - 1) * each_is → k ≤ each_is + c + max 2 size → n + k ≤ owns size c
+  ends_most k less end = let all = owns_is in omega arith
 
   few_most : (k : ℕ) → k ≤ each_is + c + max 2 size → k ≤ owns size c
   few_most k end = let all = owns_is in omega arith
@@ -112,24 +112,24 @@ module _ (c size : ℕ) (some : 1 ≤ c) (wide : 1 ≤ size) (words : List ℕ) 
 
   -- at each stage a recovery has at most `owns` own steps
   recover_most : (stage : RecoverStage) → recover_own size c words stage ≤ owns size c
-  recover_most recovers.LoadsCounter = let max = two in ends_most (each_is + 2) _ (behind_most 0) (omega arith)
-  recover_most (recovers.LoadsCell index) = let max = two in ends_most (each_is + 1) _ (behind_most index) (omega arith)
-  recover_most (recovers.LoadsCount index) = ends_most each_is _ (behind_most index) (omega arith)
+  recover_most recovers.LoadsCounter = let max = two in ends_most (each_is + 2) (behind_most 0) (omega arith)
+  recover_most (recovers.LoadsCell index) = let max = two in ends_most (each_is + 1) (behind_most index) (omega arith)
+  recover_most (recovers.LoadsCount index) = ends_most each_is (behind_most index) (omega arith)
   recover_most (recovers.LoadsWord index count at) =
       let max = two in let most = again_most index count in
-      ends_most (size - (at + 1) + 7 + (c - 1 + 3) + again_at size c words index count) _ (behind_most index) (omega arith)
+      ends_most (size - (at + 1) + 7 + (c - 1 + 3) + again_at size c words index count) (behind_most index) (omega arith)
   recover_most (recovers.ChecksCount index count) =
       let max = two in let most = again_most index count in
-      ends_most (6 + (c - 1 + 3) + again_at size c words index count) _ (behind_most index) (omega arith)
-  recover_most (recovers.Asks index count) = ends_most (5 + (c - 1 + 3)) _ (behind_most index) (omega arith)
-  recover_most (recovers.EmptiesCell index count) = ends_most (5 + (c - 1 + 3)) _ (behind_most index) (omega arith)
-  recover_most (recovers.Hides index count) = ends_most (4 + (c - 1 + 3)) _ (behind_most index) (omega arith)
+      ends_most (6 + (c - 1 + 3) + again_at size c words index count) (behind_most index) (omega arith)
+  recover_most (recovers.Asks index count) = ends_most (5 + (c - 1 + 3)) (behind_most index) (omega arith)
+  recover_most (recovers.EmptiesCell index count) = ends_most (5 + (c - 1 + 3)) (behind_most index) (omega arith)
+  recover_most (recovers.Hides index count) = ends_most (4 + (c - 1 + 3)) (behind_most index) (omega arith)
   recover_most (recovers.Raises index raise) =
       let most = raise_most c (get_or words 0 0) raise in
-      ends_most (2 + (c - 1 + 3) + raise_left (get_or words 0 0) raise) _ (behind_most index) (omega arith)
+      ends_most (2 + (c - 1 + 3) + raise_left (get_or words 0 0) raise) (behind_most index) (omega arith)
   recover_most (recovers.Locks index lock) =
       let most = lock_most c (get_or words 0 0) lock in
-      ends_most (2 + lock_left c (get_or words 0 0) lock) _ (behind_most index) (omega arith)
+      ends_most (2 + lock_left c (get_or words 0 0) lock) (behind_most index) (omega arith)
   recover_most recovers.LoadsCounterAgain = few_most 1 (omega arith)
   recover_most (recovers.AddsChange state) = omega arith
 

@@ -12,8 +12,8 @@ use Rattle.laws_container.proofs.Stages.{NoLook, IsUnderWay, does_with}
 use Rattle.laws_container.proofs.Turns.{WellFormed}
 
 -- a call that is no look takes a step that leaves all words but the counter
-module _ {T : Type 0} (scene : Scene T) (inv : Inv scene) (start : ContainerStart T) (flight : ContainerFlight T)
-    (none : NoLook flight) (here : IsUnderWay scene start flight) (y : Party T) (words' : List ℕ)
+module _ {T : Type 0} {scene : Scene T} (inv : Inv scene) {start : ContainerStart T} {flight : ContainerFlight T}
+    (none : NoLook flight) (here : IsUnderWay scene start flight) (y : Party T) {words' : List ℕ}
     (stays : Stays (of_set scene) words') where
   open scene use {capacity as c, party as p, events as events}
 
@@ -21,7 +21,7 @@ module _ {T : Type 0} (scene : Scene T) (inv : Inv scene) (start : ContainerStar
   pub moves : (well_formed : WellFormed (after scene words' y []) → WellFormed (before scene))
       → OwesStill scene inv words' y [] well_formed → KeepsInvariant scene words' scene.states y []
   moves well_formed still =
-      does_with scene inv start flight none here words' y []
+      does_with scene inv none here
       (calmly scene inv words' y [] well_formed (λ n behind. stays.others n (omega arith)) stays.leaves.wide
       (reads_same scene inv words' y [] well_formed (λ i o. refl) (λ i b. refl) (λ i b. refl)) still)
       (quietly (of_set scene) (inv_of_set scene inv) words' [] stays.leaves quiet_none tt tt tt)
@@ -42,7 +42,7 @@ module _ {T : Type 0} (scene : Scene T) (inv : Inv scene) (start : ContainerStar
         → OwesStill scene inv words' y (Finished p (Container start) answer ∷ []) well_formed
         → KeepsInvariant scene words' scene.states y (Finished p (Container start) answer ∷ [])
     ends_there quiet says right well_formed placed still =
-        does_with scene inv start flight none here words' y finish
+        does_with scene inv none here
         (calmly scene inv words' y finish well_formed (λ n behind. stays.others n (omega arith)) stays.leaves.wide
         (reads_same scene inv words' y finish well_formed (λ i o. refl) says (λ i b. refl)) still)
         (quietly (of_set scene) (inv_of_set scene inv) words' finish stays.leaves quiet (refl, tt) (tt, tt) (tt, tt))

@@ -43,12 +43,12 @@ module _ {T : Type 0} (scene : Scene T) (inv : Inv scene) (start : ContainerStar
   -- words behind the cells
   module _ (words' : List ℕ) (rest : LeavesRest words') (wide : length words' ≡ length ws) where
     -- filling an index keeps the invariant
-    pub fills : (i owner : ℕ) → set_invariant.Does (of_set scene) words' (Filled p i owner ∷ [])
+    pub fills : {i owner : ℕ} → set_invariant.Does (of_set scene) words' (Filled p i owner ∷ [])
         → (well_formed : WellFormedBefore words' (Filled p i owner ∷ []))
         → OwesStill scene inv words' y (Filled p i owner ∷ []) well_formed
         → KeepsInvariant scene words' scene.states y (Filled p i owner ∷ [])
-    fills i owner does well_formed still =
-        does_with scene inv start flight none here words' y (Filled p i owner ∷ [])
+    fills {i} {owner} does well_formed still =
+        does_with scene inv none here
         (calmly scene inv words' y (Filled p i owner ∷ []) well_formed rest wide
         (reads_same scene inv words' y (Filled p i owner ∷ []) well_formed (λ j o. refl) (λ j b. refl) (λ j b. refl)) still) does
         (record { asks = (tt, tt); recovers = (tt, tt); answers = (tt, tt); contains = λ holds. (tt, tt); places = λ holds. (tt, tt) })
@@ -59,7 +59,7 @@ module _ {T : Type 0} (scene : Scene T) (inv : Inv scene) (start : ContainerStar
         → OwesStill scene inv words' y (Granted p i owner ∷ []) well_formed
         → KeepsInvariant scene words' scene.states y (Granted p i owner ∷ [])
     grants i owner does well_formed still =
-        does_with scene inv start flight none here words' y (Granted p i owner ∷ [])
+        does_with scene inv none here
         (calmly scene inv words' y (Granted p i owner ∷ []) well_formed rest wide
         (reads_same scene inv words' y (Granted p i owner ∷ []) well_formed (λ j o. refl) (λ j b. refl) (λ j b. refl)) still) does
         (record { asks = (tt, tt); recovers = (tt, tt); answers = (tt, tt); contains = λ holds. (tt, tt); places = λ holds. (tt, tt) })
@@ -69,7 +69,7 @@ module _ {T : Type 0} (scene : Scene T) (inv : Inv scene) (start : ContainerStar
         → (well_formed : WellFormedBefore words' (Locked p ∷ []))
         → OwesStill scene inv words' y (Locked p ∷ []) well_formed → KeepsInvariant scene words' scene.states y (Locked p ∷ [])
     locks does well_formed still =
-        does_with scene inv start flight none here words' y (Locked p ∷ [])
+        does_with scene inv none here
         (calmly scene inv words' y (Locked p ∷ []) well_formed rest wide
         (reads_same scene inv words' y (Locked p ∷ []) well_formed (λ j o. refl) (λ j b. refl) (λ j b. refl)) still) does
         (record { asks = (tt, tt); recovers = (tt, tt); answers = (tt, tt); contains = λ holds. (tt, tt); places = λ holds. (tt, tt) })
@@ -113,7 +113,7 @@ module _ {T : Type 0} (scene : Scene T) (inv : Inv scene) (start : ContainerStar
           → RecoversBy scene.terms.by events (FreedOf p i owner)
           → KeepsInvariant scene words' scene.states y (FreedOf p i owner ∷ [])
       frees still right =
-          does_with scene inv start flight none here words' y free
+          does_with scene inv none here
           (calmly scene inv words' y free well_formed rest wide
           (record {
             contents = λ j. fold-append (contents_after j) None events free;

@@ -10,7 +10,7 @@ use Rattle.laws_robust.proofs.Effects.{Leaves}
 use Rattle.laws_container.proofs.Writers.{Adds}
 
 -- `scene` is a turn of party `p` on the set of indices, with the set before it
-module _ {T : Type 0} (scene : Scene T) (inv : Inv scene) where
+module _ {T : Type 0} {scene : Scene T} (inv : Inv scene) where
   open scene use {by as by, capacity as c, party as p, turns as turns, events as events}
 
   abbrev ws : List ℕ
@@ -28,8 +28,8 @@ module _ {T : Type 0} (scene : Scene T) (inv : Inv scene) where
   -- ---- events that change nothing of the set
 
   -- that a value is placed changes nothing of the set
-  pub quiet_placed : (i : ℕ) (value : T) → Quiet (Placed p i value ∷ [])
-  quiet_placed i value = grind arith
+  pub quiet_placed : {i : ℕ} {value : T} → Quiet (Placed p i value ∷ [])
+  quiet_placed = grind arith
 
   -- that a value is hidden changes nothing of the set
   pub quiet_hidden : (i : ℕ) → Quiet {T = T} (Hidden p i ∷ [])
@@ -38,7 +38,7 @@ module _ {T : Type 0} (scene : Scene T) (inv : Inv scene) where
   -- ---- an add that was granted an index is done
 
   -- an add that was granted index `i` ends
-  module _ (words' : List ℕ) (stays : Leaves scene words') (i owner : ℕ) (value : T)
+  module _ {words' : List ℕ} (stays : Leaves scene words') {i owner : ℕ} (value : T)
       (mine : IsCalm by (events ++ Finished p (Container (Add value owner)) (Index i) ∷ []) → Adds p i owner events) where
     abbrev es : List (Event T)
     es = Finished p (Container (Add value owner)) (Index i) ∷ []

@@ -90,7 +90,7 @@ module _ {T : Type 0} where
   silent_quiet = grind (arith, fold_stays, filled_stays, holder_stays, settled_stays, right_stays, locked_stays, dead_stays, all_right, holds_right)
 
 -- the step leaves the words, and writes the silent events `es`
-module _ {T : Type 0} (scene : Scene T) (inv : Inv scene) (words' : List ℕ) (same : words' ≡ scene.words)
+module _ {T : Type 0} {scene : Scene T} (inv : Inv scene) (words' : List ℕ) (same : words' ≡ scene.words)
     (y : Party T) (es : List (Event T)) (silent : AllByRecursion Silent es) (own : AreOwn scene.party es) where
   open scene use {capacity as c, events as events}
 
@@ -113,9 +113,9 @@ module _ {T : Type 0} (scene : Scene T) (inv : Inv scene) (words' : List ℕ) (s
       still
 
   -- a step that leaves the words and writes silent events, of a call that is no look, keeps the invariant
-  pub silently : (start : ContainerStart T) (flight : ContainerFlight T) (none : NoLook flight) (here : IsUnderWay scene start flight)
+  pub silently : {start : ContainerStart T} {flight : ContainerFlight T} (none : NoLook flight) (here : IsUnderWay scene start flight)
       → (well_formed : WellFormed (after scene words' y es) → WellFormed (before scene))
       → OwesStill scene inv words' y es well_formed → AreAllRight scene words' y es
       → KeepsInvariant scene words' scene.states y es
-  silently start flight none here well_formed still right =
-      does_with scene inv start flight none here words' y es (silent_changes well_formed still) silent_set right
+  silently {start} {flight} none here well_formed still right =
+      does_with scene inv none here (silent_changes well_formed still) silent_set right

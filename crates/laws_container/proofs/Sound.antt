@@ -200,15 +200,15 @@ module _ {T : Type 0} (shown : Shown T) (terms : Terms) (code : Coding T) (c : �
 
     -- a step of a call at its stage, which the rows do not refuse and which acts for nobody who is gone,
     -- leads to a sound machine
-    pub comes : MayGoOn terms t → (start : Start T) (flight : Flight T) → IsRightly flight
+    pub comes : MayGoOn terms t → {start : Start T} {flight : Flight T} → IsRightly flight
         → first_row (going_rows code kept_now (Some flight) None) ≡ None
         → StandsThere (family_by terms code c) t sound p x since start flight
         → ComesFrom (family_by terms code c) t sound p x since code sound.state.words kept_now start flight
-    comes may (Container start) (flights.Container flight) rightly rows_pass stands_there =
+    comes may {start = (Container start)} {flight = (flights.Container flight)} rightly rows_pass stands_there =
         let there = is_there start flight stands_there in
         let inv = inv_with may in
         let moves =
-        step_moves (scene_of p x since) inv (shown.calls (scene_of p x since) inv) start flight there.at there.here
+        step_moves inv (shown.calls (scene_of p x since) inv) start flight there.at there.here
         (passes flight None rows_pass) rightly there.steps there.knows in
         record {
           state = _;
@@ -218,19 +218,19 @@ module _ {T : Type 0} (shown : Shown T) (terms : Terms) (code : Coding T) (c : �
               owes (scene_of p x since) _ _ (Open (Container start) (wrote_of p t.events)) _ _ _ moves sound.state
               state_is sound.holds sound.inv there.here.span;
         }
-    comes may start flight rightly rows_pass stands_there = absurd stands_there.at
+    comes may rightly rows_pass stands_there = absurd stands_there.at
 
     -- ---- a decision
 
     -- a decision that a call at its stage waits for leads to a sound machine
-    pub decides : MayGoOn terms t → (said : Bool) (start : Start T) (flight : Flight T)
+    pub decides : MayGoOn terms t → (said : Bool) {start : Start T} {flight : Flight T}
         → is_question (want_of code flight) ≡ true → StandsThere (family_by terms code c) t sound p x since start flight
         → DecidesFrom (family_by terms code c) t sound p x since code (number_of said) sound.state.words kept_now start flight
-    decides may said (Container start) (flights.Container flight) asks stands_there =
+    decides may said {start = (Container start)} {flight = (flights.Container flight)} asks stands_there =
         let there = is_there start flight stands_there in
         let inv = inv_with may in
         let moves =
-        decision_moves (scene_of p x since) inv (shown.calls (scene_of p x since) inv) said start flight there.at
+        decision_moves inv (shown.calls (scene_of p x since) inv) said start flight there.at
         there.here asks there.steps there.knows in
         record {
           state = _;
@@ -240,7 +240,7 @@ module _ {T : Type 0} (shown : Shown T) (terms : Terms) (code : Coding T) (c : �
               owes (scene_of p x since) _ _ (Open (Container start) (wrote_of p t.events)) _ _ _ moves sound.state
               state_is sound.holds sound.inv there.here.span;
         }
-    decides may said start flight asks stands_there = absurd stands_there.at
+    decides may said asks stands_there = absurd stands_there.at
 
   -- ---- a call begins
 
@@ -297,8 +297,8 @@ module _ {T : Type 0} (shown : Shown T) (terms : Terms) (code : Coding T) (c : �
     MayRecoverIn start = Unit {0}
 
     -- a call of which the machine's rows do not refuse the begin may recover its owner, if it is a recovery
-    pub recovers_by : (start : Start T) → MayBegin t.world p start → MayRecoverIn start
-    recovers_by start may = grind arith
+    pub recovers_by : {start : Start T} → MayBegin t.world p start → MayRecoverIn start
+    recovers_by may = grind arith
 
     -- any call that the container may begin leads to a sound machine
     pub begin_comes : (start : Start T) (flight : Flight T) → MayRecoverIn start
@@ -322,8 +322,8 @@ module _ {T : Type 0} (shown : Shown T) (terms : Terms) (code : Coding T) (c : �
       }
 
   -- the death of an owner who may die leads to a sound machine
-  death_comes : (o : ℕ) → MayDie t.world o → frame.ComesByDeath (family_by terms code c) t sound o
-  death_comes o may =
+  death_comes : {o : ℕ} → MayDie t.world o → frame.ComesByDeath (family_by terms code c) t sound o
+  death_comes {o} may =
       let set_good = sound.holds.good in
       let alive : is_dead o t.events ≡ false = sym (set_good.died o) ∙ subst (λ kept. families.is_dead kept o ≡ false) sound.fit.kept may.lives in
       let d =
@@ -368,11 +368,11 @@ module _ {T : Type 0} (shown : Shown T) where
   turns code c =
       record {
         begin = λ t s p start flight may named rows.
-            begin_comes shown dying code c t s p start flight (recovers_by shown dying code c t s p start may) may.free named;
+            begin_comes shown dying code c t s p start flight (recovers_by shown dying code c t s p may) may.free named;
         step = λ t s p x since may found start flight rows here.
-            comes shown dying code c t s p x since found may start flight (dying_rightly code c t s p x since found flight rows) rows here;
-        decision = λ t s p x since said may found start flight rows asks here. decides shown dying code c t s p x since found may said start flight asks here;
-        death = λ t o s may. death_comes shown dying code c t s o may;
+            comes shown dying code c t s p x since found may (dying_rightly code c t s p x since found flight rows) rows here;
+        decision = λ t s p x since said may found start flight rows asks here. decides shown dying code c t s p x since found may said asks here;
+        death = λ t o s may. death_comes shown dying code c t s may;
       }
 
   -- the opening of a container of an admitted capacity is sound

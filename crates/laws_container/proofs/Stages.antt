@@ -232,10 +232,10 @@ module _ {T : Type 0} (scene : Scene T) where
   owes_is = grind (arith, owes)
 
   -- where the call under way owes no raise, there is none that its party could fail to owe after the step
-  pub owes_none : (start : ContainerStart T) (flight : ContainerFlight T) (y : Party T) → IsUnderWay start flight
+  pub owes_none : {start : ContainerStart T} {flight : ContainerFlight T} (y : Party T) → IsUnderWay start flight
       → flight_owes flight ≡ false → owes (flight_of (doing_of (party_of p latest))) ≡ true
       → owes (flight_of (Some y.doing)) ≡ true
-  owes_none start flight y here not was = both_ways (flight_owes flight) not (sym (owes_is start flight here) ∙ was)
+  owes_none {start} {flight} y here not was = both_ways (flight_owes flight) not (sym (owes_is start flight here) ∙ was)
 
   -- ---- a turn ago
 
@@ -267,22 +267,22 @@ module _ {T : Type 0} (scene : Scene T) where
   no_look flight is_no_look = grind arith
 
   -- the call under way is no look
-  module _ (inv : Inv scene) (start : ContainerStart T) (flight : ContainerFlight T) (none : NoLook flight) (here : IsUnderWay start flight) where
+  module _ (inv : Inv scene) {start : ContainerStart T} {flight : ContainerFlight T} (none : NoLook flight) (here : IsUnderWay start flight) where
     pub is_idle_now : is_looking (flight_of (doing_of (party_of p latest))) ≡ false
     is_idle_now = grind (arith, no_look)
 
     -- a turn that leaves the parties' states keeps the invariant, if it keeps what holds of the set, of the
     -- elements and of the events
-    pub does_with : (words' : List ℕ) (y : Party T) (es : List (Event T)) → invariant.KeepsElements scene words' y es
+    pub does_with : {words' : List ℕ} {y : Party T} {es : List (Event T)} → invariant.KeepsElements scene words' y es
         → set_invariant.Does (invariant.of_set scene) words' es → AreAllRight scene words' y es
         → KeepsInvariant scene words' scene.states y es
-    does_with words' y es changes set right =
+    does_with {words'} {y} {es} changes set right =
         record {
           set = set;
           changes = changes;
           right = right;
           others = λ q ne. refl;
           rests =
-              λ s idle found. rests_later code c (before scene) (invariant.after scene words' y es) es refl
+              λ s idle found. rests_later code c es refl
               changes.passes p s (inv.elements.rests p s is_idle_now found);
         }

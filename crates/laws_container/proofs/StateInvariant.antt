@@ -73,7 +73,7 @@ module _ {T : Type 0} (code : Coding T) (c : ℕ) where
   -- ---- any turn
 
   -- a turn leads from the machine `m` to `m'`; `s` is the state of party `q`
-  module _ (m m' : Now T) (es : List (Event T)) (more : m'.events ≡ m.events ++ es) (passes : Passes code c m m') (q : ℕ) (s : ContainerState T) where
+  module _ {m m' : Now T} (es : List (Event T)) (more : m'.events ≡ m.events ++ es) (passes : Passes code c m m') (q : ℕ) (s : ContainerState T) where
     -- a number that a state has found and that is the element's after the turn was the element's before it,
     -- and has not moved
     still : Keeps m'.terms → (i : ℕ) → i < c → number_at s i ≤ count_in code c m i
@@ -98,9 +98,9 @@ module _ {T : Type 0} (code : Coding T) (c : ℕ) where
     -- the state of a look is as it was after a turn in which its party begins no call, if no number changes
     -- while it is alone
     pub course_later : {what : Option (ℕ × T)} → CallsOn q what m.events m'.events → BeginsNone q es
-        → (WasAlone q m'.events → (i : ℕ) → i < c → count_in code c m' i ≡ count_in code c m i) → (k x : ℕ)
+        → (WasAlone q m'.events → (i : ℕ) → i < c → count_in code c m' i ≡ count_in code c m i) → {k x : ℕ}
         → Course m q s k x → Course m' q s k x
-    course_later {what} calls_on none steady k x course =
+    course_later {what} calls_on none steady {k} {x} course =
         record {
           sight = sight_later k x course.sight;
           known = course.known;
@@ -118,5 +118,5 @@ module _ {T : Type 0} (code : Coding T) (c : ℕ) where
               (held_later q (λ part. shows s i ≡ contents_of i part) m.events es none (course.once (passes.well_formed well_formed) i ks low));
           alone = λ was i ks low.
               course.alone (alone_less q m.events es none (subst (WasAlone q) more was)) i ks low ∙ sym (steady was i low);
-          own = own_later q what m.events m'.events calls_on s x course.own;
+          own = own_later calls_on s x course.own;
         }

@@ -35,8 +35,8 @@ module _ {T : Type 0} (scene : Scene T) (inv : Inv scene) (start : ContainerStar
   WellFormedBefore words' es = WellFormed (after scene words' y es) → WellFormed (before scene)
 
   -- of the empty list of events all are right
-  pub right_none : (words' : List ℕ) → AreAllRight scene words' y []
-  right_none words' =
+  pub right_none : {words' : List ℕ} → AreAllRight scene words' y []
+  right_none =
       record { asks = tt; recovers = tt; answers = tt; contains = λ well_formed. tt; places = λ well_formed. tt }
 
   -- to write nothing changes no reading of the elements
@@ -47,32 +47,32 @@ module _ {T : Type 0} (scene : Scene T) (inv : Inv scene) (start : ContainerStar
 
   -- a step that leaves the words and writes nothing keeps the invariant, if a raise that is owed to the
   -- changes is owed still
-  pub loads : (words' : List ℕ) → words' ≡ ws → (well_formed : WellFormedBefore words' [])
+  pub loads : {words' : List ℕ} → words' ≡ ws → (well_formed : WellFormedBefore words' [])
       → OwesStill scene inv words' y [] well_formed → KeepsInvariant scene words' scene.states y []
-  loads words' same well_formed still =
-      does_with scene inv start flight none here words' y []
+  loads {words'} same well_formed still =
+      does_with scene inv none here
       (calmly scene inv words' y [] well_formed (λ n behind. ap (λ w. get_or w n 0) same) (ap length same) (calm_none words' well_formed) still)
       (set_effects.quietly (of_set scene) (inv_of_set scene inv) words' []
       (set_effects.stays_same (of_set scene) (inv_of_set scene inv) words' same).leaves set_effects.quiet_none tt tt
       tt)
-      (right_none words')
+      (right_none)
 
   -- ---- a writer stores a word
 
   -- a store of the next word of a value, by a party that may write there, keeps the invariant
   pub stores_word :
-      (words' : List ℕ) (i : ℕ) (below : i < c) (k : ℕ) (ks : k < code.size) (value : T) (owner : ℕ)
+      {words' : List ℕ} {i : ℕ} (below : i < c) {k : ℕ} (ks : k < code.size) {value : T} (owner : ℕ)
       → (WellFormed (before scene) → IsWriter p i owner events)
       → (WellFormed (before scene) → Writing code c ws i value k)
       → words' ≡ set ws (element_word c code.size i k) (get_or (code.words_of value) k 0)
       → (well_formed : WellFormedBefore words' []) → OwesStill scene inv words' y [] well_formed → KeepsInvariant scene words' scene.states y []
-  stores_word words' i below k ks value owner mine writing new well_formed still =
-      does_with scene inv start flight none here words' y []
-      (stores scene inv words' y [] well_formed i below k ks value owner mine writing new (calm_none words' well_formed) still)
+  stores_word {words'} {i} below {k} ks {value} owner mine writing new well_formed still =
+      does_with scene inv none here
+      (stores scene inv words' y [] well_formed below ks owner mine writing new (calm_none words' well_formed) still)
       (set_effects.quietly (of_set scene) (inv_of_set scene inv) words' []
-      (leaves_behind (of_set scene) (inv_of_set scene inv) words' (element_word c code.size i k) _ (omega arith) new)
+      (leaves_behind (inv_of_set scene inv) words' (element_word c code.size i k) _ (omega arith) new)
       set_effects.quiet_none tt tt tt)
-      (right_none words')
+      (right_none)
 
   -- ---- the number of an element changes
 
@@ -84,7 +84,7 @@ module _ {T : Type 0} (scene : Scene T) (inv : Inv scene) (start : ContainerStar
     n = count_in code c (before scene) i
 
     leaves : set_effects.Leaves (of_set scene) words'
-    leaves = leaves_behind (of_set scene) (inv_of_set scene inv) words' (count_word c i) (one_more n) (omega arith) new
+    leaves = leaves_behind (inv_of_set scene inv) words' (count_word c i) (one_more n) (omega arith) new
 
     -- the number is odd, so the step hides what stands at the index
     module _ (odd : n % 2 ≡ 1)
@@ -124,10 +124,10 @@ module _ {T : Type 0} (scene : Scene T) (inv : Inv scene) (start : ContainerStar
       -- hiding what stands at an index keeps the invariant
       pub hides : KeepsInvariant scene words' scene.states y (Hidden p i ∷ [])
       hides =
-          does_with scene inv start flight none here words' y (Hidden p i ∷ [])
+          does_with scene inv none here
           (counts_one scene inv words' y (Hidden p i ∷ []) well_formed i below new (refl, tt) (Container start) (wrote_of p events) here.span owed counted)
           (set_effects.quietly (of_set scene) (inv_of_set scene inv) words' (Hidden p i ∷ []) leaves
-          (quiet_hidden (of_set scene) (inv_of_set scene inv) i) (refl, tt) (tt, tt) (tt, tt))
+          (quiet_hidden (inv_of_set scene inv) i) (refl, tt) (tt, tt) (tt, tt))
           (record {
             asks = (tt, tt);
             recovers = (tt, tt);
@@ -142,7 +142,7 @@ module _ {T : Type 0} (scene : Scene T) (inv : Inv scene) (start : ContainerStar
         (writing : WellFormed (before scene) → Writing code c ws i value code.size)
         (well_formed : WellFormedBefore words' (Placed p i value ∷ [])) where
       nothing : WellFormed (before scene) → contents_of i events ≡ None
-      nothing holds = place_none code c ws events (e.whole holds) e.wide i below value (writing holds)
+      nothing holds = place_none code c ws events (e.whole holds) e.wide i below (writing holds)
 
       no_other : {A : Type 0} → WellFormed (before scene) → (q : ℕ) → q ≢ p → (o : ℕ) → IsWriter q i o events → A
       no_other = grind (arith, one_writer)
@@ -178,11 +178,11 @@ module _ {T : Type 0} (scene : Scene T) (inv : Inv scene) (start : ContainerStar
       -- placing a value, by a party that may write there, keeps the invariant
       pub places : KeepsInvariant scene words' scene.states y (Placed p i value ∷ [])
       places =
-          does_with scene inv start flight none here words' y (Placed p i value ∷ [])
+          does_with scene inv none here
           (counts_one scene inv words' y (Placed p i value ∷ []) well_formed i below new (refl, tt)
           (Container start) (wrote_of p events) here.span owed placed_one)
           (set_effects.quietly (of_set scene) (inv_of_set scene inv) words' (Placed p i value ∷ []) leaves
-          (quiet_placed (of_set scene) (inv_of_set scene inv) i value) (refl, tt) (tt, tt) (tt, tt))
+          (quiet_placed (inv_of_set scene inv)) (refl, tt) (tt, tt) (tt, tt))
           (record {
             asks = (tt, tt);
             recovers = (tt, tt);
@@ -200,10 +200,10 @@ module _ {T : Type 0} (scene : Scene T) (inv : Inv scene) (start : ContainerStar
       -- well-formed after it
       pub misplaces : KeepsInvariant scene words' scene.states y []
       misplaces =
-          does_with scene inv start flight none here words' y []
+          does_with scene inv none here
           (counts_one scene inv words' y [] well_formed i below new tt (Container start) (wrote_of p events) here.span owed miscounted)
           (set_effects.quietly (of_set scene) (inv_of_set scene inv) words' [] leaves set_effects.quiet_none tt tt tt)
-          (right_none words')
+          (right_none)
 
   -- ---- the call ends
 
@@ -212,7 +212,7 @@ module _ {T : Type 0} (scene : Scene T) (inv : Inv scene) (start : ContainerStar
   changed_words = set ws (change_word c) (one_more (change_in code c (before scene)))
 
   -- the step ends the call with `answer`, and keeps what holds of the set
-  module _ (words' : List ℕ) (answer : Answer T)
+  module _ {words' : List ℕ} (answer : Answer T)
       (set_does : set_invariant.Does (of_set scene) words' (Finished p (Container start) answer ∷ []))
       (answers : AnswersBy scene.terms.by (set_invariant.IsWorn scene.terms.by words') c events (Finished p (Container start) answer))
       (well_formed : WellFormedBefore words' (Finished p (Container start) answer ∷ []))
@@ -231,7 +231,7 @@ module _ {T : Type 0} (scene : Scene T) (inv : Inv scene) (start : ContainerStar
         → is_some (contents_of i events) ≡ true)
         → KeepsInvariant scene words' scene.states y finish
     ends_counted new says =
-        does_with scene inv start flight none here words' y finish
+        does_with scene inv none here
         (counts_change scene inv words' y finish well_formed new
         (λ i. fold-append (contents_after i) None events finish)
         (λ i. fold-append (left_after i) true events finish)
@@ -244,7 +244,7 @@ module _ {T : Type 0} (scene : Scene T) (inv : Inv scene) (start : ContainerStar
         → ((i : ℕ) (b : Bool) → announced_after i b (Finished p (Container start) answer) ≡ b)
         → OwesStill scene inv words' y finish well_formed → KeepsInvariant scene words' scene.states y finish
     ends_calmly same quiet still =
-        does_with scene inv start flight none here words' y finish
+        does_with scene inv none here
         (calmly scene inv words' y finish well_formed (λ n behind. ap (λ w. get_or w n 0) same) (ap length same)
         (record {
           contents = λ i. fold-append (contents_after i) None events finish;

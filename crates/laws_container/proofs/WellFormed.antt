@@ -24,8 +24,8 @@ module _ {T : Type 0} where
   well_formed_on = grind arith
 
   -- where owners die, a run that is well-formed by its events is well-formed up to now
-  pub well_formed_so_far : (t : Trace T) → IsWellFormedRun t → IsWellFormedSoFar dying t.world.latest t.events
-  well_formed_so_far t well_formed_run = well_formed_on dying t refl tt well_formed_run
+  pub well_formed_so_far : {t : Trace T} → IsWellFormedRun t → IsWellFormedSoFar dying t.world.latest t.events
+  well_formed_so_far {t} well_formed_run = well_formed_on dying t refl tt well_formed_run
 
   -- a replace whose span stays was begun where it might replace, also by the earlier events
   pub stands_less : (q : ℕ) (o : Option (Party T)) (events es : List (Event T)) → BeginsNone q es
@@ -33,7 +33,7 @@ module _ {T : Type 0} where
   stands_less q None events es none same stands_well_formed = tt
   stands_less q (Some x) events es none same stands_well_formed =
       λ index owner value wrote span steps found.
-      (earlier q index owner events es none
+      (earlier none
       (stands_well_formed index owner value wrote (same ∙ span) steps (held_later q (IsFilledWith owner index) events es none found))).may
 
   -- the call `y` of party `p` writes the events `es`

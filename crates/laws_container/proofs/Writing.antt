@@ -22,7 +22,7 @@ even_is n even = grind (arith, nat_tests)
 pub odd_is : (n : ℕ) → is_even n ≡ false → n % 2 ≡ 1
 odd_is n odd = grind arith
 
-module _ {T : Type 0} (scene : Scene T) (inv : Inv scene) where
+module _ {T : Type 0} {scene : Scene T} (inv : Inv scene) where
   open scene use {coding as code, capacity as c}
 
   abbrev ws : List ℕ

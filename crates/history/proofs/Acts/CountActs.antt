@@ -126,8 +126,8 @@ module _ {T : Type 0} where
   numbers_more c h e stands finds was b = numbers_stay h e b refl refl refl (was b)
 
   -- what an event takes out of a place is the number of that place
-  takes_all : (h : List (Event T)) (p k m : ℕ) → CountFinds h (TakenOut p k m) → Numbers h → m ≡ number_in k 0 h
-  takes_all h p k m finds numbers =
+  takes_all : {h : List (Event T)} (p k m : ℕ) → CountFinds h (TakenOut p k m) → Numbers h → m ≡ number_in k 0 h
+  takes_all {h} p k m finds numbers =
       same_rest m (number_in k 0 h) finds.0 (numbers k).wraps (takes k h) (counts k h) finds.3 (numbers k).low finds.1 (numbers k).whole
 
   -- ---- ways
@@ -292,15 +292,15 @@ module _ {T : Type 0} (c : ℕ) (events : List (Event T)) (spans : Each (StandsR
           here = grind (arith, take_acts)
 
           whole : n ≡ number k
-          whole = takes_all h q k n (finds h after (TakenOut q k n) events_are) numbered
+          whole = takes_all q k n (finds h after (TakenOut q k n) events_are) numbered
 
           acts : Acts kinds.Counts k (number k) (cond (k == k) 0 (number k)) (way q k)
           acts = rw (same_number k) here.1
 
       -- ---- a call ends
 
-      here : (q b : ℕ) (s : Start T) (wrote : List (Event T)) → span_of q h ≡ Open s wrote → Fits Fit s b wrote (way q b)
-      here q b s wrote opened = grind (arith, fits_open)
+      here : (q : ℕ) {b : ℕ} {s : Start T} {wrote : List (Event T)} → span_of q h ≡ Open s wrote → Fits Fit s b wrote (way q b)
+      here q opened = grind (arith, fits_open)
 
       found_some : (n : ℕ) (w : WayHere) (s : Start T) (d : Option ℕ) → found_now n w ≡ Some (s, d) → d ≡ Some n
       found_some n w s d found_now_is = grind arith
@@ -338,14 +338,14 @@ module _ {T : Type 0} (c : ℕ) (events : List (Event T)) (spans : Each (StandsR
           -- the set has found what it answers at its place, and of another place nothing has to be known
           done : (b : ℕ) → Ends c (Sure b) b (set_call k) (Number n) (way q b)
           done b =
-              let fits = here q b (set_call k) opened.wrote opened.is in
+              let fits = here q opened.is in
               ⊎_elim (λ same. subst (λ z. Ends c (Sure z) z (set_call k) (Number n) (way q z)) same mine)
               (λ ne. subst (λ w. Ends c (Sure b) b (set_call k) (Number n) w) (sym fits.is) (refl, λ same. absurd (ne same))) (cases_eq k b)
             where
               -- at its own place the set has found the count that it answers
               mine : Ends c (Sure k) k (set_call k) (Number n) (way q k)
               mine =
-                  let fits = here q k (set_call k) opened.wrote opened.is in
+                  let fits = here q opened.is in
                   let found : fits.found ≡ Some (number_in k 0 answer.before) =
                   found_some (number_in k 0 answer.before) (way_in q k 0 None answer.before) (set_call k) fits.found
                   (sym counted ∙ fits.is) in
@@ -366,7 +366,7 @@ module _ {T : Type 0} (c : ℕ) (events : List (Event T)) (spans : Each (StandsR
           -- the look has done nothing anywhere yet
           under : (b : ℕ) → way q b ≡ Some (look_call k, None)
           under b =
-              let fits = here q b (look_call k) opened.wrote opened.is in
+              let fits = here q opened.is in
               fits.is ∙ ap (λ d. Some (look_call k, d)) (fits.fit.0 (ap (takes b) opened.holds))
 
           told : n ≡ number_in k 0 h
@@ -390,17 +390,17 @@ module _ {T : Type 0} (c : ℕ) (events : List (Event T)) (spans : Each (StandsR
               mine = Silent h [] (sym (append-nil h)) tt (under k) refl refl (refl, λ same. told)
 
       -- a place that the call left silently, where its count was 0
-      clear_there : (q b : ℕ) (part rest : List (Event T)) → h ≡ part ++ rest → BeginsNone q rest
+      clear_there : {q b : ℕ} (part rest : List (Event T)) → h ≡ part ++ rest → BeginsNone q rest
           → way q b ≡ Some (Bits ResetAll, None) → number_in b 0 part ≡ 0
           → Fact kinds.Counts c Sure h q (Bits ResetAll) Done b
-      clear_there q b part rest cut none under nought =
+      clear_there part rest cut none under nought =
           Silent part rest cut none under tt nought (refl, λ sure lt. tt)
 
       -- with the end of a reset of all the history with its silent acts goes on
       end_all : (q : ℕ) → events ≡ h ++ Finished q (Bits ResetAll) Done ∷ after → IsMarked (h ++ Finished q (Bits ResetAll) Done ∷ [])
       end_all q events_are =
           finishes kinds.Counts c Sure h q all_call Done m facts
-          (λ b le. let fits = here q b all_call opened.wrote opened.is in
+          (λ b le. let fits = here q opened.is in
           subst (λ w. Ends c (Sure b) b all_call Done w) (sym fits.is) (refl, λ sure lt. absurd (omega arith)))
         where
           opened : OpenFor all_call (CountsWrote c all_call Done) (span_of q h)
@@ -414,7 +414,7 @@ module _ {T : Type 0} (c : ℕ) (events : List (Event T)) (spans : Each (StandsR
           facts b lt = ⊎_elim acted silent (cases_lt 0 (takes b opened.wrote))
             where
               fits : Fits Fit all_call b opened.wrote (way q b)
-              fits = here q b all_call opened.wrote opened.is
+              fits = here q opened.is
 
               ends_so : (d : Option ℕ) → Found (λ n. Unit {0}) d → way q b ≡ Some (all_call, d) → Ends c (Sure b) b all_call Done (way q b)
               ends_so d found way_is = grind arith
@@ -442,7 +442,7 @@ module _ {T : Type 0} (c : ℕ) (events : List (Event T)) (spans : Each (StandsR
                   -- its count was 0, or nothing has to be known of it
                   go : (n : ℕ) → number_in b 0 since.before ≡ n → Fact kinds.Counts c Sure h q all_call Done b
                   go zero number_is =
-                      clear_there q b (since.before ++ Begun q since.start ∷ []) since.since
+                      clear_there (since.before ++ Begun q since.start ∷ []) since.since
                       (since.is ∙ sym (append_assoc since.before (Begun q since.start ∷ []) since.since)) since.within under
                       (number_more b 0 since.before (Begun q since.start ∷ []) ∙ number_is)
                   go (suc n) number_is =
@@ -455,7 +455,7 @@ module _ {T : Type 0} (c : ℕ) (events : List (Event T)) (spans : Each (StandsR
                       lost some =
                           let out = taken_in b since.since some in
                           let events_then : List (Event T) = since.before ++ Begun q since.start ∷ out.first in
-                          clear_there q b (events_then ++ TakenOut out.by b out.number ∷ []) out.second
+                          clear_there (events_then ++ TakenOut out.by b out.number ∷ []) out.second
                           (since.is
                           ∙ (ap (λ xs. since.before ++ Begun q since.start ∷ xs) out.is
                           ∙ (sym (append_assoc since.before (Begun q since.start ∷ out.first) (TakenOut out.by b out.number ∷ out.second))

@@ -101,7 +101,7 @@ module _ {T : Type 0} (kind : Kind) (capacity : ℕ) (Sure : ℕ → Type 0) whe
         (ends : MayEndThere k (Some (start, Some (number_in k 0 part)))) where
       -- the marks, cut at the moment of the silent act
       c : Cut f.marks part rest
-      c = cut f.marks part rest (f.is ∙ is)
+      c = cut f.marks part (f.is ∙ is)
 
       -- the marks before that moment
       abbrev first : List (Mark T)

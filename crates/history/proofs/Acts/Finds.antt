@@ -159,7 +159,7 @@ module _ {T : Type 0} where
     pub kind : t.world.kind ≡ kinds.Bits
     pub finds : Each BitFinds t.events
 
-  module _ (t : Trace T) (so : BitsSo t) where
+  module _ {t : Trace T} (so : BitsSo t) where
     -- a reached machine of a bit set keeps the invariant of its laws
     bits_sound : frame.Sound (family bits.bit_set t.world.coding t.world.capacity) t
     bits_sound = sound_on bits.bit_set bits_laws t so.kind so.reached
@@ -212,7 +212,7 @@ module _ {T : Type 0} where
   -- in each run of a bit set each act finds at its place what stands there
   pub bits_find : (t : Trace T) → t.world.kind ≡ kinds.Bits → IsReachedOn t → Each BitFinds t.events
   bits_find t kind_is reached_on =
-      (kept_by_runs_on BitsSo (λ t turn e so. bits_turn t so turn e) t
+      (kept_by_runs_on BitsSo (λ t turn e so. bits_turn so turn e) t
       (record {
         reached = reached_on_opening t.world.coding t.world.kind t.world.capacity t.world.parties reached_on.coded reached_on.admitted;
         kind = kind_is;
@@ -233,7 +233,7 @@ module _ {T : Type 0} where
     pub kind : t.world.kind ≡ kinds.Counts
     pub finds : Each CountFinds t.events
 
-  module _ (t : Trace T) (so : CountsSo t) where
+  module _ {t : Trace T} (so : CountsSo t) where
     -- a reached machine of a counting bit set keeps the invariant of its laws
     counts_sound : frame.Sound (family counting.counting_set t.world.coding t.world.capacity) t
     counts_sound = sound_on counting.counting_set counts_laws t so.kind so.reached
@@ -321,7 +321,7 @@ module _ {T : Type 0} where
   -- in each run of a counting bit set each number that is taken out is all that stands at its place
   pub counts_find : (t : Trace T) → t.world.kind ≡ kinds.Counts → IsReachedOn t → Each CountFinds t.events
   counts_find t kind_is reached_on =
-      (kept_by_runs_on CountsSo (λ t turn e so. counts_turn t so turn e) t
+      (kept_by_runs_on CountsSo (λ t turn e so. counts_turn so turn e) t
       (record {
         reached = reached_on_opening t.world.coding t.world.kind t.world.capacity t.world.parties reached_on.coded reached_on.admitted;
         kind = kind_is;

@@ -20,11 +20,11 @@ module _ {T : Type 0} where
   goes_on u turn free is_reached_set set = grind (arith, reached_on_more, passes, turn_making)
 
   -- a machine of a set that is reached by any turns, refused or not, is reached by turns that are not refused
-  pub reached_is_on : (t : Trace T) → IsReached t → IsSet t.world.kind → IsReachedOn t
-  reached_is_on t reached set =
+  pub reached_is_on : {t : Trace T} → IsReached t → IsSet t.world.kind → IsReachedOn t
+  reached_is_on {t} reached set =
       kept_by_runs IsReachedSet goes_on t
       (λ queue queued. at_opening t.world.coding t.world.kind t.world.capacity queue t.world.parties reached.coded reached.admitted)
       reached set
 
-  pub machines_act : (t : Trace T) → IsReached t → IsSet t.world.kind → ActsByPlace t.world.kind t.world.capacity t.events
-  machines_act t reached set = runs_act t (reached_is_on t reached set) set
+  pub machines_act : {t : Trace T} → IsReached t → IsSet t.world.kind → ActsByPlace t.world.kind t.world.capacity t.events
+  machines_act {t} reached set = runs_act t (reached_is_on reached set) set

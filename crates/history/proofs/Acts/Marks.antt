@@ -95,14 +95,14 @@ module _ {T : Type 0} where
     pub second_told : told second ≡ ys
 
   -- where a history is cut in two, its marks can be cut into those of the first part and those of the second
-  pub cut : (ms : List (Mark T)) (xs ys : List (Event T)) → told ms ≡ xs ++ ys → Cut ms xs ys
-  cut ms [] ys told_is = record { first = []; second = ms; is = refl; first_told = refl; second_told = told_is }
-  cut [] (x ∷ xs) ys told_is = absurd (cc)
+  pub cut : (ms : List (Mark T)) (xs : List (Event T)) {ys : List (Event T)} → told ms ≡ xs ++ ys → Cut ms xs ys
+  cut ms [] told_is = record { first = []; second = ms; is = refl; first_told = refl; second_told = told_is }
+  cut [] (x ∷ xs) told_is = absurd (cc)
   -- the first mark is the first event, so it belongs to the first part
-  cut (Happens f ∷ ms) (x ∷ xs) ys told_is =
+  cut (Happens f ∷ ms) (x ∷ xs) {ys} told_is =
       let head : f ≡ x = cc in
       let tail : told ms ≡ xs ++ ys = cc in
-      let more = cut ms xs ys tail in
+      let more = cut ms xs tail in
       record {
         first = Happens f ∷ more.first;
         second = more.second;
@@ -111,8 +111,8 @@ module _ {T : Type 0} where
         second_told = more.second_told;
       }
   -- the first mark is a silent act, which belongs to the first part
-  cut (Leaves q c ∷ ms) (x ∷ xs) ys told_is =
-      let more = cut ms (x ∷ xs) ys told_is in
+  cut (Leaves q c ∷ ms) (x ∷ xs) {ys} told_is =
+      let more = cut ms (x ∷ xs) told_is in
       record {
         first = Leaves q c ∷ more.first;
         second = more.second;

@@ -17,9 +17,10 @@ pub cleared_ends_none : (T : Type 0) (p q : ℕ) (places : List ℕ) → EndsNon
 cleared_ends_none T p q [] = tt
 cleared_ends_none T p q (b ∷ bs) = cleared_ends_none T p q bs
 
-pub taken_ends_none : (T A : Type 0) (p q : ℕ) (place number : A → ℕ) (states : List A) → EndsNone {T = T} p (map (λ s. TakenOut q (place s) (number s)) states)
-taken_ends_none T A p q place number [] = tt
-taken_ends_none T A p q place number (s ∷ states) = taken_ends_none T A p q place number states
+pub taken_ends_none : (T : Type 0) {A : Type 0} (p q : ℕ) (place number : A → ℕ) (states : List A)
+    → EndsNone {T = T} p (map (λ s. TakenOut q (place s) (number s)) states)
+taken_ends_none T p q place number [] = tt
+taken_ends_none T {A = A} p q place number (s ∷ states) = taken_ends_none T p q place number states
 
 module _ {T : Type 0} where
   -- ---- no ends
@@ -50,14 +51,14 @@ module _ {T : Type 0} where
   same_place p start ys m n m_is = ap (λ z. call_at z p start (response_in p ys (z + 1))) m_is
 
   -- a call that begins there stands among the calls of the history, at its place and with its response
-  call_there : (p : ℕ) (start : Start T) (xs ys : List (Event T)) (k n : ℕ) → n ≡ k + length xs
+  call_there : {p : ℕ} {start : Start T} (xs ys : List (Event T)) (k n : ℕ) → n ≡ k + length xs
       → Contains (calls_from (xs ++ Begun p start ∷ ys) k) (call_at n p start (response_in p ys (n + 1)))
-  call_there p start [] ys k n n_is = grind (arith, here, calls_from, same_place)
-  call_there p start (Begun q s ∷ xs) ys k n n_is =
+  call_there [] ys k n n_is = grind (arith, here, calls_from, same_place)
+  call_there {p} {start} (Begun q s ∷ xs) ys k n n_is =
       there (call_at k q s (response_in q (xs ++ Begun p start ∷ ys) (k + 1)))
       (call_at n p start (response_in p ys (n + 1))) (calls_from (xs ++ Begun p start ∷ ys) (k + 1))
-      (call_there p start xs ys (k + 1) n (omega arith))
-  call_there p start (x ∷ xs) ys k n n_is = call_there p start xs ys (k + 1) n (omega arith)
+      (call_there xs ys (k + 1) n (omega arith))
+  call_there {p} {start} (x ∷ xs) ys k n n_is = call_there xs ys (k + 1) n (omega arith)
 
   -- the response to a call is the first end of a call of its party behind it
   response_there : (p : ℕ) (start : Start T) (answer : Answer T) (during rest : List (Event T)) (k n : ℕ)
@@ -68,8 +69,8 @@ module _ {T : Type 0} where
       passed p q s a (es ++ Finished p start answer ∷ rest) k none.0 ∙ response_there p start answer es rest (k + 1) n none.1 (omega arith)
   response_there p start answer (x ∷ es) rest k n none n_is = response_there p start answer es rest (k + 1) n none (omega arith)
 
-  module _ (p : ℕ) (start : Start T) (answer : Answer T) (wrote : List (Event T)) (old new : View T)
-      (called : Called p start answer wrote old new) (none : EndsNone p wrote) (history : List (Event T))
+  module _ {p : ℕ} {start : Start T} {answer : Answer T} {wrote : List (Event T)} {old new : View T}
+      (called : Called p start answer wrote old new) (none : EndsNone p wrote) {history : List (Event T)}
       (beginning : IsBeginning new.seen history) where
     abbrev rest : List (Event T)
     rest = beginning.rest
@@ -100,7 +101,7 @@ module _ {T : Type 0} where
     stands_in =
         record {
           call = its;
-          there = subst (λ h. Contains (calls_of h) its) (sym whole) (call_there p start before behind 0 at (omega arith));
+          there = subst (λ h. Contains (calls_of h) its) (sym whole) (call_there before behind 0 at (omega arith));
           party = refl;
           named = refl;
           ends = at + 1 + length called.during;

@@ -4,4 +4,4 @@ use Rattle.history.proofs.Acts.Machines as machines
 use Rattle.history.proofs.laws.machines_act.Goals as goal
 
 pub returns : goal.returns
-returns g c t r set = machines.machines_act t r set
+returns g c t r set = machines.machines_act r set

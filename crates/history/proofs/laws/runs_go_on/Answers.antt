@@ -8,13 +8,13 @@ pub returns-clause-calls : goal.returns-clause-calls
 returns-clause-calls g c code kind capacity x y z to_y to_z = continues_further code kind capacity x y z to_y.first to_z
 
 pub returns-clause-splits : goal.returns-clause-splits
-returns-clause-splits g c code kind capacity old left right cut knows = continues_split code kind capacity old left right cut knows
+returns-clause-splits g c code kind capacity old left right cut knows = continues_split code kind capacity cut knows
 
 pub returns-clause-joins : goal.returns-clause-joins
-returns-clause-joins g c code kind capacity mine theirs new joined knows = continues_join code kind capacity mine theirs new joined knows
+returns-clause-joins g c code kind capacity mine theirs new joined knows = continues_join code kind capacity joined knows
 
 pub returns-clause-first : goal.returns-clause-first
 returns-clause-first g c code kind capacity coded admitted = knows_first code kind capacity coded admitted
 
 pub returns-clause-tables : goal.returns-clause-tables
-returns-clause-tables g c code kind capacity s m = seats_know_one code kind capacity s m
+returns-clause-tables g c code kind capacity s m = seats_know_one code kind capacity m

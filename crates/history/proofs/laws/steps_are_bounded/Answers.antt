@@ -5,4 +5,4 @@ use Rattle.history.proofs.laws.steps_are_bounded.Goals as goal
 
 pub returns : goal.returns
 returns g c code kind capacity alone retry p start answer wrote old new called mine knows takes =
-    takes_in_run code kind capacity alone retry p start answer wrote old new called mine knows takes
+    takes_in_run alone retry called mine knows takes
