@@ -97,7 +97,7 @@ module _ {T : Type 0} where
     stands_open (Finished p start answer) span begins_not shut stands = open_shut (λ call. call ≡ start) (promise.wrote capacity start answer) span shut stands
     stands_open e span begins_not shut stands = open_only e span shut stands
 
-    -- as a call begins, none was under way
+    -- A call that begins leaves the run in a stage: it is under way, alone, since none was before.
     begins : (before after : List (Event T)) (p : ℕ) (start : Start T) → events ≡ before ++ Begun p start ∷ after → Stage before
         → Stage (before ++ Begun p start ∷ [])
     begins before after p start split (BetweenCalls shut rest) =

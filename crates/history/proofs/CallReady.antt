@@ -137,7 +137,7 @@ module _ {T C M E : Type 0} (machines : Machines T) (call : Calling T C M E) whe
     here : Fits r.owner r.trace id v
     here = r.seats id v at
 
-    -- a pass with the whole share has seen all events
+    -- a pass with the whole share that knows one history alone has seen all events
     nothing_else : IsAll v.share → v.other ≡ [] → here.seen.rest ≡ []
     nothing_else all alone =
         ⊎_elim (λ (e : v.seen ≡ r.trace.events). no_rest v.seen here.seen.rest (e ∙ here.seen.is))

@@ -361,7 +361,7 @@ module _ {T : Type 0} (going : Going T) where
   pub told : events_of u.world (Next p) ≡ tells
   told = grind (arith, its_step, old_of, ask_of, want_of, ending_of, answer_in, goes_of, found_old)
 
-  -- what is kept after the step is what the table keeps
+  -- what the machine keeps after the turn is what the step keeps that is handed the word of the table
   pub kept_then : (after_turn u (Next p)).world.kept ≡ (step_in u.world p (stands u.world p start flight at).x flight found).kept
   kept_then =
       next_kept (stands u.world p start flight at)

@@ -1,6 +1,7 @@
 -- The steps of the three parts of which calls of a robust index set are made: a raise of the counter, a count
 -- of filled cells, and a lock. `Lead ask back r` is what the call has to show of a step with the operation
--- `ask`, after which the part is as `r` says; the lemmas say that each step of the part is so.
+-- `ask`, after which the part is as `r` says (of a lock it also has the events that the step writes). The lemmas
+-- say that each step of the part shows that.
 use Rattle.laws_robust.proofs.Names.{eq-eqb, ◌≡◌, ◌≢◌, ℕ, ◌+◌, ◌*◌, ◌<◌, ◌≤◌, ◌==◌, ◌&&◌, ⊎_elim, inl, if◌then◌else◌}
 use Rattle.laws_robust.proofs.Names.{nat_lt, Bool, true, false, not, Option, Some, None, List, [], ◌∷◌, set, refl}
 use Rattle.laws_robust.proofs.Names.{sym, ap, subst, ◌∙◌, arith, ne_eqb, cases_lt, nat_tests, Ask, After, GoOn, Done}

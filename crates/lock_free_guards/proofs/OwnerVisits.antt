@@ -78,7 +78,7 @@ module _ (owner p : ℕ) where
       )
 
   module _ (other : ℕ) (apart : other ≢ owner) where
-    -- An index that is this owner's is not the other's.
+    -- An owner that is this one is not the other.
     is_another : (o : ℕ) → true ≡ (o == owner) → (o == other) ≡ false
     is_another o told = grind (arith, nat_tests)
 

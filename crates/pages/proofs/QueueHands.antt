@@ -54,7 +54,8 @@ abbrev pub blank : List ℕ → List ℕ
 blank (write ∷ read ∷ producer ∷ consumer ∷ cells) = write ∷ read ∷ 0 ∷ 0 ∷ cells
 blank words = words
 
--- The words of a page: its two positions, a word for each role that says whether it is free, and the cells.
+-- The words of a queue of the model: its two positions, a word for each role that says whether it is free, and the cells. (On
+-- the page both words of roles stay 0.)
 pub record Tells (roles : Roles) (words : List ℕ) : Type 0 where
   pub write : ℕ
   pub read : ℕ

@@ -51,7 +51,7 @@ module _ {A : Type 0} (tells : ℕ → A → Type 0) where
             of_each = told_then h.numbers h.told has_found.0 one h.of_each has_found.2;
           }
 
-      -- one more came of which nothing is told, or none
+      -- What was received goes on by some numbers, of which the reader tells nothing.
       pub read_rest : (rest : List ℕ) → received_so_far new ≡ received_so_far mid ++ rest → longer ≡ after
           → HasRead tells rest before longer old new
       read_rest rest came same =
