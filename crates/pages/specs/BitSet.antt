@@ -30,8 +30,7 @@ first (Set place) = SetLoadsElement place
 first ResetNext = NextLoadsPosition
 first ResetAll = AllSwapsElement 1 []
 
--- each element has the bits of 64 places
-abbrev pub stands : (element place : ℕ) → Bool
+abbrev pub stands : (element place : ℕ) → Bool  -- each element has the bits of 64 places
 stands element place = not (bit_and element (2 ^ (place % 64)) == 0)
 
 -- A set that has read this element is done if the bit stands, and else tries to set it.
@@ -39,8 +38,7 @@ abbrev pub set_tests : (place element : ℕ) → After Stage Answer
 set_tests place element =
     if stands element place then Done (WasSet false) else GoOn (SetExchangesElement place element)
 
--- after the last place comes 0
-abbrev pub place_after : (capacity start passed : ℕ) → ℕ
+abbrev pub place_after : (capacity start passed : ℕ) → ℕ  -- after the last place comes 0
 place_after capacity start passed =
     if nat_lt (start + passed) capacity then start + passed else start + passed - capacity
 
@@ -93,8 +91,7 @@ abbrev pub may : (capacity p : ℕ) → Call → Bool
 may capacity p (Set place) = nat_lt place capacity
 may capacity p call = true
 
--- the place where a search begins, and the elements
-abbrev pub bit_set : ℕ → Structure Call Stage Answer
+abbrev pub bit_set : ℕ → Structure Call Stage Answer  -- the place where a search begins, and the elements
 bit_set c = record { words = replicate (1 + (c + 63) / 64) 0; may = may c; first = first; does = does c }
 
 -- ---- at one place: 1 where its bit stands

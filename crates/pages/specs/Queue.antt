@@ -3,8 +3,7 @@ use Rattle.std.specs.Prelude.{◌≡◌, ◌≤◌, ℕ, ◌+◌, ◌-◌, ◌*�
 use Rattle.std.specs.Prelude.{None, List, [], drop, if◌then◌else◌, length, nat_lt, replicate, slice_get, slice_index}
 use Rattle.pages.specs.Machine.{Operation, Load, Store, After, GoOn, Done, Structure, Object}
 
--- how a value is written in words, which give it back
-pub record Written (T : Type 0) : Type 0 where
+pub record Written (T : Type 0) : Type 0 where  -- how a value is written in words, which give it back
   pub size : ℕ
   pub words_of : T → List ℕ
   pub value_of : List ℕ → T
@@ -21,8 +20,7 @@ pub data Answer (T : Type 0) : Type 0 where
   Pushed : (taken : Bool) → Answer T
   Popped : (value : Option T) → Answer T
 
--- what a call does next, with all that it knows
-pub data Stage (T : Type 0) : Type 0 where
+pub data Stage (T : Type 0) : Type 0 where  -- what a call does next, with all that it knows
   PushLoadsWrite : (value : T) → Stage T
   PushLoadsRead : (value : T) (write : ℕ) → Stage T
   PushStoresCell : (value : T) (write word : ℕ) → Stage T
@@ -32,8 +30,7 @@ pub data Stage (T : Type 0) : Type 0 where
   PopLoadsCell : (read : ℕ) (loaded : List ℕ) → Stage T
   PopStoresRead : (read : ℕ) (loaded : List ℕ) → Stage T
 
--- party 0 is the producer, party 1 the consumer
-abbrev pub may : {T : Type 0} → ℕ → Call T → Bool
+abbrev pub may : {T : Type 0} → ℕ → Call T → Bool  -- party 0 is the producer, party 1 the consumer
 may p (Push value) = p == 0
 may p Pop = p == 1
 
@@ -46,12 +43,10 @@ module _ {T : Type 0} (how : Written T) (capacity : ℕ) where
   abbrev pub is_full : (write read : ℕ) → Bool
   is_full write read = capacity == 0 || (write + 2 ^ 64 - read) % 2 ^ 64 == capacity
 
-  -- where a word of the position's cell stands
-  abbrev pub at : (position word : ℕ) → ℕ
+  abbrev pub at : (position word : ℕ) → ℕ  -- where a word of the position's cell stands
   at position word = 4 + how.size * (position % capacity) + word
 
-  -- a value goes into its cell, and comes out of it, word by word
-  abbrev pub stores : T → (write word : ℕ) → Stage T
+  abbrev pub stores : T → (write word : ℕ) → Stage T  -- a value goes into its cell word by word, and out
   stores value write word = if nat_lt word how.size then PushStoresCell value write word else PushStoresWrite value write
 
   abbrev pub loads : ℕ → List ℕ → Stage T
@@ -79,6 +74,5 @@ listed capacity items (Push value) =
     if nat_lt (length items) capacity then (Pushed true, items ++ value ∷ []) else (Pushed false, items)
 listed capacity items Pop = (Popped (slice_get items 0), drop 1 items)
 
--- the sequential object: a list of at most this many values
-abbrev pub bounded_list : {T : Type 0} → ℕ → Object (Call T) (Answer T) (List T)
+abbrev pub bounded_list : {T : Type 0} → ℕ → Object (Call T) (Answer T) (List T)  -- a list of at most this many values
 bounded_list capacity = record { opening = []; act = listed capacity }
