@@ -57,6 +57,7 @@ module _ {T : Type 0} where
   none_pending zero code kind capacity = refl
   none_pending (suc n) code kind capacity = let rest = none_pending n code kind capacity in omega arith
 
+  -- The runs of a kind of structure whose calls keep ending within a bound: its table opens with no party, and turns of a run follow.
   module _ (kind : Kind) (Such : Start T → Type 0) (bound : Bound) (R : Runs kind Such bound) (code : Coding T) (capacity : ℕ) where
     -- The table as it opens.
     abbrev start : Trace T

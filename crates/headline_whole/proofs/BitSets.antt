@@ -1,12 +1,12 @@
 -- The calls of the two bit sets, run whole, are those of a set of places and of counts.
-use Rattle.std.proofs.Common.{◌≡◌, ℕ, suc, ◌+◌, ◌/◌, ◌%◌, ◌^◌, ◌<◌, ◌≤◌, false, not, Some, None, List, [], ◌∷◌, length}
+use Rattle.std.proofs.Common.{◌≡◌, ℕ, suc, ◌+◌, ◌/◌, ◌%◌, ◌^◌, ◌<◌, ◌≤◌, false, Some, None, List, [], ◌∷◌, length}
 use Rattle.std.proofs.Common.{replicate, slice_index, refl, sym, ap, subst, ◌∙◌, arith, length-set}
 use Rattle.std.proofs.lemmas.List.{length-replicate}
 use Rattle.steps.specs.Bits.BitSet.{first_set, set_want, set_after, first_reset, reset_want, reset_after}
 use Rattle.steps.specs.Bits.ResetAll.{all_bits, all_counts, reset_all_want, reset_all_after, reset_all_kept}
 use Rattle.steps.specs.Bits.Words.{elements, element_of, stands}
 use Rattle.steps.specs.Objects.Counts.{counted}
-use Rattle.steps.specs.Objects.Places.{Places, has, with_place, next_place, after_next, emptied}
+use Rattle.steps.specs.Objects.Places.{Places, emptied}
 use Rattle.steps.specs.declared.bits.bit_set.ResetNext.{ResetNext}
 use Rattle.steps.specs.declared.bits.reset_all.ResetAll.{ResetAll}
 use Rattle.model.specs.declared.event.Answer.TheVariants as answers
@@ -32,7 +32,6 @@ use Rattle.model.specs.Rows.{first_row}
 use Rattle.model.specs.Turns.{IsReached}
 use Rattle.model.specs.World.{Trace, capacity_error}
 use Rattle.model.proofs.Rows.{passes, may_begin, row_passed}
-use Rattle.plain.specs.Alone.{BehavesAs}
 use Rattle.plain.specs.Bits.{flags_in, places_in, Represents}
 use Rattle.plain.proofs.Alone.{Runs}
 use Rattle.plain.proofs.Places.Empties.{opened}
@@ -119,17 +118,22 @@ module _ {T : Type 0} where
     -- a set of a place, run alone, answers and leaves what the set of places does
     sets : (place : ℕ) → place < capacity → PlacesWhole (calls.Set place) (under_way.Set (record { call = first_set; given = place; room = tt }))
     sets place low =
-        runs_as code set_want set_after (λ c (room : Unit {0}) old. room) place
-        (λ c. Unit {0}) (λ c room. flights.Bits (under_way.Set (record { call = c; given = place; room = room }))) (λ e room. answers.Truth e)
+        runs_as code
         (record {
+          want = set_want;
+          after = set_after;
+          kept = λ c (room : Unit {0}) old. room;
+          given = place;
+          Low = λ c. Unit {0};
+          flight = λ c room. flights.Bits (under_way.Set (record { call = c; given = place; room = room }));
+          answer = λ e room. answers.Truth e;
           wants = λ c room low. refl;
           goes = λ c room old low. twice flights.Bits under_way.Set answers.Truth as_it_is place room (set_after c place old);
           stays = λ c old low. any_low (set_after c place old);
         })
-        (λ end room last. BehavesAs (Represents capacity) (places_in capacity) (λ (s : Places). not (has s place)) (λ s. with_place s place) words end last)
-        (Answers (places_reading capacity) turns words (starts.Bits (calls.Set place)))
+        (set_runs capacity place low words fits first_set refl)
+        tt
         (λ e room last h. record { said = λ is. ap answers.Truth h.1; holds = h.0; object = h.2 })
-        first_set tt words tt (set_runs capacity place low words fits first_set refl)
 
     -- a look at a place, run alone, answers and leaves what the set of places does
     looks : (place : ℕ) → place < capacity → PlacesWhole (calls.IsSet place) (under_way.IsSet (record { call = look_set; given = place; room = tt }))
@@ -147,36 +151,46 @@ module _ {T : Type 0} where
     -- a reset of the next place, run alone, answers and leaves what the set of places does
     resets : PlacesWhole calls.ResetNext (under_way.ResetNext (record { call = first_reset capacity; given = tt; room = tt }))
     resets =
-        runs_as code (λ (c : ResetNext) (given : Unit {0}). reset_want c) (λ c given old. reset_after c old) (λ c (room : Unit {0}) old. room) tt
-        (λ c. Unit {0}) (λ c room. flights.Bits (under_way.ResetNext (record { call = c; given = tt; room = room }))) (λ e room. reset_answer e)
+        runs_as code
         (record {
+          want = λ (c : ResetNext) (given : Unit {0}). reset_want c;
+          after = λ c given old. reset_after c old;
+          kept = λ c (room : Unit {0}) old. room;
+          given = tt;
+          Low = λ c. Unit {0};
+          flight = λ c room. flights.Bits (under_way.ResetNext (record { call = c; given = tt; room = room }));
+          answer = λ e room. reset_answer e;
           wants = λ c room low. refl;
           goes = λ c room old low. twice flights.Bits under_way.ResetNext reset_answer as_it_is tt room (reset_after c old);
           stays = λ c old low. any_low (reset_after c old);
         })
-        (λ end room last. BehavesAs (Represents capacity) (places_in capacity) next_place after_next words end last)
-        (Answers (places_reading capacity) turns words (starts.Bits calls.ResetNext))
+        (reset_runs capacity words fits (first_reset capacity) refl)
+        tt
         (λ e room last h. record { said = λ is. ap reset_answer h.1; holds = h.0; object = h.2 })
-        (first_reset capacity) tt words tt (reset_runs capacity words fits (first_reset capacity) refl)
 
     -- a reset of all places, run alone, answers and leaves what the set of places does
     empties_all : PlacesWhole calls.ResetAll (under_way.ResetAll (record { call = all_bits capacity; given = tt; room = fresh }))
     empties_all =
         let small = fits.small in
-        runs_as code (λ (c : ResetAll) (given : Unit {0}). reset_all_want c) (λ c given old. reset_all_after c old) (λ c room old. reset_all_kept room old) tt
-        (λ c. Unit {0}) (λ c room. flights.Bits (under_way.ResetAll (record { call = c; given = tt; room = room }))) (λ e room. answers.Done)
+        runs_as code
         (record {
+          want = λ (c : ResetAll) (given : Unit {0}). reset_all_want c;
+          after = λ c given old. reset_all_after c old;
+          kept = λ c room old. reset_all_kept room old;
+          given = tt;
+          Low = λ c. Unit {0};
+          flight = λ c room. flights.Bits (under_way.ResetAll (record { call = c; given = tt; room = room }));
+          answer = λ e room. answers.Done;
           wants = λ c room low. refl;
           goes = λ c room old low.
               twice flights.Bits under_way.ResetAll (λ (end : Unit {0}). answers.Done) as_it_is tt (reset_all_kept room old) (reset_all_after c old);
           stays = λ c old low. any_low (reset_all_after c old);
         })
-        (λ end room last. last ≡ cleared words 1 (elements capacity))
-        (Answers (places_reading capacity) turns words (starts.Bits calls.ResetAll))
+        (sweep_runs 1 (elements capacity) (omega arith) fresh words)
+        tt
         (λ e room last h.
         let so = empties capacity words fits in
         record { said = λ is. refl; holds = subst (Represents capacity) (sym h) so.fits; object = ap (places_in capacity) h ∙ so.places })
-        (all_bits capacity) fresh words tt (sweep_runs 1 (elements capacity) (omega arith) fresh words)
 
   -- ---- counts of places
 
@@ -216,25 +230,29 @@ module _ {T : Type 0} where
     takes_all few =
         let same : cleared words 0 capacity ≡ replicate capacity 0 = subst (λ n. cleared words 0 n ≡ replicate n 0) long (all_cleared words) in
         let end : 0 + capacity ≡ capacity = omega arith in
-        runs_as code (λ (c : ResetAll) (given : Unit {0}). reset_all_want c) (λ c given old. reset_all_after c old) (λ c room old. reset_all_kept room old) tt
-        (λ c. Unit {0}) (λ c room. flights.Bits (under_way.TakeAll (record { call = c; given = tt; room = room }))) (λ e room. answers.Done)
+        runs_as code
         (record {
+          want = λ (c : ResetAll) (given : Unit {0}). reset_all_want c;
+          after = λ c given old. reset_all_after c old;
+          kept = λ c room old. reset_all_kept room old;
+          given = tt;
+          Low = λ c. Unit {0};
+          flight = λ c room. flights.Bits (under_way.TakeAll (record { call = c; given = tt; room = room }));
+          answer = λ e room. answers.Done;
           wants = λ c room low. refl;
           goes = λ c room old low.
               twice flights.Bits under_way.TakeAll (λ (end : Unit {0}). answers.Done) as_it_is tt (reset_all_kept room old) (reset_all_after c old);
           stays = λ c old low. any_low (reset_all_after c old);
         })
-        (λ end room last. last ≡ cleared words 0 capacity)
-        (Answers (counts_reading capacity) turns words (starts.Bits calls.ResetAll))
+        (subst (λ e. Runs (λ (c : ResetAll) (given : Unit {0}). reset_all_want c) (λ c given old. reset_all_after c old)
+        (λ c room old. reset_all_kept room old) tt (λ end room last. last ≡ cleared words 0 capacity) (record { word = 0; end = e }) fresh words) end
+        (sweep_runs 0 capacity (omega arith) fresh words))
+        tt
         (λ e room last h. record {
           said = λ is. refl;
           holds = ap length (h ∙ same) ∙ length-replicate {A = ℕ} capacity 0;
           object = h ∙ same;
         })
-        (all_counts capacity) fresh words tt
-        (subst (λ e. Runs (λ (c : ResetAll) (given : Unit {0}). reset_all_want c) (λ c given old. reset_all_after c old)
-        (λ c room old. reset_all_kept room old) tt (λ end room last. last ≡ cleared words 0 capacity) (record { word = 0; end = e }) fresh words) end
-        (sweep_runs 0 capacity (omega arith) fresh words))
 
   -- ---- the laws
 

@@ -80,10 +80,16 @@ module _ {C G M E : Type 0} (want : C → G → Want (Unit {0})) (after : C → 
       (words_then words (want call given)) v w)
       first_stops second_stops
 
-  -- A call that can stop, alone, stops in one way only.
-  pub alike : (call : C) (room : M) (words : List ℕ) (h : CanStop want after kept given call room words)
+  -- a call that can stop, alone, stops in one way only
+  one_stop : (call : C) (room : M) (words : List ℕ) (h : CanStop want after kept given call room words)
       → StopsAlike want after kept given call room words h.stop h.last_room h.last_words
-  alike call room words h n s r last t = same_stop h.steps n h.stop s h.last_room r h.last_words last call room words h.stops t
+  one_stop call room words h n s r last t = same_stop h.steps n h.stop s h.last_room r h.last_words last call room words h.stops t
+
+-- A call that can stop, alone, stops in one way only.
+pub alike : {C G M E : Type 0} {want : C → G → Want (Unit {0})} {after : C → G → ℕ → After C E} {kept : C → M → ℕ → M} {given : G}
+    {call : C} {room : M} {words : List ℕ} (h : CanStop want after kept given call room words)
+    → StopsAlike want after kept given call room words h.stop h.last_room h.last_words
+alike {C} {G} {M} {E} {want} {after} {kept} {given} {call} {room} {words} h = one_stop want after kept given call room words h
 
 -- ---- one step of a call that puts no question
 
@@ -258,17 +264,29 @@ module _ {T : Type 0} (code : Coding T) where
 
   -- ---- a call of `steps` as a call of a machine
 
-  module _ {C G M E : Type 0} (want : C → G → Want (Unit {0})) (after : C → G → ℕ → After C E) (kept : C → M → ℕ → M) (given : G)
-      (Low : C → Type 0) (flight : C → M → Flight T) (answer : E → M → Answer T) where
+  -- How a call of `steps` is a call of the machine: each step of the call `c` of `steps` is a step of the call `flight c room`, as long as
+  -- `Low` holds of `c`, and it goes on to hold.
+  pub record AsFlight (C G M E : Type 0) : Type 1 where
+    -- what the call of `steps` asks for, what an answer makes of it and of its room, and what it is given
+    pub want : C → G → Want (Unit {0})
+    pub after : C → G → ℕ → After C E
+    pub kept : C → M → ℕ → M
+    pub given : G
+    pub Low : C → Type 0
+    -- the machine's call, and its answer
+    pub flight : C → M → Flight T
+    pub answer : E → M → Answer T
+    pub wants : (c : C) (room : M) → Low c → want_of code (flight c room) ≡ want c given
+    pub goes : (c : C) (room : M) (old : ℕ) → Low c
+        → after_of code (flight c room) old ≡ as_call (λ d. flight d (kept c room old)) (λ e. answer e (kept c room old)) (after c given old)
+    pub stays : (c : C) (old : ℕ) → Low c → LowThen Low (after c given old)
+
+  module _ {C G M E : Type 0} (as_flight : AsFlight C G M E) where
+    open as_flight use {want, after, kept, given, Low, flight, answer, wants as wants_so, goes as goes_so, stays as stays_so}
+
     -- The machine's call after a step that led the call of `steps` to `a`.
     abbrev pub came : M → After C E → After (Flight T) (Answer T)
     came room a = as_call (λ c. flight c room) (λ e. answer e room) a
-
-    -- each step of the call `c` of `steps` is a step of the call `flight c room`, as long as `Low` holds of `c`, and it goes on to hold
-    pub record IsFlight : Type 0 where
-      pub wants : (c : C) (room : M) → Low c → want_of code (flight c room) ≡ want c given
-      pub goes : (c : C) (room : M) (old : ℕ) → Low c → after_of code (flight c room) old ≡ came (kept c room old) (after c given old)
-      pub stays : (c : C) (old : ℕ) → Low c → LowThen Low (after c given old)
 
     -- The stop of the machine's call where the call of `steps` stops: the same end, or the same question.
     abbrev pub lift_stop : Stop C E → M → Stop (Flight T) (Answer T)
@@ -302,50 +320,50 @@ module _ {T : Type 0} (code : Coding T) where
     lifted n s r last wants.Nothing c (Done x) room next words low on stops_from = ((λ i. lift_stop (stops_from.0 i) (stops_from.1 i)), refl, stops_from.2)
 
     -- where the call of `steps` stops, alone, the machine's call stops too
-    lifts : IsFlight → (n : ℕ) (s : Stop C E) (r : M) (last : List ℕ) (c : C) (room : M) (words : List ℕ) → Low c
+    lifts : (n : ℕ) (s : Stop C E) (r : M) (last : List ℕ) (c : C) (room : M) (words : List ℕ) → Low c
         → StopsIn want after kept given n s r last c room words
         → StopsAlone n (lift_stop s r) last (flight c room) tt words
-    lifts is_flight zero s r last c room words low stops_here = absurd stops_here
-    lifts is_flight (suc n) s r last c room words low stops_here =
+    lifts zero s r last c room words low stops_here = absurd stops_here
+    lifts (suc n) s r last c room words low stops_here =
         subst (λ w. StopsOn n (lift_stop s r) last (stepped w (flight c room) (after_of code (flight c room) (answer_in words w))) (room_then w tt tt)
         (words_then words w))
-        (sym (is_flight.wants c room low))
+        (sym (wants_so c room low))
         (subst (λ a. StopsOn n (lift_stop s r) last (stepped (want c given) (flight c room) a) (room_then (want c given) tt tt)
         (words_then words (want c given)))
-        (sym (is_flight.goes c room (answer_in words (want c given)) low))
+        (sym (goes_so c room (answer_in words (want c given)) low))
         (lifted n s r last (want c given) c (after c given (answer_in words (want c given))) room
-        (kept c room (answer_in words (want c given))) words (is_flight.stays c (answer_in words (want c given)) low)
-        (λ d m ws less u. lifts is_flight n s r last d m ws less u) stops_here))
+        (kept c room (answer_in words (want c given))) words (stays_so c (answer_in words (want c given)) low)
+        (λ d m ws less u. lifts n s r last d m ws less u) stops_here))
 
     -- where the call of `steps` runs alone to an end, the machine's call does too
-    pub runs_as : IsFlight → (Q : E → M → List ℕ → Type 0) (P : Answer T → List ℕ → Type 0)
-        → ((e : E) (room : M) (last : List ℕ) → Q e room last → P (answer e room) last)
-        → (c : C) (room : M) (words : List ℕ) → Low c → Runs want after kept given Q c room words → FlightRuns P (flight c room) words
-    runs_as is_flight Q P so c room words low runs =
+    pub runs_as : {Q : E → M → List ℕ → Type 0} {P : Answer T → List ℕ → Type 0} {c : C} {room : M} {words : List ℕ}
+        → Runs want after kept given Q c room words → Low c → ((e : E) (room : M) (last : List ℕ) → Q e room last → P (answer e room) last)
+        → FlightRuns P (flight c room) words
+    runs_as {Q} {P} {c} {room} {words} runs low so =
         record {
           steps = runs.steps;
           few = runs.few;
           end = answer runs.end runs.last_room;
           last_room = tt;
           last_words = runs.last_words;
-          ends = lifts is_flight runs.steps (Ended runs.end) runs.last_room runs.last_words c room words low runs.ends;
+          ends = lifts runs.steps (Ended runs.end) runs.last_room runs.last_words c room words low runs.ends;
           holds = so runs.end runs.last_room runs.last_words runs.holds;
         }
 
     -- where the call of `steps` stops, alone, and the machine's call talks on from there, it talks, with one question
     -- more
-    pub talks_as : IsFlight → (P : List (Decision T) → Answer T → List ℕ → Type 0) (n : ℕ) (told : List (Decision T))
-        (c : C) (room : M) (words : List ℕ) → Low c → (h : CanStop want after kept given c room words)
+    pub talks_as : (P : List (Decision T) → Answer T → List ℕ → Type 0) (n : ℕ) (told : List (Decision T))
+        {c : C} {room : M} {words : List ℕ} → Low c → (h : CanStop want after kept given c room words)
         → AtStop P (Talks P n) told (lift_stop h.stop h.last_room) h.last_words
         → Talks P (suc n) told (flight c room) words
-    talks_as is_flight P n told c room words low h at_stop =
+    talks_as P n told {c} {room} {words} low h at_stop =
         record {
           steps = h.steps;
           few = h.few;
           stop = lift_stop h.stop h.last_room;
           last_room = tt;
           last_words = h.last_words;
-          stops = lifts is_flight h.steps h.stop h.last_room h.last_words c room words low h.stops;
+          stops = lifts h.steps h.stop h.last_room h.last_words c room words low h.stops;
           holds = at_stop;
         }
 

@@ -44,10 +44,10 @@ use Rattle.model.proofs.Orders.{reached_kept}
 use Rattle.model.proofs.Rows.{passes, may_begin, row_passed}
 use Rattle.machine.proofs.Laws.{laws_of}
 use Rattle.plain.specs.Unique.{stack_in, claimed, Represents}
-use Rattle.plain.proofs.Stacks.Acquires.{Took, take_runs}
+use Rattle.plain.proofs.Stacks.Acquires.{take_runs}
 use Rattle.plain.proofs.Stacks.Looks.{count_runs, look_runs}
 use Rattle.plain.proofs.Stacks.Opened.{Linked, all_free}
-use Rattle.plain.proofs.Stacks.Releases.{Gave, give_runs, GaveOrLocked, lock_runs}
+use Rattle.plain.proofs.Stacks.Releases.{give_runs, lock_runs}
 use Rattle.plain.proofs.Walks.{any_low}
 use Rattle.headline_whole.specs.Objects.{whole_stack}
 use Rattle.headline_whole.proofs.Agree.{Agree}
@@ -169,74 +169,102 @@ module _ {T : Type 0} where
     -- an acquire, run alone, answers and leaves what the stack does
     acquires : RunsAsStack calls.Acquire
     acquires =
-        runs_as code (λ (c : Acquire) (given : Unit {0}). acquire_want c) (λ c given old. acquire_after c old) (λ c (room : Unit {0}) old. room) tt
-        (λ c. Unit {0}) (λ c room. flights.Indices (under_way.Acquire (record { call = c; given = tt; room = room }))) (λ e room. acquire_answer e)
+        runs_as code
         (record {
+          want = λ (c : Acquire) (given : Unit {0}). acquire_want c;
+          after = λ c given old. acquire_after c old;
+          kept = λ c (room : Unit {0}) old. room;
+          given = tt;
+          Low = λ c. Unit {0};
+          flight = λ c room. flights.Indices (under_way.Acquire (record { call = c; given = tt; room = room }));
+          answer = λ e room. acquire_answer e;
           wants = λ c room low. refl;
           goes = λ c room old low. twice flights.Indices under_way.Acquire acquire_answer as_it_is tt room (acquire_after c old);
           stays = λ c old low. any_low (acquire_after c old);
         })
-        (Took capacity words) (Answers (reading capacity) turns words (starts.Indices calls.Acquire))
+        (take_runs capacity (first_acquire capacity) refl words fits)
+        tt
         (λ e room last h. record { said = λ is. ap acquire_answer h.1; holds = h.0; object = h.2 })
-        (first_acquire capacity) tt words tt (take_runs capacity (first_acquire capacity) refl words fits)
 
     -- a release that never locks, run alone, answers and leaves what the stack does
     releases : (index : ℕ) → IsOut (stack_in capacity words) index → RunsAsStack (calls.Release index Default)
     releases index out =
-        runs_as code (release_want {M = DefaultMode} false) (λ c given old. release_after false c old) (λ c (room : Unit {0}) old. room) index
-        (λ c. Unit {0}) (λ c room. flights.Indices (under_way.ReleaseDefault (record { call = c; given = index; room = room })))
-        (λ e room. answers.State e)
+        runs_as code
         (record {
+          want = release_want {M = DefaultMode} false;
+          after = λ c given old. release_after false c old;
+          kept = λ c (room : Unit {0}) old. room;
+          given = index;
+          Low = λ c. Unit {0};
+          flight = λ c room. flights.Indices (under_way.ReleaseDefault (record { call = c; given = index; room = room }));
+          answer = λ e room. answers.State e;
           wants = λ c room low. refl;
           goes = λ c room old low. twice flights.Indices under_way.ReleaseDefault answers.State as_it_is index room (release_after false c old);
           stays = λ c old low. any_low (release_after false c old);
         })
-        (Gave capacity index words) (Answers (reading capacity) turns words (starts.Indices (calls.Release index Default)))
+        (give_runs DefaultMode capacity index words fits out (first_release capacity) refl)
+        tt
         (λ e room last h. record { said = λ is. ap answers.State h.1; holds = h.0; object = h.2 })
-        (first_release capacity) tt words tt (give_runs DefaultMode capacity index words fits out (first_release capacity) refl)
 
     -- a release that may lock, run alone, answers and leaves what the stack does
     locks : (index : ℕ) → IsOut (stack_in capacity words) index → RunsAsStack (calls.Release index LockIfLastIndex)
     locks index out =
-        runs_as code (release_want {M = LockMode} true) (λ c given old. release_after true c old) (λ c (room : Unit {0}) old. room) index
-        (λ c. Unit {0}) (λ c room. flights.Indices (under_way.ReleaseLock (record { call = c; given = index; room = room })))
-        (λ e room. answers.State e)
+        runs_as code
         (record {
+          want = release_want {M = LockMode} true;
+          after = λ c given old. release_after true c old;
+          kept = λ c (room : Unit {0}) old. room;
+          given = index;
+          Low = λ c. Unit {0};
+          flight = λ c room. flights.Indices (under_way.ReleaseLock (record { call = c; given = index; room = room }));
+          answer = λ e room. answers.State e;
           wants = λ c room low. refl;
           goes = λ c room old low. twice flights.Indices under_way.ReleaseLock answers.State as_it_is index room (release_after true c old);
           stays = λ c old low. any_low (release_after true c old);
         })
-        (GaveOrLocked capacity index words) (Answers (reading capacity) turns words (starts.Indices (calls.Release index LockIfLastIndex)))
+        (lock_runs LockMode capacity index words fits out (first_release capacity) refl)
+        tt
         (λ e room last h. record { said = λ is. ap answers.State h.1; holds = h.0; object = h.2 })
-        (first_release capacity) tt words tt (lock_runs LockMode capacity index words fits out (first_release capacity) refl)
 
     -- a count of the indices that are out, run alone, answers and leaves what the stack does
     counts : RunsAsStack calls.BorrowedIndices
     counts =
-        runs_as code (λ (c : BorrowedIndices) (given : Unit {0}). load 0) (λ c given old. borrowed_after c old) (λ c (room : Unit {0}) old. room) tt
-        (λ c. Unit {0}) (λ c room. flights.Indices (under_way.BorrowedIndices (record { call = c; given = tt; room = room }))) (λ e room. answers.Number e)
+        runs_as code
         (record {
+          want = λ (c : BorrowedIndices) (given : Unit {0}). load 0;
+          after = λ c given old. borrowed_after c old;
+          kept = λ c (room : Unit {0}) old. room;
+          given = tt;
+          Low = λ c. Unit {0};
+          flight = λ c room. flights.Indices (under_way.BorrowedIndices (record { call = c; given = tt; room = room }));
+          answer = λ e room. answers.Number e;
           wants = λ c room low. refl;
           goes = λ c room old low. refl;
           stays = λ c old low. tt;
         })
-        _ (Answers (reading capacity) turns words (starts.Indices calls.BorrowedIndices))
+        (count_runs capacity words (record {}) fits)
+        tt
         (λ e room last h. record { said = λ is. ap answers.Number h.1; holds = h.0; object = h.2 })
-        (record {}) tt words tt (count_runs capacity words (record {}) fits)
 
     -- a look whether the set is locked, run alone, answers and leaves what the stack does
     looks : RunsAsStack calls.IsLocked
     looks =
-        runs_as code (λ (c : IsLocked) (given : Unit {0}). load 0) (λ c given old. locked_after c old) (λ c (room : Unit {0}) old. room) tt
-        (λ c. Unit {0}) (λ c room. flights.Indices (under_way.IsLocked (record { call = c; given = tt; room = room }))) (λ e room. answers.Truth e)
+        runs_as code
         (record {
+          want = λ (c : IsLocked) (given : Unit {0}). load 0;
+          after = λ c given old. locked_after c old;
+          kept = λ c (room : Unit {0}) old. room;
+          given = tt;
+          Low = λ c. Unit {0};
+          flight = λ c room. flights.Indices (under_way.IsLocked (record { call = c; given = tt; room = room }));
+          answer = λ e room. answers.Truth e;
           wants = λ c room low. refl;
           goes = λ c room old low. refl;
           stays = λ c old low. tt;
         })
-        _ (Answers (reading capacity) turns words (starts.Indices calls.IsLocked))
+        (look_runs capacity words (record {}) fits)
+        tt
         (λ e room last h. record { said = λ is. ap answers.Truth h.1; holds = h.0; object = h.2 })
-        (record {}) tt words tt (look_runs capacity words (record {}) fits)
 
   -- ---- the law
 

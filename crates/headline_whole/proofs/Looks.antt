@@ -30,12 +30,12 @@ use Rattle.plain.specs.Contents.{Contents, Holds}
 use Rattle.plain.specs.States.{Snapshot, blank, snapshot_of, IsSettled, updated, Brought}
 use Rattle.plain.proofs.Alone.{Runs}
 use Rattle.plain.proofs.Elements.Adds.{owners_long}
-use Rattle.plain.proofs.Elements.Snapshots.{words_kept, brought_if, brought_not, got_settled}
+use Rattle.plain.proofs.Elements.Snapshots.{LookCase, words_kept, brought_if, brought_not, got_settled}
 use Rattle.plain.proofs.Elements.Updates.{P, look_runs}
 use Rattle.plain.proofs.Elements.Values.{front_fits}
 use Rattle.headline_whole.specs.Dialogues.{as_request, as_reply}
 use Rattle.headline_whole.specs.Objects.{view_of, view_after, number_shown, whole_map}
-use Rattle.headline_whole.proofs.Maps.{map_in}
+use Rattle.headline_whole.proofs.Maps.{codes_of, map_in}
 
 -- a look never asks for a decision
 pub never_asks : (size capacity : ℕ) (stage : LookStage) → is_question (look_asks size capacity stage) ≡ false
@@ -102,11 +102,16 @@ module _ {T : Type 0} (code : Coding T) (coded : IsCoding code) (capacity : ℕ)
     abbrev s : Contents T
     s = map_in code capacity first_words
 
+    -- a look of a state at these words
+    abbrev look_from : ContainerState T → LookCase T
+    look_from old =
+        record { codes = codes_of code coded; capacity = capacity; container = 0; words = first_words; fits = holds.0; old = old }
+
     -- The look has ended with this answer, and has left this showing of its party's state and
     -- these words, as a look alone does.
     abbrev pub LookEnds : ContainerState T → Bool → Showing T → List ℕ → Type 0
     LookEnds old changed room last =
-        P code.value_of code.size coded.some coded.few capacity first_words holds.0 old.seen old.shown (changed, room) last
+        P (codes_of code coded) holds.0 old.seen old.shown (changed, room) last
 
     -- a look that runs on from `call` and `room` ends as one that began with the state `old`
     abbrev pub Runs_on : ContainerState T → Look T → Showing T → List ℕ → Type 0
@@ -149,13 +154,12 @@ module _ {T : Type 0} (code : Coding T) (coded : IsCoding code) (capacity : ℕ)
           old = fresh code capacity;
           state_is = refl;
           comes = λ changed new b.
-              let so = got_settled code.value_of code.size capacity s long (fresh code capacity) refl refl refl changed new b in
+              let so = got_settled code.value_of code.size capacity s long (fresh code capacity) refl refl refl b in
               ((so.0, b.of.1), so.1 ∙ ap (updated s) (sym seen_blank));
           changes = ap (λ (v : Snapshot T). v.changes) seen_blank;
           others = λ q ne. ap (option_map snapshot_of) (found_put_other q p (fresh code capacity) states ne) ∙ same q;
           right = λ q ne x e. right q x (sym (found_put_other q p (fresh code capacity) states ne) ∙ e);
-          run = look_runs code.value_of code.size coded.some coded.few capacity first_words holds.0 (fresh code capacity).seen
-              (fresh code capacity).shown (first_look capacity) refl;
+          run = look_runs (codes_of code coded) holds.0 (fresh code capacity).seen (fresh code capacity).shown refl;
         }
 
     -- an update begins on the state that its party has
@@ -175,8 +179,7 @@ module _ {T : Type 0} (code : Coding T) (coded : IsCoding code) (capacity : ℕ)
           changes = ap (λ (v : Snapshot T). v.changes) shows;
           others = λ q ne. same q;
           right = λ q ne x e. right q x e;
-          run = look_runs code.value_of code.size coded.some coded.few capacity first_words holds.0 state.seen state.shown
-              (first_look capacity) refl;
+          run = look_runs (codes_of code coded) holds.0 state.seen state.shown refl;
         }
 
     -- ---- it goes on
@@ -231,11 +234,11 @@ module _ {T : Type 0} (code : Coding T) (coded : IsCoding code) (capacity : ℕ)
         -- a look that ends has brought its party's state up to date, whatever it answers
         brought : (b : Bool) → LookEnds k.old b room last → Brought s k.old b (settled_if (Done b) shows)
         brought true look_ends =
-            brought_if code.value_of code.size coded.some coded.few capacity 0 first_words holds.0 k.old true room last look_ends refl (settled shows)
+            brought_if (look_from k.old) true room last look_ends refl
             (ap settled shows_so)
         brought false look_ends =
             subst (Brought s k.old false) (sym shows_so)
-            (brought_not code.value_of code.size coded.some coded.few capacity 0 first_words holds.0 k.old false room last look_ends refl)
+            (brought_not (look_from k.old) false room last look_ends refl)
 
         -- To settle a state leaves what it shows.
         same_shown : (b : Bool) → (settled_if (Done b) shows).shown ≡ shows.shown
@@ -248,7 +251,7 @@ module _ {T : Type 0} (code : Coding T) (coded : IsCoding code) (capacity : ℕ)
 
         -- The look leaves the words as they were.
         pub words_are : last ≡ first_words
-        words_are = words_kept code.value_of code.size coded.some coded.few capacity 0 first_words holds.0 k.old changed room last left
+        words_are = words_kept (look_from k.old) changed room last left
 
         -- the state of its party then shows what the map says
         same_then : (q : ℕ) → q ≡ p → views_in (set_state p new states) q ≡ view_after s (starts.Container (start_of which)) (views q)

@@ -1,6 +1,6 @@
 -- The calls of a container that ask about values, a find and a recovery, run whole; and so each call that is no look.
 use Rattle.std.proofs.Common.{◌≡◌, ℕ, zero, suc, ◌+◌, ◌-◌, ◌^◌, ◌<◌, ◌≤◌, ◌==◌, Bool, true, Option, Some, List, [], ◌∷◌, ◌++◌}
-use Rattle.std.proofs.Common.{length, map, slice_index, slice_set, refl, sym, ap, subst, ◌∙◌, arith, length-append}
+use Rattle.std.proofs.Common.{length, map, slice_index, refl, sym, ap, subst, ◌∙◌, arith, length-append}
 use Rattle.std.proofs.lemmas.List.{length-replicate}
 use Rattle.steps.specs.Container.Find.{first_find, find_want, find_after, find_kept}
 use Rattle.steps.specs.Container.Recover.{first_recover, recover_want, recover_after, recover_kept}
@@ -44,15 +44,15 @@ use Rattle.plain.specs.Callable.{questions as asked_questions}
 use Rattle.plain.specs.Contents.{Contents, Holds}
 use Rattle.plain.specs.States.{Snapshot}
 use Rattle.plain.specs.Visited.{Sees, to_ask, Says, all_freed, one_change}
-use Rattle.plain.proofs.Alone.{stops_so}
 use Rattle.plain.proofs.Elements.Finding as finding
 use Rattle.plain.proofs.Elements.Finds.{Ready}
 use Rattle.plain.proofs.Elements.Recovering as recovering
 use Rattle.plain.proofs.Walks.{any_low}
+use Rattle.plain.proofs.Words.{buffer}
 use Rattle.headline_whole.specs.Dialogues.{Decision, showing, decided, decided_at}
 use Rattle.headline_whole.specs.Objects.{about, map_freed, map_questions}
 use Rattle.headline_whole.proofs.Agree.{IsNoLook}
-use Rattle.headline_whole.proofs.Flights.{IsFlight, Turns, AtStop, Talks, talks_once, lift_stop, talks_as, alike, twice}
+use Rattle.headline_whole.proofs.Flights.{AsFlight, Turns, AtStop, Talks, talks_once, lift_stop, talks_as, alike, twice}
 use Rattle.headline_whole.proofs.Owners.{below}
 use Rattle.headline_whole.proofs.Decisions.{goes_on, progression, same_decision, same_number, yes_number, yes_of, decision, folds_long, found_so, asked_so}
 use Rattle.headline_whole.proofs.Maps.{map_in, Answers, EndsAsMap, RunsAsMap, adds_one, removes_one, replaces_one, counts_so, looks}
@@ -81,16 +81,8 @@ module _ {T : Type 0} (code : Coding T) (capacity : ℕ) where
 
     -- ---- a find
 
-    -- The words that a buffer of 128 words holds.
-    abbrev room_words : Buffer 128 → List ℕ
-    room_words room = room.words
-
-    -- The words of the buffer after a word is kept at `at` are the earlier ones with that one replaced.
-    put_in : (x : Buffer 128) (at word : ℕ) → room_words (kept_at x at word) ≡ slice_set (room_words x) at word
-    put_in x at word = refl
-
     -- A value fits into the buffer.
-    roomy : code.size ≤ length (room_words fresh_cell)
+    roomy : code.size ≤ length (buffer.words_in fresh_cell)
     roomy = let long = length-replicate {A = ℕ} 128 0 in let few = coded.few in omega arith
 
     -- These words are ready for a find or a recovery of the owner.
@@ -103,6 +95,22 @@ module _ {T : Type 0} (code : Coding T) (capacity : ℕ) where
       abbrev finds : List (Decision T) → T → ContainerHandle → CallbackProgression → List (Decision T) → Type 0
       finds p value handle said q = q ≡ p ++ decision (questions.Value handle.index value) (goes_on said) ∷ []
 
+      -- a find over these words with that closure, which has decided nothing yet
+      abbrev find_case : finding.FindCase T (Buffer 128) (List (Decision T))
+      find_case =
+          record {
+            value_of = code.value_of;
+            as_room = buffer;
+            size = code.size;
+            capacity = capacity;
+            container = 0;
+            owner = owner;
+            words = words;
+            step = finds;
+            first = [];
+          }
+
+      -- the decision about the value at the index
       abbrev sees : List (Decision T) → ℕ → CallbackProgression → List (Decision T) → Type 0
       sees p index said q = Sees finds (map_in code capacity words) owner p index said q
 
@@ -115,9 +123,16 @@ module _ {T : Type 0} (code : Coding T) (capacity : ℕ) where
       wants_find c _ = find_want code.size c
 
       -- each step of the machine's find is a step of the find of `steps`
-      find_is : IsFlight code wants_find (find_after code.size) (find_kept kept_at) owner (λ c. Unit {0}) find_flight (λ e room. answers.Number e)
+      abbrev find_is : AsFlight code (Find T (Buffer 128)) ℕ (Buffer 128) ℕ
       find_is =
           record {
+            want = wants_find;
+            after = find_after code.size;
+            kept = find_kept kept_at;
+            given = owner;
+            Low = λ c. Unit {0};
+            flight = find_flight;
+            answer = λ e room. answers.Number e;
             wants = λ c room low. refl;
             goes = λ c room old low.
                 twice flights.Container under_way.Find answers.Number as_it_is owner (find_kept kept_at c room old) (find_after code.size c owner old);
@@ -144,8 +159,7 @@ module _ {T : Type 0} (code : Coding T) (capacity : ℕ) where
 
       -- The find, alone, has gone through `done` of its owner's indices, as `Searching` says.
       abbrev Searches : ℕ → Find T (Buffer 128) → Buffer 128 → List (Decision T) → List ℕ → Type 0
-      Searches done call room now ws =
-          finding.Searching code.value_of room_words kept_at put_in finds [] code.size capacity 0 owner words done call room now ws
+      Searches done call room now ws = finding.Searching find_case done call room now ws
 
       module _ (m done : ℕ) (call : Find T (Buffer 128)) (room : Buffer 128) (now : List (Decision T)) (ws : List ℕ)
           (t : Searches done call room now ws)
@@ -153,7 +167,7 @@ module _ {T : Type 0} (code : Coding T) (capacity : ℕ) where
           → Talks code (EndsRight (calls.Find owner)) m later (find_flight d room) last) where
         -- what a decision leads to talks on, or ends as the map says
         further : (a : After (Find T (Buffer 128)) ℕ) (r : Buffer 128) (later : List (Decision T)) (last : List ℕ)
-            → finding.Further code.value_of room_words kept_at put_in finds [] code.size capacity 0 owner words (done + 1) a r later last
+            → finding.Further find_case (done + 1) a r later last
             → Turns code (EndsRight (calls.Find owner)) (Talks code (EndsRight (calls.Find owner)) m) later
             (as_call (λ c. find_flight c r) (λ e. answers.Number e) a) last
         further (GoOn d) r later last further_on = rest d r later last further_on
@@ -164,27 +178,21 @@ module _ {T : Type 0} (code : Coding T) (capacity : ℕ) where
             → StopsAlike wants_find (find_after code.size) (find_kept kept_at) owner call room ws (stops.Asked question asks) r last
             → find_want code.size asks ≡ wants.Question (questions.Value (index_in question) tt)
         find_asks question asks r last alone =
-            let stop_is = stops_so wants_find (find_after code.size) (find_kept kept_at) owner _ call room words t.2.run (stops.Asked question asks) r last
-            (subst (λ vs. StopsAlike wants_find (find_after code.size) (find_kept kept_at) owner call room vs (stops.Asked question asks) r last)
-            t.1 alone) in
+            let stop_is = finding.asked t alone in
             ap (find_want code.size) stop_is.stands ∙ ap (λ q. wants.Question (questions.Value (index_in q) tt)) (sym stop_is.asks)
 
         -- at each stop a find has ended as the map says, or talks on, whatever is decided
         find_stops : (s : Stop (Find T (Buffer 128)) ℕ) (r : Buffer 128) (last : List ℕ)
             → StopsAlike wants_find (find_after code.size) (find_kept kept_at) owner call room ws s r last
             → AtStop code (EndsRight (calls.Find owner)) (Talks code (EndsRight (calls.Find owner)) m) now
-            (lift_stop code wants_find (find_after code.size) (find_kept kept_at) owner (λ c. Unit {0}) find_flight (λ e room. answers.Number e) s r) last
+            (lift_stop code find_is s r) last
         find_stops (stops.Ended n) r last alone =
-            let end = finding.ended_so code.value_of room_words kept_at put_in finds [] code.size capacity 0 owner words done call room now ws t
-            n r last alone in
-            found now n last end.0 end.1
+            let end = finding.ended_so t alone in found now n last end.0 end.1
         find_stops (stops.Asked question asks) r last alone = λ said.
             let later : List (Decision T) = now ++ decision (questions.Value (index_in question) (read_in code r)) said ∷ [] in
-            let next = finding.further_so code.value_of room_words kept_at put_in finds [] code.size capacity 0 owner words done call room now ws t
-            question asks r last alone (read_in code r) refl (index_in question) refl (progression said) later
+            let next = finding.further_so t alone refl refl (progression said) later
             (ap (λ b. now ++ decision (questions.Value (index_in question) (read_in code r)) b ∷ []) (sym (same_decision said)))
-            (number_of said) (same_number said) (find_after code.size asks owner (number_of said)) refl
-            (find_kept kept_at asks r (number_of said)) refl in
+            (record { answer = number_of said; said = same_number said; goes = refl; keeps = refl }) in
             let told : now ++ decided code (Some (find_flight asks r)) said ≡ later =
             ap (λ w. now ++ decided_at (Some (read_in code r)) w said) (find_asks question asks r last alone) in
             subst (λ ds. Turns code (EndsRight (calls.Find owner)) (Talks code (EndsRight (calls.Find owner)) m) ds
@@ -198,22 +206,19 @@ module _ {T : Type 0} (code : Coding T) (capacity : ℕ) where
       find_talks : (m done : ℕ) (call : Find T (Buffer 128)) (room : Buffer 128) (now : List (Decision T)) (ws : List ℕ) → done + m ≡ 2 ^ 64 - 1
           → Searches done call room now ws → Talks code (EndsRight (calls.Find owner)) m now (find_flight call room) ws
       find_talks zero done call room now ws sum searches =
-          let few = finding.few_rounds code.value_of room_words kept_at put_in finds [] code.size capacity 0 owner words done call room now ws searches in
-          absurd (omega arith)
+          let few = finding.few_rounds searches in absurd (omega arith)
       find_talks (suc m) done call room now ws sum searches =
-          let can = finding.can_go code.value_of room_words kept_at put_in finds [] code.size capacity 0 owner words done call room now ws searches in
-          talks_as code wants_find (find_after code.size) (find_kept kept_at) owner (λ c. Unit {0}) find_flight (λ e room. answers.Number e) find_is
-          (EndsRight (calls.Find owner)) m now call room ws tt can
+          let can = finding.can_go searches in
+          talks_as code find_is (EndsRight (calls.Find owner)) m now tt can
           (find_stops m done call room now ws searches (λ d r later last u. find_talks m (done + 1) d r later last (omega arith) u)
-          can.stop can.last_room can.last_words (alike wants_find (find_after code.size) (find_kept kept_at) owner call room ws can))
+          can.stop can.last_room can.last_words (alike can))
 
       -- a find, alone, says what the map says
       finds_all : SaysAsMap (calls.Find owner)
       finds_all = (
         2 ^ 64 - 1,
         find_talks (2 ^ 64 - 1) 0 (first_find capacity) fresh_cell [] words (omega arith)
-            (finding.starts code.value_of room_words kept_at put_in finds [] code.size capacity 0 owner words (first_find capacity) refl fresh_cell
-            roomy (ready owner lives)),
+            (finding.starts find_case (first_find capacity) refl fresh_cell roomy (ready owner lives)),
       )
 
     -- ---- a recovery
@@ -228,6 +233,23 @@ module _ {T : Type 0} (code : Coding T) (capacity : ℕ) where
       abbrev asks : List (Decision T) → T → Bool → List (Decision T) → Type 0
       asks p value said q = q ≡ p ++ decision (questions.Value (asked_at (length p)) value) said ∷ []
 
+      -- a recovery over these words with that closure, which has decided nothing yet
+      abbrev recover_case : recovering.RecoverCase T (Buffer 128) (List (Decision T))
+      recover_case =
+          record {
+            value_of = code.value_of;
+            as_room = buffer;
+            size = code.size;
+            capacity = capacity;
+            container = 0;
+            owner = owner;
+            mode = mode;
+            words = words;
+            step = asks;
+            first = [];
+          }
+
+      -- the decision about the value that a question is about
       abbrev says : List (Decision T) → Asked → List (Decision T) → Type 0
       says p a q = Says asks (map_in code capacity words) p a.of.owner a.of.index a.yes q
 
@@ -240,10 +262,16 @@ module _ {T : Type 0} (code : Coding T) (capacity : ℕ) where
       recover_flight c room = flights.Container (under_way.Recover (record { call = c; given = record { owner = owner; mode = mode }; room = room }))
 
       -- each step of the machine's recovery is a step of the recovery of `steps`
-      recover_is : IsFlight code (recover_want code.size) (recover_after code.size) (recover_kept kept_at) dead (λ c. Unit {0}) recover_flight
-          (λ e room. answers.State e)
+      abbrev recover_is : AsFlight code (Recover T (Buffer 128)) DeadOwner (Buffer 128) ReleaseState
       recover_is =
           record {
+            want = recover_want code.size;
+            after = recover_after code.size;
+            kept = recover_kept kept_at;
+            given = dead;
+            Low = λ c. Unit {0};
+            flight = recover_flight;
+            answer = λ e room. answers.State e;
             wants = λ c room low. refl;
             goes = λ c room old low.
                 twice flights.Container under_way.Recover answers.State as_it_is dead (recover_kept kept_at c room old) (recover_after code.size c dead old);
@@ -275,7 +303,7 @@ module _ {T : Type 0} (code : Coding T) (capacity : ℕ) where
 
       -- a recovery that has come to its end says what the map says
       gone : (told : List (Decision T)) (state : ReleaseState) (last : List ℕ)
-          → recovering.Gone code.value_of room_words kept_at put_in asks [] code.size capacity 0 owner mode words state told last
+          → recovering.Gone recover_case state told last
           → EndsRight (calls.Recover owner mode) told (answers.State state) last
       gone told state last has_gone =
           let was =
@@ -294,8 +322,7 @@ module _ {T : Type 0} (code : Coding T) (capacity : ℕ) where
 
       -- The recovery, alone, has gone through `done` of its owner's indices, as `Searching` says.
       abbrev Recovers : ℕ → Recover T (Buffer 128) → Buffer 128 → List (Decision T) → List ℕ → Type 0
-      Recovers done call room now ws =
-          recovering.Searching code.value_of room_words kept_at put_in asks [] code.size capacity 0 owner mode words done call room now ws
+      Recovers done call room now ws = recovering.Searching recover_case done call room now ws
 
       module _ (m done : ℕ) (call : Recover T (Buffer 128)) (room : Buffer 128) (now : List (Decision T)) (ws : List ℕ)
           (t : Recovers done call room now ws)
@@ -306,27 +333,24 @@ module _ {T : Type 0} (code : Coding T) (capacity : ℕ) where
             → StopsAlike (recover_want code.size) (recover_after code.size) (recover_kept kept_at) dead call room ws (stops.Asked question put) r last
             → recover_want code.size put dead ≡ wants.Question (questions.Value (asked_at (length now)) tt)
         recover_asks question put r last alone =
-            let stop_is = stops_so (recover_want code.size) (recover_after code.size) (recover_kept kept_at) dead _ call room ws t.1.run
-            (stops.Asked question put) r last alone in
-            let long : length now ≡ length t.1.asked =
+            let stop_is = recovering.stops_at t alone in
+            let so_far = t.recovering in
+            let long : length now ≡ length so_far.asked =
             (let all = folds_long says
             (λ p a q w. ap length w.2 ∙ length-append p (decision (questions.Value (asked_at (length p)) w.0) a.yes ∷ []))
-            t.1.asked [] now t.1.answers in omega arith) in
+            so_far.asked [] now so_far.answers in omega arith) in
             let place : asked_at (length now) ≡ stop_is.index =
-            (λ i. slice_index (map (λ (o : Owned). o.index) ((sym t.1.joined ∙ ap (λ l. asked_questions t.1.asked ++ l) stop_is.left_is) i)) (long i))
-            ∙ placed t.1.asked (record { owner = owner; index = stop_is.index }) _ in
+            (λ i. slice_index (map (λ (o : Owned). o.index) ((sym so_far.joined ∙ ap (λ l. asked_questions so_far.asked ++ l) stop_is.left_is) i)) (long i))
+            ∙ placed so_far.asked (record { owner = owner; index = stop_is.index }) _ in
             ap (λ c. recover_want code.size c dead) stop_is.stands ∙ ap (λ n. wants.Question (questions.Value n tt)) (sym place)
 
         -- at each stop a recovery has ended as the map says, or talks on, whatever is decided
         recover_stops : (s : Stop (Recover T (Buffer 128)) ReleaseState) (r : Buffer 128) (last : List ℕ)
             → StopsAlike (recover_want code.size) (recover_after code.size) (recover_kept kept_at) dead call room ws s r last
             → AtStop code (EndsRight (calls.Recover owner mode)) (Talks code (EndsRight (calls.Recover owner mode)) m) now
-            (lift_stop code (recover_want code.size) (recover_after code.size) (recover_kept kept_at) dead (λ c. Unit {0}) recover_flight
-            (λ e room. answers.State e) s r) last
+            (lift_stop code recover_is s r) last
         recover_stops (stops.Ended state) r last alone =
-            gone now state last
-            (recovering.ended_so code.value_of room_words kept_at put_in asks [] code.size capacity 0 owner mode words done call room now ws t
-            state r last alone)
+            gone now state last (recovering.ended_so t alone)
         recover_stops (stops.Asked question put) r last alone = λ said.
             let later : List (Decision T) = now ++ decision (questions.Value (asked_at (length now)) (read_in code r)) said ∷ [] in
             let told : now ++ decided code (Some (recover_flight put r)) said ≡ later =
@@ -337,14 +361,12 @@ module _ {T : Type 0} (code : Coding T) (capacity : ℕ) where
             (subst (λ a. Turns code (EndsRight (calls.Recover owner mode)) (Talks code (EndsRight (calls.Recover owner mode)) m) later a last)
             (sym (recover_is.goes put r (number_of said) tt))
             (onward (recover_after code.size put dead (number_of said)) said later
-            (recovering.further_so code.value_of room_words kept_at put_in asks [] code.size capacity 0 owner mode words done call room now ws t
-            question put r last alone (read_in code r) refl said later refl (number_of said) (yes_number said)
-            (recover_after code.size put dead (number_of said)) refl (recover_kept kept_at put r (number_of said)) refl)))
+            (recovering.further_so t alone refl said later refl
+            (record { answer = number_of said; answer_is = yes_number said; goes = refl; keeps = refl }))))
           where
             -- what a decision leads to talks on, or ends as the map says
             onward : (a : After (Recover T (Buffer 128)) ReleaseState) (said : Bool) (later : List (Decision T))
-                → recovering.Further code.value_of room_words kept_at put_in asks [] code.size capacity 0 owner mode words done call room now ws t
-                question put r last alone (read_in code r) refl a (recover_kept kept_at put r (number_of said)) later
+                → recovering.Further recover_case (done + 1) a (recover_kept kept_at put r (number_of said)) later last
                 → Turns code (EndsRight (calls.Recover owner mode)) (Talks code (EndsRight (calls.Recover owner mode)) m) later
                 (as_call (λ c. recover_flight c (recover_kept kept_at put r (number_of said))) (λ e. answers.State e) a) last
             onward (GoOn d) said later goes_onward = rest d (recover_kept kept_at put r (number_of said)) later last goes_onward
@@ -354,25 +376,20 @@ module _ {T : Type 0} (code : Coding T) (capacity : ℕ) where
       recover_talks : (m done : ℕ) (call : Recover T (Buffer 128)) (room : Buffer 128) (now : List (Decision T)) (ws : List ℕ)
           → done + m ≡ 2 ^ 64 - 1 → Recovers done call room now ws → Talks code (EndsRight (calls.Recover owner mode)) m now (recover_flight call room) ws
       recover_talks zero done call room now ws sum recovers =
-          let few =
-          recovering.few_rounds code.value_of room_words kept_at put_in asks [] code.size capacity 0 owner mode
-          words done call room now ws recovers in
-          absurd (omega arith)
+          let few = recovering.few_rounds recovers in absurd (omega arith)
       recover_talks (suc m) done call room now ws sum recovers =
-          let can = recovering.can_go code.value_of room_words kept_at put_in asks [] code.size capacity 0 owner mode words done call room now ws recovers in
-          talks_as code (recover_want code.size) (recover_after code.size) (recover_kept kept_at) dead (λ c. Unit {0}) recover_flight
-          (λ e room. answers.State e) recover_is (EndsRight (calls.Recover owner mode)) m now call room ws tt can
+          let can = recovering.can_go recovers in
+          talks_as code recover_is (EndsRight (calls.Recover owner mode)) m now tt can
           (recover_stops m done call room now ws recovers (λ d r later last u. recover_talks m (done + 1) d r later last (omega arith) u)
           can.stop can.last_room can.last_words
-          (alike (recover_want code.size) (recover_after code.size) (recover_kept kept_at) dead call room ws can))
+          (alike can))
 
       -- a recovery, alone, says what the map says
       recovers_all : SaysAsMap (calls.Recover owner mode)
       recovers_all = (
         2 ^ 64 - 1,
         recover_talks (2 ^ 64 - 1) 0 (first_recover capacity) fresh_cell [] words (omega arith)
-            (recovering.starts code.value_of room_words kept_at put_in asks [] code.size capacity 0 owner mode words (first_recover capacity) refl
-            fresh_cell roomy (ready owner lives)),
+            (recovering.starts recover_case (first_recover capacity) refl fresh_cell roomy (ready owner lives)),
       )
 
     -- each call that is no look, and names an owner as it may, says alone what the map says

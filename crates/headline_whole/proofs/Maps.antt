@@ -1,9 +1,9 @@
 -- The calls of a container that are no look and ask about no value, run whole, are those of a map from index to owner and value.
 use Rattle.std.proofs.Common.{◌≡◌, ℕ, ◌^◌, ◌<◌, ◌≤◌, Option, None, Ok, Err, List, []}
 use Rattle.std.proofs.Common.{map, refl, ap, ◌∙◌, arith}
-use Rattle.steps.specs.Container.Add.{Added, first_add, add_want, add_after}
-use Rattle.steps.specs.Container.Remove.{first_remove, remove_want, remove_after}
-use Rattle.steps.specs.Container.Replace.{first_replace, replace_want, replace_after}
+use Rattle.steps.specs.Container.Add.{Added, add_want, add_after}
+use Rattle.steps.specs.Container.Remove.{remove_want, remove_after}
+use Rattle.steps.specs.Container.Replace.{replace_want, replace_after}
 use Rattle.steps.specs.Indices.Robust.Looks.{first_borrowed, borrowed_want, borrowed_after, locked_after}
 use Rattle.steps.specs.Indices.Robust.Parts.{empty}
 use Rattle.steps.specs.Queues.Ring.{load}
@@ -31,11 +31,10 @@ use Rattle.plain.specs.States.{Snapshot}
 use Rattle.plain.proofs.Elements.Adds as adds
 use Rattle.plain.proofs.Elements.Adds.{add_at}
 use Rattle.plain.proofs.Elements.Filled.{still, values_long, filled_add, filled_counted, filled_remove, filled_replace}
-use Rattle.plain.proofs.Elements.Looks.{Counted, count_at, Looked, look_at}
-use Rattle.plain.proofs.Elements.Removes as removes
+use Rattle.plain.proofs.Elements.Looks.{count_at, look_at}
 use Rattle.plain.proofs.Elements.Removes.{remove_at}
-use Rattle.plain.proofs.Elements.Replaces as replaces
 use Rattle.plain.proofs.Elements.Replaces.{replace_at}
+use Rattle.plain.proofs.Elements.Values.{Codes}
 use Rattle.plain.proofs.Walks.{any_low}
 use Rattle.headline_whole.specs.Dialogues.{Decision, as_request, as_reply}
 use Rattle.headline_whole.specs.Objects.{handle_to, add_answer, map_after, map_answer, whole_map}
@@ -45,6 +44,19 @@ use Rattle.headline_whole.proofs.Decisions.{yes_of}
 -- A container opens with a capacity from 1 to 2 ^ 32 - 1.
 pub admitted : (c : ℕ) → capacity_error kinds.Container c ≡ None → (1 ≤ c) × (c < 2 ^ 32)
 admitted = grind arith
+
+-- How a machine's coding stores values, as the calls of `plain` take it.
+abbrev pub codes_of : {T : Type 0} (code : Coding T) → IsCoding code → Codes T
+codes_of code coded =
+    record {
+      words_of = code.words_of;
+      value_of = code.value_of;
+      size = code.size;
+      sized = coded.sized;
+      given_back = coded.given_back;
+      some = coded.some;
+      wide = coded.few;
+    }
 
 module _ {T : Type 0} (code : Coding T) (capacity : ℕ) where
   -- The map from index to owner and value that these words of a container hold.
@@ -71,6 +83,10 @@ module _ {T : Type 0} (code : Coding T) (capacity : ℕ) where
 
   module _ (coded : IsCoding code) (views : ℕ → Option (Snapshot T)) (p : ℕ) (words : List ℕ)
       (h : Holds code.value_of code.size capacity 0 words) where
+    -- how values are stored
+    abbrev codes : Codes T
+    codes = codes_of code coded
+
     -- The call of the container, run alone from these words, answers and leaves what the map does.
     abbrev pub RunsAsMap : ContainerStart T → Type 0
     RunsAsMap start = FlightRuns code (Answers words (views p) start) (flights.Container (first capacity start)) words
@@ -81,92 +97,87 @@ module _ {T : Type 0} (code : Coding T) (capacity : ℕ) where
 
       -- An add of the machine answers what an add of the sequential form answers.
       say_added : (e : Added)
-          → added {T = T} e ≡ add_answer (adds.handle_of code.words_of code.value_of code.size coded.sized coded.given_back coded.some coded.few capacity 0
-          (record { value = value; owner = owner }) e)
+          → added {T = T} e ≡ add_answer (adds.handle_of codes capacity 0 given e)
       say_added (Ok index) = refl
       say_added (Err failure) = refl
 
       -- an add, run alone, answers and leaves what the map does
       pub adds_one : RunsAsMap (calls.Add value owner)
       adds_one =
-          runs_as code (add_want code.words_of code.size) (λ c given old. add_after code.size c old) (λ c (room : Unit {0}) old. room)
-          (record { value = value; owner = owner })
-          (λ c. Unit {0})
-          (λ c room. flights.Container (under_way.Add (record { call = c; given = record { value = value; owner = owner }; room = room })))
-          (λ e room. added e)
+          runs_as code
           (record {
+            want = add_want code.words_of code.size;
+            after = λ c given old. add_after code.size c old;
+            kept = λ c (room : Unit {0}) old. room;
+            given = given;
+            Low = λ c. Unit {0};
+            flight = λ c room. flights.Container (under_way.Add (record { call = c; given = given; room = room }));
+            answer = λ e room. added e;
             wants = λ c room low. refl;
             goes = λ c room old low.
-                twice flights.Container under_way.Add added as_it_is (record { value = value; owner = owner }) room (add_after code.size c old);
+                twice flights.Container under_way.Add added as_it_is given room (add_after code.size c old);
             stays = λ c old low. any_low (add_after code.size c old);
           })
-          (λ e room ws. adds.Put code.words_of code.value_of code.size coded.sized coded.given_back coded.some coded.few capacity 0
-          (record { value = value; owner = owner }) words e ws)
-          (Answers words (views p) (calls.Add value owner))
+          (add_at codes capacity 0 given refl lives refl h.0)
+          tt
           (λ e room last p.
           let still_stands = still code.value_of code.size capacity 0 (λ (s : Contents T). contents.added s owner) (λ s. contents.after_add s owner value) words
-          (filled_add owner value (contents_in code.value_of code.size capacity 0 words) (values_long code.value_of code.size capacity 0 words h.0) h.1)
-          _ last p in
+          (filled_add owner value (contents_in code.value_of code.size capacity 0 words) (values_long code.value_of 0 h.0) h.1) p in
           record { said = say_added e ∙ ap add_answer still_stands.1; holds = still_stands.0; object = still_stands.2 })
-          (first_add capacity) tt words tt
-          (add_at code.words_of code.value_of code.size coded.sized coded.given_back coded.some coded.few capacity 0
-          (record { value = value; owner = owner }) owner refl lives (first_add capacity) refl words h.0)
 
     -- a remove, run alone, answers and leaves what the map does
     pub removes_one : (index owner : ℕ) (mode : ReleaseMode) → owner < empty → RunsAsMap (calls.Remove index owner mode)
     removes_one index owner mode lives =
-        runs_as code remove_want remove_after (λ c (room : Unit {0}) old. room)
-        (record { index = place_of capacity index; owner = owner; mode = mode })
-        (λ c. Unit {0})
-        (λ c room. flights.Container (under_way.Remove
-        (record { call = c; given = record { index = place_of capacity index; owner = owner; mode = mode }; room = room })))
-        (λ e room. removed e)
+        runs_as code
         (record {
+          want = remove_want;
+          after = remove_after;
+          kept = λ c (room : Unit {0}) old. room;
+          given = record { index = place_of capacity index; owner = owner; mode = mode };
+          Low = λ c. Unit {0};
+          flight = λ c room. flights.Container
+              (under_way.Remove (record { call = c; given = record { index = place_of capacity index; owner = owner; mode = mode }; room = room }));
+          answer = λ e room. removed e;
           wants = λ c room low. refl;
           goes = λ c room old low.
               twice flights.Container under_way.Remove removed as_it_is (record { index = place_of capacity index; owner = owner; mode = mode }) room
               (remove_after c (record { index = place_of capacity index; owner = owner; mode = mode }) old);
           stays = λ c old low. any_low (remove_after c (record { index = place_of capacity index; owner = owner; mode = mode }) old);
         })
-        (λ e room ws. removes.Gone code.value_of code.size coded.few capacity 0 (place_of capacity index) owner mode words e ws)
-        (Answers words (views p) (calls.Remove index owner mode))
+        (remove_at codes capacity 0 (record { index = place_of capacity index; owner = owner; mode = mode }) refl lives refl h.0)
+        tt
         (λ e room last p.
         let still_stands = still code.value_of code.size capacity 0 (λ (s : Contents T). contents.removed s (handle_to capacity index owner) mode)
         (λ s. contents.after_remove s (handle_to capacity index owner) mode) words
-        (filled_remove (handle_to capacity index owner) mode (contents_in code.value_of code.size capacity 0 words) h.1) e last p in
+        (filled_remove (handle_to capacity index owner) mode (contents_in code.value_of code.size capacity 0 words) h.1) p in
         record { said = ap removed still_stands.1; holds = still_stands.0; object = still_stands.2 })
-        (first_remove capacity (place_of capacity index)) tt words tt
-        (remove_at code.value_of code.size coded.few capacity 0 (place_of capacity index) owner mode owner refl lives
-        (first_remove capacity (place_of capacity index)) refl words h.0)
 
     -- a replace, run alone, answers and leaves what the map does
     pub replaces_one : (index : ℕ) (value : T) (owner : ℕ) → owner < empty → RunsAsMap (calls.Replace index value owner)
     replaces_one index value owner lives =
-        runs_as code (replace_want code.words_of code.size) (replace_after code.size) (λ c (room : Unit {0}) old. room)
-        (record { index = place_of capacity index; owner = owner; value = value })
-        (λ c. Unit {0})
-        (λ c room. flights.Container (under_way.Replace
-        (record { call = c; given = record { index = place_of capacity index; owner = owner; value = value }; room = room })))
-        (λ e room. replaced e)
+        runs_as code
         (record {
+          want = replace_want code.words_of code.size;
+          after = replace_after code.size;
+          kept = λ c (room : Unit {0}) old. room;
+          given = record { index = place_of capacity index; owner = owner; value = value };
+          Low = λ c. Unit {0};
+          flight = λ c room. flights.Container
+              (under_way.Replace (record { call = c; given = record { index = place_of capacity index; owner = owner; value = value }; room = room }));
+          answer = λ e room. replaced e;
           wants = λ c room low. refl;
           goes = λ c room old low.
               twice flights.Container under_way.Replace replaced as_it_is (record { index = place_of capacity index; owner = owner; value = value }) room
               (replace_after code.size c (record { index = place_of capacity index; owner = owner; value = value }) old);
           stays = λ c old low. any_low (replace_after code.size c (record { index = place_of capacity index; owner = owner; value = value }) old);
         })
-        (λ e room ws. replaces.Put code.words_of code.value_of code.size coded.sized coded.given_back coded.some coded.few capacity 0
-        (record { index = place_of capacity index; owner = owner; value = value }) words e ws)
-        (Answers words (views p) (calls.Replace index value owner))
+        (replace_at codes capacity 0 (record { index = place_of capacity index; owner = owner; value = value }) refl lives refl h.0)
+        tt
         (λ e room last p.
         let still_stands = still code.value_of code.size capacity 0 (λ (s : Contents T). contents.replaced s (handle_to capacity index owner))
         (λ s. contents.after_replace s (handle_to capacity index owner) value) words
-        (filled_replace (handle_to capacity index owner) value (contents_in code.value_of code.size capacity 0 words) h.1) e last p in
+        (filled_replace (handle_to capacity index owner) value (contents_in code.value_of code.size capacity 0 words) h.1) p in
         record { said = ap replaced still_stands.1; holds = still_stands.0; object = still_stands.2 })
-        (first_replace capacity (place_of capacity index)) tt words tt
-        (replace_at code.words_of code.value_of code.size coded.sized coded.given_back coded.some coded.few capacity 0
-        (record { index = place_of capacity index; owner = owner; value = value }) owner refl lives
-        (first_replace capacity (place_of capacity index)) refl words h.0)
 
     -- a call that counts the indices in use, run alone, answers by their number, and leaves what the map does
     pub counts_so : (which : CountOf) (start : ContainerStart T)
@@ -175,35 +186,45 @@ module _ {T : Type 0} (code : Coding T) (capacity : ℕ) where
         → FlightRuns code (Answers words (views p) start)
         (flights.Container (under_way.Count which (record { call = first_borrowed capacity; given = tt; room = tt }))) words
     counts_so which start so =
-        runs_as code (λ (c : BorrowedIndices) (given : Unit {0}). borrowed_want c) (λ c given old. borrowed_after c old) (λ c (room : Unit {0}) old. room) tt
-        (λ c. Unit {0}) (λ c room. flights.Container (under_way.Count which (record { call = c; given = tt; room = room }))) (λ e room. counted which e)
+        runs_as code
         (record {
+          want = λ (c : BorrowedIndices) (given : Unit {0}). borrowed_want c;
+          after = λ c given old. borrowed_after c old;
+          kept = λ c (room : Unit {0}) old. room;
+          given = tt;
+          Low = λ c. Unit {0};
+          flight = λ c room. flights.Container (under_way.Count which (record { call = c; given = tt; room = room }));
+          answer = λ e room. counted which e;
           wants = λ c room low. refl;
           goes = λ c room old low.
               twice flights.Container (λ r. under_way.Count which r) (counted which) as_it_is tt room (borrowed_after c old);
           stays = λ c old low. any_low (borrowed_after c old);
         })
-        (λ e room ws. Counted code.value_of code.size capacity 0 words e ws)
-        (Answers words (views p) start)
+        (count_at code.value_of code.size capacity 0 refl h.0)
+        tt
         (λ e room last p.
         let still_stands = still code.value_of code.size capacity 0 (contents.number {V = T}) (contents.counted {V = T}) words
-        (filled_counted (contents_in code.value_of code.size capacity 0 words) h.1) e last p in
+        (filled_counted (contents_in code.value_of code.size capacity 0 words) h.1) p in
         so e last still_stands.1 still_stands.0 still_stands.2)
-        (first_borrowed capacity) tt words tt (count_at code.value_of code.size capacity 0 (first_borrowed capacity) refl words h.0)
 
     -- a look whether the container is locked, run alone, answers and leaves what the map does
     pub looks : RunsAsMap calls.IsLocked
     looks =
-        runs_as code (λ (c : IsLocked) (given : Unit {0}). load 0) (λ c given old. locked_after c old) (λ c (room : Unit {0}) old. room) tt
-        (λ c. Unit {0}) (λ c room. flights.Container (under_way.IsLocked (record { call = c; given = tt; room = room }))) (λ e room. answers.Truth e)
+        runs_as code
         (record {
+          want = λ (c : IsLocked) (given : Unit {0}). load 0;
+          after = λ c given old. locked_after c old;
+          kept = λ c (room : Unit {0}) old. room;
+          given = tt;
+          Low = λ c. Unit {0};
+          flight = λ c room. flights.Container (under_way.IsLocked (record { call = c; given = tt; room = room }));
+          answer = λ e room. answers.Truth e;
           wants = λ c room low. refl;
           goes = λ c room old low. refl;
           stays = λ c old low. tt;
         })
-        (λ e room ws. Looked code.value_of code.size capacity 0 words e ws)
-        (Answers words (views p) calls.IsLocked)
+        (look_at code.value_of code.size capacity 0 h.0)
+        tt
         (λ e room last p.
-        let still_stands = still code.value_of code.size capacity 0 (contents.is_locked {V = T}) (λ s. s) words h.1 e last p in
+        let still_stands = still code.value_of code.size capacity 0 (contents.is_locked {V = T}) (λ s. s) words h.1 p in
         record { said = ap answers.Truth still_stands.1; holds = still_stands.0; object = still_stands.2 })
-        (record {}) tt words tt (look_at code.value_of code.size capacity 0 (record {}) words h.0)

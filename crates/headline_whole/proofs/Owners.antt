@@ -51,24 +51,20 @@ use Rattle.model.specs.World.{Trace, capacity_error}
 use Rattle.model.proofs.Rows.{passes, may_begin, row_passed}
 use Rattle.plain.specs.declared.drive.Stop.{Stop}
 use Rattle.plain.specs.declared.drive.Stop.TheVariants as stops
-use Rattle.plain.specs.Alone.{BehavesAs, StopsAlike}
+use Rattle.plain.specs.Alone.{StopsAlike}
 use Rattle.plain.specs.Callable.{HasFound, index_in}
 use Rattle.plain.specs.Robust.{owner_in, owners_in, Represents}
 use Rattle.plain.proofs.Robust.Acquires.{take_at}
-use Rattle.plain.proofs.Alone.{stops_so}
-use Rattle.plain.proofs.Robust.Finding.{Searching, Further, can_go, ended_so, further_so}
-use Rattle.plain.proofs.Robust.Finding.{starts as starts_find, few_rounds as find_rounds}
+use Rattle.plain.proofs.Robust.Finding as finding
 use Rattle.plain.proofs.Robust.Looks.{borrowed_at, looked_at}
-use Rattle.plain.proofs.Robust.Recovering.{Recovering, Gone, Onward, asks_so, onward_so}
-use Rattle.plain.proofs.Robust.Recovering.{can_go as recover_can, ended_so as recovered_so, starts as starts_recover, few_rounds as recover_rounds}
-use Rattle.plain.proofs.Robust.Recovers.{AsksAt}
+use Rattle.plain.proofs.Robust.Recovering as recovering
 use Rattle.plain.proofs.Robust.Releases.{give_at}
 use Rattle.plain.proofs.Walks.{any_low}
 use Rattle.headline_whole.specs.Dialogues.{Decision, decided, decided_at}
 use Rattle.headline_whole.specs.Objects.{owners_after, owners_questions, owners_answer, owners_freed, whole_owners}
 use Rattle.headline_whole.proofs.Agree.{Agree}
 use Rattle.headline_whole.proofs.Courses.{Course, IsMadeSo, Rules}
-use Rattle.headline_whole.proofs.Flights.{FlightRuns, IsFlight, Turns, AtStop, Talks, talks_once, lift_stop, runs_as, talks_as, alike, twice}
+use Rattle.headline_whole.proofs.Flights.{FlightRuns, AsFlight, Turns, AtStop, Talks, talks_once, lift_stop, runs_as, talks_as, alike, twice}
 use Rattle.headline_whole.proofs.Replies.{course}
 use Rattle.headline_whole.proofs.SoloCalls.{Speech, EndsAsObject, Speaks, talking, talk_rules}
 use Rattle.headline_whole.proofs.Decisions.{goes_on, progression, same_decision, same_number, yes_number, yes_of, decision, found_so, asked_so}
@@ -139,67 +135,85 @@ module _ {T : Type 0} where
     -- an acquire, run alone, answers and leaves what the map does
     acquires : (owner : ℕ) → owner < empty → RunsAsMap (calls.Acquire owner)
     acquires owner lives =
-        runs_as code acquire_want (λ c given old. acquire_after c old) (λ c (room : Unit {0}) old. room) owner
-        (λ c. Unit {0}) (λ c room. flights.Robust (under_way.Acquire (record { call = c; given = owner; room = room }))) (λ e room. acquire_answer e)
+        runs_as code
         (record {
+          want = acquire_want;
+          after = λ c given old. acquire_after c old;
+          kept = λ c (room : Unit {0}) old. room;
+          given = owner;
+          Low = λ c. Unit {0};
+          flight = λ c room. flights.Robust (under_way.Acquire (record { call = c; given = owner; room = room }));
+          answer = λ e room. acquire_answer e;
           wants = λ c room low. refl;
           goes = λ c room old low. twice flights.Robust under_way.Acquire acquire_answer as_it_is owner room (acquire_after c old);
           stays = λ c old low. any_low (acquire_after c old);
         })
-        (λ e room ws. BehavesAs (Represents capacity) owners_in objects.acquired (λ s. objects.after_acquire s owner) words e ws)
-        (Answers capacity words (calls.Acquire owner))
+        (take_at capacity owner owner refl lives (first_acquire capacity) refl words fits)
+        tt
         (λ e room last h. record { said = ap acquire_answer h.1; holds = h.0; object = h.2 })
-        (first_acquire capacity) tt words tt (take_at capacity owner owner refl lives (first_acquire capacity) refl words fits)
 
     -- a release, run alone, answers and leaves what the map does
     releases : (index owner : ℕ) (mode : ReleaseMode) → owner < empty → index < capacity → RunsAsMap (calls.Release index owner mode)
     releases index owner mode lives low =
-        runs_as code release_want release_after (λ c (room : Unit {0}) old. room) (record { index = index; owner = owner; mode = mode })
-        (λ c. Unit {0})
-        (λ c room. flights.Robust (under_way.Release (record { call = c; given = record { index = index; owner = owner; mode = mode }; room = room })))
-        (λ e room. release_answer e)
+        runs_as code
         (record {
+          want = release_want;
+          after = release_after;
+          kept = λ c (room : Unit {0}) old. room;
+          given = record { index = index; owner = owner; mode = mode };
+          Low = λ c. Unit {0};
+          flight = λ c room. flights.Robust
+              (under_way.Release (record { call = c; given = record { index = index; owner = owner; mode = mode }; room = room }));
+          answer = λ e room. release_answer e;
           wants = λ c room low. refl;
           goes = λ c room old low.
               twice flights.Robust under_way.Release release_answer as_it_is (record { index = index; owner = owner; mode = mode }) room
               (release_after c (record { index = index; owner = owner; mode = mode }) old);
           stays = λ c old low. any_low (release_after c (record { index = index; owner = owner; mode = mode }) old);
         })
-        (λ e room ws. BehavesAs (Represents capacity) owners_in (λ s. objects.released s index owner mode)
-        (λ s. objects.after_release s index owner mode) words e ws)
-        (Answers capacity words (calls.Release index owner mode))
+        (give_at capacity index owner mode owner refl lives (first_release capacity) refl words fits low)
+        tt
         (λ e room last h. record { said = ap release_answer h.1; holds = h.0; object = h.2 })
-        (first_release capacity) tt words tt (give_at capacity index owner mode owner refl lives (first_release capacity) refl words fits low)
 
     -- a count of the indices in use, run alone, answers and leaves what the map does
     counts : RunsAsMap calls.BorrowedIndices
     counts =
-        runs_as code (λ (c : BorrowedIndices) (given : Unit {0}). borrowed_want c) (λ c given old. borrowed_after c old) (λ c (room : Unit {0}) old. room) tt
-        (λ c. Unit {0}) (λ c room. flights.Robust (under_way.BorrowedIndices (record { call = c; given = tt; room = room }))) (λ e room. answers.Number e)
+        runs_as code
         (record {
+          want = λ (c : BorrowedIndices) (given : Unit {0}). borrowed_want c;
+          after = λ c given old. borrowed_after c old;
+          kept = λ c (room : Unit {0}) old. room;
+          given = tt;
+          Low = λ c. Unit {0};
+          flight = λ c room. flights.Robust (under_way.BorrowedIndices (record { call = c; given = tt; room = room }));
+          answer = λ e room. answers.Number e;
           wants = λ c room low. refl;
           goes = λ c room old low. twice flights.Robust under_way.BorrowedIndices answers.Number as_it_is tt room (borrowed_after c old);
           stays = λ c old low. any_low (borrowed_after c old);
         })
-        (λ e room ws. BehavesAs (Represents capacity) owners_in objects.borrowed objects.raised words e ws)
-        (Answers capacity words calls.BorrowedIndices)
+        (borrowed_at capacity (first_borrowed capacity) refl words fits)
+        tt
         (λ e room last h. record { said = ap answers.Number h.1; holds = h.0; object = h.2 })
-        (first_borrowed capacity) tt words tt (borrowed_at capacity (first_borrowed capacity) refl words fits)
 
     -- a look whether the set is locked, run alone, answers and leaves what the map does
     looks : RunsAsMap calls.IsLocked
     looks =
-        runs_as code (λ (c : IsLocked) (given : Unit {0}). load 0) (λ c given old. locked_after c old) (λ c (room : Unit {0}) old. room) tt
-        (λ c. Unit {0}) (λ c room. flights.Robust (under_way.IsLocked (record { call = c; given = tt; room = room }))) (λ e room. answers.Truth e)
+        runs_as code
         (record {
+          want = λ (c : IsLocked) (given : Unit {0}). load 0;
+          after = λ c given old. locked_after c old;
+          kept = λ c (room : Unit {0}) old. room;
+          given = tt;
+          Low = λ c. Unit {0};
+          flight = λ c room. flights.Robust (under_way.IsLocked (record { call = c; given = tt; room = room }));
+          answer = λ e room. answers.Truth e;
           wants = λ c room low. refl;
           goes = λ c room old low. refl;
           stays = λ c old low. tt;
         })
-        (λ e room ws. BehavesAs (Represents capacity) owners_in objects.is_locked (λ s. s) words e ws)
-        (Answers capacity words calls.IsLocked)
+        (looked_at capacity (record {}) words fits)
+        tt
         (λ e room last h. record { said = ap answers.Truth h.1; holds = h.0; object = h.2 })
-        (record {}) tt words tt (looked_at capacity (record {}) words fits)
 
     -- ---- a find
 
@@ -209,15 +223,29 @@ module _ {T : Type 0} where
       abbrev finds : List (Decision T) → ℕ → CallbackProgression → List (Decision T) → Type 0
       finds p index said q = q ≡ p ++ decision (questions.Index index) (goes_on said) ∷ []
 
+      -- a find over these words with that closure, which has decided nothing yet
+      abbrev find_case : finding.FindCase (List (Decision T))
+      find_case = record { capacity = capacity; owner = owner; words = words; step = finds; first = [] }
+
+      -- The find, alone, has gone through `done` of its owner's indices, as `Searching` says.
+      abbrev Searches : ℕ → Find → List (Decision T) → List ℕ → Type 0
+      Searches done call now ws = finding.Searching find_case done call now ws
+
       -- The find as a call of the machine.
       abbrev find_flight : Find → Unit {0} → Flight T
       find_flight c room = flights.Robust (under_way.Find (record { call = c; given = owner; room = room }))
 
       -- each step of the machine's find is a step of the find of `steps`
-      find_is : IsFlight code (λ (c : Find) (given : ℕ). find_want c) find_after (λ c (room : Unit {0}) old. room) owner (λ c. Unit {0})
-          find_flight (λ e room. answers.Number e)
+      abbrev find_is : AsFlight code Find ℕ (Unit {0}) ℕ
       find_is =
           record {
+            want = λ c given. find_want c;
+            after = find_after;
+            kept = λ c room old. room;
+            given = owner;
+            Low = λ c. Unit {0};
+            flight = find_flight;
+            answer = λ e room. answers.Number e;
             wants = λ c room low. refl;
             goes = λ c room old low. twice flights.Robust under_way.Find answers.Number as_it_is owner room (find_after c owner old);
             stays = λ c old low. any_low (find_after c owner old);
@@ -233,47 +261,39 @@ module _ {T : Type 0} where
             ap owners_in same,
           )
 
-      module _ (m done : ℕ) (call : Find) (now : List (Decision T)) (ws : List ℕ) (t : Searching finds [] capacity owner words done call now ws)
-          (rest : (d : Find) (later : List (Decision T)) (last : List ℕ) → Searching finds [] capacity owner words (done + 1) d later last
+      module _ (m done : ℕ) (call : Find) (now : List (Decision T)) (ws : List ℕ) (t : Searches done call now ws)
+          (rest : (d : Find) (later : List (Decision T)) (last : List ℕ) → Searches (done + 1) d later last
           → Talks code (EndsRight (calls.Find owner)) m later (find_flight d tt) last) where
         -- After an answer to its question a find goes on, or it has ended with the number that the map gives.
-        further : (a : After Find ℕ) (later : List (Decision T)) (last : List ℕ) → Further finds [] capacity owner words (done + 1) a later last
+        further : (a : After Find ℕ) (later : List (Decision T)) (last : List ℕ) → finding.Further find_case (done + 1) a later last
             → Turns code (EndsRight (calls.Find owner)) (Talks code (EndsRight (calls.Find owner)) m) later
             (as_call (λ c. find_flight c tt) (λ e. answers.Number e) a) last
         further (GoOn d) later last further_on = rest d later last further_on
         further (Done n) later last further_on = found later n last further_on.0 further_on.1
 
         -- a question of a find is about the index that it names
-        find_asks : (start : List ℕ) (question : Question (Unit {0})) (asks : Find) (r : Unit {0}) (last : List ℕ)
-            → Searching finds [] capacity owner start done call now ws
+        find_asks : (question : Question (Unit {0})) (asks : Find) (r : Unit {0}) (last : List ℕ)
             → StopsAlike (λ (c : Find) (given : ℕ). find_want c) find_after (λ c (room : Unit {0}) old. room) owner call tt ws
             (stops.Asked question asks) r last
             → find_want asks ≡ wants.Question (questions.Index (index_in question))
-        find_asks [] question asks r last searching alone = absurd searching
-        find_asks (g ∷ cells) question asks r last searching alone =
-            let stop_is =
-            stops_so (λ (c : Find) (given : ℕ). find_want c) find_after (λ c (room : Unit {0}) old. room) owner _
-            call tt (g ∷ cells) searching.4.run
-            (stops.Asked question asks) r last
-            (subst (λ vs. StopsAlike (λ (c : Find) (given : ℕ). find_want c) find_after (λ c (room : Unit {0}) old. room) owner call tt vs
-            (stops.Asked question asks) r last) searching.3 alone) in
+        find_asks question asks r last alone =
+            let stop_is = finding.asked t alone in
             ap find_want stop_is.stands ∙ ap (λ q. wants.Question (questions.Index (index_in q))) (sym stop_is.asks)
 
         -- at each stop a find has ended as the map says, or talks on, whatever is decided
         find_stops : (s : Stop Find ℕ) (r : Unit {0}) (last : List ℕ)
             → StopsAlike (λ (c : Find) (given : ℕ). find_want c) find_after (λ c (room : Unit {0}) old. room) owner call tt ws s r last
             → AtStop code (EndsRight (calls.Find owner)) (Talks code (EndsRight (calls.Find owner)) m) now
-            (lift_stop code (λ (c : Find) (given : ℕ). find_want c) find_after (λ c (room : Unit {0}) old. room) owner (λ c. Unit {0})
-            find_flight (λ e room. answers.Number e) s r) last
+            (lift_stop code find_is s r) last
         find_stops (stops.Ended n) r last alone =
-            let end = ended_so finds [] capacity owner words done call now ws n r last t alone in found now n last end.0 end.1
+            let end = finding.ended_so t alone in found now n last end.0 end.1
         find_stops (stops.Asked question asks) r last alone = λ said.
             let later : List (Decision T) = now ++ decision (questions.Index (index_in question)) said ∷ [] in
-            let next = further_so finds [] capacity owner words done call now ws question asks r last t alone (index_in question) refl (progression said) later
+            let next = finding.further_so t alone refl (progression said) later
             (ap (λ b. now ++ decision (questions.Index (index_in question)) b ∷ []) (sym (same_decision said)))
-            (number_of said) (same_number said) (find_after asks owner (number_of said)) refl in
+            (same_number said) refl in
             let told : now ++ decided code (Some (find_flight asks r)) said ≡ later =
-            ap (λ w. now ++ decided_at {T = T} None w said) (find_asks words question asks r last t alone) in
+            ap (λ w. now ++ decided_at {T = T} None w said) (find_asks question asks r last alone) in
             subst (λ ds. Turns code (EndsRight (calls.Find owner)) (Talks code (EndsRight (calls.Find owner)) m) ds
             (after_of code (find_flight asks r) (number_of said)) last)
             (sym told)
@@ -282,23 +302,22 @@ module _ {T : Type 0} where
 
       -- a find that has put `done` questions talks on as the object does, to its end, within `m` more
       find_talks : (m done : ℕ) (call : Find) (now : List (Decision T)) (ws : List ℕ) → done + m ≡ 2 ^ 64 - 1
-          → Searching finds [] capacity owner words done call now ws → Talks code (EndsRight (calls.Find owner)) m now (find_flight call tt) ws
+          → Searches done call now ws → Talks code (EndsRight (calls.Find owner)) m now (find_flight call tt) ws
       find_talks zero done call now ws sum searching =
-          let few = find_rounds finds [] capacity owner words done call now ws searching in absurd (omega arith)
+          let few = finding.few_rounds searching in absurd (omega arith)
       find_talks (suc m) done call now ws sum searching =
-          let can = can_go finds [] capacity owner words done call now ws searching in
-          talks_as code (λ (c : Find) (given : ℕ). find_want c) find_after (λ c (room : Unit {0}) old. room) owner (λ c. Unit {0})
-          find_flight (λ e room. answers.Number e) find_is (EndsRight (calls.Find owner)) m now call tt ws tt can
+          let can = finding.can_go searching in
+          talks_as code find_is (EndsRight (calls.Find owner)) m now tt can
           (find_stops m done call now ws searching (λ d later last u. find_talks m (done + 1) d later last (omega arith) u)
           can.stop can.last_room can.last_words
-          (alike (λ (c : Find) (given : ℕ). find_want c) find_after (λ c (room : Unit {0}) old. room) owner call tt ws can))
+          (alike can))
 
       -- a find, alone, says what the map says
       finds_all : SaysAsMap (calls.Find owner)
       finds_all = (
         2 ^ 64 - 1,
         find_talks (2 ^ 64 - 1) 0 (first_find capacity) [] words (omega arith)
-            (starts_find finds [] capacity owner words (first_find capacity) refl fits lives),
+            (finding.starts find_case (first_find capacity) refl fits lives),
       )
 
     -- ---- a recovery
@@ -312,22 +331,36 @@ module _ {T : Type 0} where
       abbrev tells : Unit {0} → ℕ → ℕ → Unit {0} → Type 0
       tells p owner index q = Unit {0}
 
+      -- a recovery over these words with those closures, which have decided nothing yet
+      abbrev recover_case : recovering.RecoverCase (List (Decision T)) (Unit {0})
+      recover_case = record { mode = mode; capacity = capacity; words = words; step = asks; answering = []; tell = tells; hearing = tt }
+
+      -- The recovery, alone, has gone through `done` of the taken indices, as `Recovering` says.
+      abbrev Recovers : ℕ → Recover → List (Decision T) → List ℕ → Type 0
+      Recovers done call now ws = recovering.Recovering recover_case done call now tt ws
+
       -- The recovery as a call of the machine.
       abbrev recover_flight : Recover → Unit {0} → Flight T
       recover_flight c room = flights.Robust (under_way.Recover (record { call = c; given = mode; room = room }))
 
       -- each step of the machine's recovery is a step of the recovery of `steps`
-      recover_is : IsFlight code (λ (c : Recover) (given : ReleaseMode). recover_want c) recover_after (λ c (room : Unit {0}) old. room) mode
-          (λ c. Unit {0}) recover_flight (λ e room. answers.State e)
+      abbrev recover_is : AsFlight code Recover ReleaseMode (Unit {0}) ReleaseState
       recover_is =
           record {
+            want = λ c given. recover_want c;
+            after = recover_after;
+            kept = λ c room old. room;
+            given = mode;
+            Low = λ c. Unit {0};
+            flight = recover_flight;
+            answer = λ e room. answers.State e;
             wants = λ c room low. refl;
             goes = λ c room old low. twice flights.Robust under_way.Recover answers.State as_it_is mode room (recover_after c mode old);
             stays = λ c old low. any_low (recover_after c mode old);
           }
 
       -- a recovery that has come to its end says what the map says
-      gone : (told : List (Decision T)) (state : ReleaseState) (last : List ℕ) → Gone asks tells mode [] tt capacity words state told tt last
+      gone : (told : List (Decision T)) (state : ReleaseState) (last : List ℕ) → recovering.Gone recover_case state told tt last
           → EndsRight (calls.Recover mode) told (answers.State state) last
       gone told state last h =
           let was = asked_so (objects.to_recover (owners_in words)) (λ o. questions.Owned o.owner o.index)
@@ -340,22 +373,23 @@ module _ {T : Type 0} where
           )
 
       module _ (m done : ℕ) (call : Recover) (now : List (Decision T)) (ws : List ℕ)
-          (t : Recovering asks tells mode [] tt capacity words done call now tt ws)
-          (rest : (d : Recover) (later : List (Decision T)) (last : List ℕ) → Recovering asks tells mode [] tt capacity words (done + 1) d later tt last
+          (t : Recovers done call now ws)
+          (rest : (d : Recover) (later : List (Decision T)) (last : List ℕ) → Recovers (done + 1) d later last
           → Talks code (EndsRight (calls.Recover mode)) m later (recover_flight d tt) last) where
         -- at each stop a recovery has ended as the map says, or talks on, whatever is decided
         recover_stops : (s : Stop Recover ReleaseState) (r : Unit {0}) (last : List ℕ)
             → StopsAlike (λ (c : Recover) (given : ReleaseMode). recover_want c) recover_after (λ c (room : Unit {0}) old. room) mode call tt ws s r last
             → AtStop code (EndsRight (calls.Recover mode)) (Talks code (EndsRight (calls.Recover mode)) m) now
-            (lift_stop code (λ (c : Recover) (given : ReleaseMode). recover_want c) recover_after (λ c (room : Unit {0}) old. room) mode (λ c. Unit {0})
-            recover_flight (λ e room. answers.State e) s r) last
+            (lift_stop code recover_is s r) last
         recover_stops (stops.Ended state) r last alone =
-            gone now state last (recovered_so asks tells mode [] tt capacity words done call now tt ws t state r last alone)
+            gone now state last (recovering.ended_so t alone)
         recover_stops (stops.Asked question put) r last alone = λ said.
-            let at = asks_so asks tells mode [] tt capacity words done call now tt ws t question put r last alone in
+            let at = recovering.asks_so t alone in
             let later : List (Decision T) = now ++ decision (questions.Owned at.owner at.index) said ∷ [] in
-            let next = onward_so asks tells mode [] tt capacity words done call now tt ws t question put last at at.owner at.index at.asks
-            said later tt refl (λ is. tt) (λ is. refl) (if said then 1 else 0) refl (recover_after put mode (if said then 1 else 0)) refl in
+            let handed : ℕ = if said then 1 else 0 in
+            let after : After Recover ReleaseState = recover_after put mode handed in
+            let next : recovering.Onward recover_case (done + 1) later tt after last =
+            recovering.onward_so t at at.asks said later tt (record { called = refl; told = λ is. tt; passed = λ is. refl }) refl refl in
             let told : now ++ decided code (Some (recover_flight put r)) said ≡ later =
             ap (λ c. now ++ decided_at {T = T} None (recover_want c) said) at.stands in
             subst (λ ds. Turns code (EndsRight (calls.Recover mode)) (Talks code (EndsRight (calls.Recover mode)) m) ds
@@ -366,36 +400,34 @@ module _ {T : Type 0} where
             (subst (λ old. Turns code (EndsRight (calls.Recover mode)) (Talks code (EndsRight (calls.Recover mode)) m) later
             (as_call (λ c. recover_flight c tt) (λ e. answers.State e) (recover_after put mode old)) last)
             (sym (yes_number said))
-            (onward question put last at said later (recover_after put mode (if said then 1 else 0)) next)))
+            (onward last later after next)))
           where
             -- what a decision leads to talks on, or ends as the map says
-            onward : (question : Question (Unit {0})) (put : Recover) (last : List ℕ)
-                (at : AsksAt capacity t.g t.cells t.left question put last) (said : Bool) (later : List (Decision T)) (a : After Recover ReleaseState)
-                → Onward asks tells mode [] tt capacity words done call now tt ws t question put last at at.owner at.index at.asks later tt a
+            onward : (last : List ℕ) (later : List (Decision T)) (a : After Recover ReleaseState)
+                → recovering.Onward recover_case (done + 1) later tt a last
                 → Turns code (EndsRight (calls.Recover mode)) (Talks code (EndsRight (calls.Recover mode)) m) later
                 (as_call (λ c. recover_flight c tt) (λ e. answers.State e) a) last
-            onward question put last at said later (GoOn d) goes_onward = rest d later last goes_onward
-            onward question put last at said later (Done state) goes_onward = absurd goes_onward
+            onward last later (GoOn d) goes_onward = rest d later last goes_onward
+            onward last later (Done state) goes_onward = absurd goes_onward
 
       -- a recovery that has put `done` questions talks on as the object does, to its end, within `m` more
       recover_talks : (m done : ℕ) (call : Recover) (now : List (Decision T)) (ws : List ℕ) → done + m ≡ 2 ^ 64 - 1
-          → Recovering asks tells mode [] tt capacity words done call now tt ws → Talks code (EndsRight (calls.Recover mode)) m now (recover_flight call tt) ws
-      recover_talks zero done call now ws sum recovering =
-          let few = recover_rounds asks tells mode [] tt capacity words fits done call now tt ws recovering in absurd (omega arith)
-      recover_talks (suc m) done call now ws sum recovering =
-          let can = recover_can asks tells mode [] tt capacity words done call now tt ws recovering in
-          talks_as code (λ (c : Recover) (given : ReleaseMode). recover_want c) recover_after (λ c (room : Unit {0}) old. room) mode (λ c. Unit {0})
-          recover_flight (λ e room. answers.State e) recover_is (EndsRight (calls.Recover mode)) m now call tt ws tt can
-          (recover_stops m done call now ws recovering (λ d later last u. recover_talks m (done + 1) d later last (omega arith) u)
+          → Recovers done call now ws → Talks code (EndsRight (calls.Recover mode)) m now (recover_flight call tt) ws
+      recover_talks zero done call now ws sum so_far =
+          let few = recovering.few_rounds fits so_far in absurd (omega arith)
+      recover_talks (suc m) done call now ws sum so_far =
+          let can = recovering.can_go so_far in
+          talks_as code recover_is (EndsRight (calls.Recover mode)) m now tt can
+          (recover_stops m done call now ws so_far (λ d later last u. recover_talks m (done + 1) d later last (omega arith) u)
           can.stop can.last_room can.last_words
-          (alike (λ (c : Recover) (given : ReleaseMode). recover_want c) recover_after (λ c (room : Unit {0}) old. room) mode call tt ws can))
+          (alike can))
 
       -- a recovery, alone, says what the map says
       recovers_all : SaysAsMap (calls.Recover mode)
       recovers_all = (
         2 ^ 64 - 1,
         recover_talks (2 ^ 64 - 1) 0 (first_recover capacity) [] words (omega arith)
-            (starts_recover asks tells mode [] tt capacity words (first_recover capacity) refl fits),
+            (recovering.starts recover_case (first_recover capacity) refl fits),
       )
 
   -- ---- the law

@@ -42,7 +42,7 @@ module _ {T : Type 0} (C : Course T) (H : Holding C) (code : Coding T) (kind : K
   under_way t story h =
       ap (λ (o : Option (Party T)). flight_of (doing_of o)) h.found ∙ ap (λ (d : Doing T). flight_of (Some d)) h.doing
 
-  -- A begin ends no call, and a death ends none.
+  -- A begin ends no call.
   begun_ends_none : (p : ℕ) (start : Start T) → NoneEnds (Begun p start ∷ [])
   begun_ends_none p start is_call = refl
 
@@ -121,7 +121,7 @@ module _ {T : Type 0} (C : Course T) (H : Holding C) (code : Coding T) (kind : K
       (beside_of t.world.words t.world.kept t.world.latest h.party) h.under none)
       calm
 
-  -- A decision keeps what stands between two turns.
+  -- A decision leads the call under way to where its structure says (`Steps`).
   hearing : (t : Trace T) (story : Story T) (h : OneUnderWay C H t story) → t.world.coding ≡ code → (said : Bool)
       → is_question (want_of t.world.coding h.flight) ≡ true
       → Steps C H h.object h.turns h.party h.call.start (story.told ++ decided t.world.coding (Some h.flight) said) t.world.words

@@ -106,16 +106,16 @@ module _ {T : Type 0} where
       (Rattle.atomic_table.proofs.Lists.at_set views id j w u at)
 
   -- a seat with a share that has now seen all events holds what `Known` says
-  pub known_step : {views : List (View T)} {events : List (Event T)} (id : ℕ) (v w : View T) → id < length views
+  pub known_step : {views : List (View T)} {events : List (Event T)} (id : ℕ) {v : View T} (w : View T)
       → get_elem? views id ≡ some v → w.share ≡ v.share → 0 < v.share.part → w.seen ≡ events
       → sum_by (λ e. of_none (whose e)) events ≡ 0 → SpentIn views → Shares share_of views
       → Known (set views id w) events
-  known_step {views} id v w low has_view same part seen someone spent shares =
+  known_step {views} id {v} w has_view same part seen someone spent shares =
       record {
         shares = shares_stay share_of views id v w has_view same shares;
         by = id;
         last = w;
-        at = set_here views id w low;
+        at = set_here views id w (within views id v has_view);
         any = omega (arith, ap (λ s. s.part) same);
         all = inl seen;
         someone = someone;
@@ -135,24 +135,27 @@ module _ {T : Type 0} where
 
       -- the seat that has seen all is not another one, since only this one has a share
       theirs : known.by ≢ id → HasSeen v events
-      theirs ne = absurd (omega (arith, others_none share_of views id v has_view known.shares whole known.by known.last ne known.at, known.any))
+      theirs ne =
+          let none = others_none share_of views id v has_view known.shares whole in
+          absurd (omega (arith, none known.by known.last ne known.at, known.any))
 
   -- where one seat has the whole share, its parties did all that was done
-  pub owned_whole : (owner : ℕ → ℕ) (t : Trace T) (views : List (View T)) (id : ℕ) (v : View T)
+  pub owned_whole : {owner : ℕ → ℕ} {t : Trace T} {views : List (View T)} {id : ℕ} {v : View T}
       → get_elem? views id ≡ some v → IsAll v.share → Shares share_of views → SpentIn views
       → ((j : ℕ) (u : View T) → j ≢ id → get_elem? views j ≡ some u → Fits owner t j u)
       → ((q : ℕ) → q < length views → owner q < length views)
       → ((q : ℕ) → owner q ≢ id → length views ≤ q → events_by q t.events ≡ [])
       → sum_by (λ e. of_none (whose e)) t.events ≡ 0
       → (f : Event T → ℕ) → sum_by f t.events ≡ sum_by (owned owner id f) t.events
-  owned_whole owner t views id v has_view whole shares spent fits inside beyond someone f =
+  owned_whole {owner} {t} {views} {id} {v} has_view whole shares spent fits inside beyond someone f =
       all_owned owner id (length views) f t.events inside none beyond someone
     where
       -- the parties of no other seat did anything
       none : (j : ℕ) → j ≢ id → j < length views → sum_by (owned owner j one) t.events ≡ 0
       none j ne low =
           let u = there_is views j low in
-          let gone = spent j u.0 u.1 (others_none share_of views id v has_view shares whole j u.0 ne u.1) in
+          let no_share = others_none share_of views id v has_view shares whole in
+          let gone = spent j u.0 u.1 (no_share j u.0 ne u.1) in
           spent_owned owner t j u.0 one (fits j u.0 ne u.1) gone.0 gone.1
 
   -- after a split some seat with a share has seen all events
@@ -164,6 +167,10 @@ module _ {T : Type 0} where
       -- the views after the split, without the new seat
       cut : List (View T)
       cut = set views id (left_view v) ++ right_view v ∷ []
+
+      -- after the split the shares still make the whole
+      shares : Shares share_of cut
+      shares = let splits = shares_split share_of views id v (left_view v) (right_view v) in splits has_view refl refl known.shares
 
       -- after the split each seat without a share has made nothing
       spent : SpentIn cut
@@ -186,7 +193,7 @@ module _ {T : Type 0} where
           let any : 0 < v.share.part = subst (λ (z : View T). 0 < z.share.part) same known.any in
           let all : HasSeen v events = subst (λ z. HasSeen z events) same known.all in
           record {
-            shares = shares_split share_of views id v (left_view v) (right_view v) has_view refl refl known.shares;
+            shares = shares;
             by = id;
             last = left_view v;
             at = at_longer (set views id (left_view v)) (right_view v ∷ []) id (left_view v) (set_here views id (left_view v) low);
@@ -200,7 +207,7 @@ module _ {T : Type 0} where
       theirs : known.by ≢ id → Known cut events
       theirs ne =
           record {
-            shares = shares_split share_of views id v (left_view v) (right_view v) has_view refl refl known.shares;
+            shares = shares;
             by = known.by;
             last = known.last;
             at = at_longer (set views id (left_view v)) (right_view v ∷ []) known.by known.last (set_else views id known.by (left_view v) ne ∙ known.at);
@@ -211,11 +218,11 @@ module _ {T : Type 0} where
           }
 
   -- after a join some seat with a share has seen all events
-  pub known_join : {views : List (View T)} {events : List (Event T)} (id other : ℕ) (v w : View T)
+  pub known_join : {views : List (View T)} {events : List (Event T)} {id other : ℕ} {v w : View T}
       → get_elem? views id ≡ some v → ¬ (other ≡ id) → get_elem? views other ≡ some w → 0 < v.share.part
       → IsBeginning v.seen events → v.other ≡ [] → w.other ≡ [] → Known views events
       → Known (set (set views id (joined_view v w)) other spent_view) events
-  known_join {views} {events} id other v w first_has_view apart second_has_view part mine_seen alone alone' known =
+  known_join {views} {events} {id} {other} {v} {w} first_has_view apart second_has_view part mine_seen alone alone' known =
       ⊎_elim mine (λ ne. ⊎_elim theirs (third ne) (cases_eq known.by other)) (cases_eq known.by id)
     where
       -- the views after the join

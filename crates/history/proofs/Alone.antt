@@ -1,6 +1,6 @@
 -- A machine of any kind with one pass, which makes calls as party 0: which words, turns and events it has
 -- after those calls, from its opening on (`Here`).
-use Rattle.history.proofs.Names.{◌≡◌, ◌≢◌, ℕ, zero, suc, ◌+◌, ◌<◌, Option, Some, None, List, [], ◌∷◌, ◌++◌}
+use Rattle.history.proofs.Names.{◌≡◌, ◌≢◌, ℕ, zero, suc, ◌+◌, ◌<◌, Option, Some, None, IfSome, List, [], ◌∷◌, ◌++◌}
 use Rattle.history.proofs.Names.{slice_index, slice_set, refl, sym, ap, subst, ◌∙◌, append-nil, arith, sum_by}
 use Rattle.history.proofs.Names.{written, Ask, After, GoOn, Answer, Event, Begun, Start, Flight, Kind, Turn, Begin, Next}
 use Rattle.history.proofs.Names.{Coding, IsCoding, opening_of, want_of, after_of, goes_of, first_row, answer_in}
@@ -13,7 +13,7 @@ use Rattle.steps.specs.declared.ask.After.TheVariants.{Done}
 use Rattle.steps.specs.declared.ask.Want.TheVariants as wants
 use Rattle.model.specs.World as worlds
 use Rattle.history.specs.declared.view.View.{View}
-use Rattle.history.specs.History.{IsMachine, OneRun, Knew, Knows, call_in, others_in, HasAsked, nexts, steps_of_run}
+use Rattle.history.specs.History.{IsRun, IsMachine, OneRun, Knew, Knows, call_in, others_in, HasAsked, nexts, steps_of_run}
 use Rattle.history.proofs.Asked.{Gains, first_asked, nexts_begin, nexts_next}
 use Rattle.model.specs.Turns.{step_count}
 use Rattle.steps.specs.declared.container.state.ContainerState.{ContainerState}
@@ -200,11 +200,29 @@ module _ {T : Type 0} (machine : OneMachine T) where
             ∙ (ap (λ n. n + 0) h.steps ∙ sym (nexts_begin ts 0 call.start));
       }
 
+  -- a call that may begin on any machine that fits what the pass made begins on this one
+  pub begins_any : {C M E : Type 0} (call : Calling T C M E) (c : C) (m : M) {words : List ℕ} {ts : List (Turn T)} {es : List (Event T)}
+      → (h : Here words ts es None)
+      → ((t : Trace T) (owner : ℕ → ℕ) (j : ℕ) → IsRun code kind capacity t → owner j ≡ j → IfSome (Some 0) (λ p. owner p ≡ j)
+      → ((f : Event T → ℕ) → sum_by f es ≡ sum_by (owned owner j f) t.events) → Starts code kind call (maker ts es) c m t owner j)
+      → Here words (ts ++ Begin 0 call.start ∷ []) (es ++ Begun 0 call.start ∷ []) (Some (call.start, call.flight c m))
+  begins_any call c m {words} {ts} {es} h starts =
+      begins call c m words ts es h (starts h.u same_seat 0 h.between.run refl refl (sums words ts es None h))
+
   -- ---- the call takes a step
 
-  module _ (words : List ℕ) (ts : List (Turn T)) (es : List (Event T)) (start : Start T) (flight : Flight T)
-      (h : Here words ts es (Some (start, flight))) (a : Ask) (low : a.word < size)
-      (asks : want_of code flight ≡ wants.Ask a) (finds : IsFreshCall (slice_index words a.word) flight) where
+  -- a call at this flight asks for a word of a table with these words, and finds there neither the last position
+  -- nor the last version
+  pub record AsksHere (words : List ℕ) (flight : Flight T) : Type 0 where
+    pub a : Ask
+    pub low : a.word < size
+    pub asks : want_of code flight ≡ wants.Ask a
+    pub finds : IsFreshCall (slice_index words a.word) flight
+
+  module _ {words : List ℕ} {ts : List (Turn T)} {es : List (Event T)} {start : Start T} {flight : Flight T}
+      (h : Here words ts es (Some (start, flight))) (ask : AsksHere words flight) where
+    open ask use {a, low, asks, finds}
+
     -- the number that the word has
     abbrev found : ℕ
     found = slice_index words a.word
@@ -261,25 +279,44 @@ module _ {T : Type 0} (machine : OneMachine T) where
           }
 
     -- a step with which the call goes on and writes nothing changes the word, and adds one turn
-    pub goes_on : (words' : List ℕ) (next : Flight T) → slice_set words a.word (written a.op found) ≡ words'
+    pub goes_on_at : {words' : List ℕ} {next : Flight T} → slice_set words a.word (written a.op found) ≡ words'
         → comes ≡ GoOn next → effects h.u.world 0 flight found ≡ [] → Here words' (ts ++ Next 0 ∷ []) es (Some (start, next))
-    goes_on words' next same leads none =
+    goes_on_at {words'} {next} same leads none =
         let quiet : es ++ wrote [] none tt ≡ es = ap (λ (r : After (Flight T) (Answer T)). es ++ ending_of 0 start (answer_in r)) leads ∙ append-nil es in
         subst (λ o. Here words' (ts ++ Next 0 ∷ []) es o) (ap (call_then start) leads)
         (subst (λ zs. Here words' (ts ++ Next 0 ∷ []) zs (call_then start comes)) quiet
         (subst (λ ws. Here ws (ts ++ Next 0 ∷ []) (es ++ wrote [] none tt) (call_then start comes)) same (took [] none tt)))
 
     -- a step with which the call ends writes its own events and its end, and leaves no call under way
-    pub ends : (words' : List ℕ) (answer : Answer T) (own : List (Event T))
+    pub ends_at : {words' : List ℕ} {answer : Answer T} {own : List (Event T)}
         → slice_set words a.word (written a.op found) ≡ words' → comes ≡ Done answer
         → effects h.u.world 0 flight found ≡ own → AreOf 0 own
         → Here words' (ts ++ Next 0 ∷ []) (es ++ (own ++ ending_of 0 start (Some answer))) None
-    ends words' answer own same leads wrote_own only =
+    ends_at {words'} {answer} {own} same leads wrote_own only =
         let last : List (Event T) = own ++ ending_of 0 start (Some answer) in
         let all : wrote own wrote_own only ≡ last = ap (λ (r : After (Flight T) (Answer T)). own ++ ending_of 0 start (answer_in r)) leads in
         subst (λ o. Here words' (ts ++ Next 0 ∷ []) (es ++ last) o) (ap (call_then start) leads)
         (subst (λ zs. Here words' (ts ++ Next 0 ∷ []) (es ++ zs) (call_then start comes)) all
         (subst (λ ws. Here ws (ts ++ Next 0 ∷ []) (es ++ wrote own wrote_own only) (call_then start comes)) same (took own wrote_own only)))
+
+  -- the same holds with the words, the turns, the events and the call as explicit arguments
+  module _ (words : List ℕ) (ts : List (Turn T)) (es : List (Event T)) (start : Start T) (flight : Flight T)
+      (h : Here words ts es (Some (start, flight))) (a : Ask) (low : a.word < size)
+      (asks : want_of code flight ≡ wants.Ask a) (finds : IsFreshCall (slice_index words a.word) flight) where
+    -- what the call asks for
+    abbrev asks_so : AsksHere words flight
+    asks_so = record { a = a; low = low; asks = asks; finds = finds }
+
+    pub goes_on : (words' : List ℕ) (next : Flight T) → slice_set words a.word (written a.op (slice_index words a.word)) ≡ words'
+        → after_of code flight (slice_index words a.word) ≡ GoOn next → effects h.u.world 0 flight (slice_index words a.word) ≡ []
+        → Here words' (ts ++ Next 0 ∷ []) es (Some (start, next))
+    goes_on words' next = goes_on_at h asks_so
+
+    pub ends : (words' : List ℕ) (answer : Answer T) (own : List (Event T))
+        → slice_set words a.word (written a.op (slice_index words a.word)) ≡ words' → after_of code flight (slice_index words a.word) ≡ Done answer
+        → effects h.u.world 0 flight (slice_index words a.word) ≡ own → AreOf 0 own
+        → Here words' (ts ++ Next 0 ∷ []) (es ++ (own ++ ending_of 0 start (Some answer))) None
+    ends words' answer own = ends_at h asks_so
 
   -- the only pass has asked for just the steps of its turns
   all_of : (ts : List (Turn T)) (es : List (Event T)) → HasAsked (maker ts es) (nexts ts)
@@ -317,7 +354,7 @@ module _ {T : Type 0} (machine : OneMachine T) where
       ∙ (ap (λ o. so here.one.turns es o (state_in here.u.world.kept 0) (others_in here.u.world 0)) here.there
       ∙ (ap (λ z. so here.one.turns es None z (others_in here.u.world 0)) (stateless_none here.u.world.kept 0 (laws.stateless here.u here.between.run))
       ∙ (ap (λ xs. so xs es None None (others_in here.u.world 0)) here.turns ∙ ap (λ n. so ts es None None n) here.others))))
-      (settle_with code kind capacity 0 0 0 words (alone words) refl (omega arith)
+      (settle_with {id = 0} {p = 0} {taken = 0} (alone words) refl (omega arith)
       (λ call is. (let no : ◌≡◌ {A = Option (Start T × Flight T)} None (Some call) = sym here.there ∙ is in absurd (cc)))
       here.between here.one (gains_so here))
     where

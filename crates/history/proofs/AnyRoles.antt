@@ -10,7 +10,7 @@ use Rattle.history.specs.Queues.{takes_role, gives_role, looks_role, length_star
 use Rattle.history.specs.Roles.{role_word, holder, acquire_start, release_start, look_start, HasRole}
 use Rattle.history.specs.Stages.{At}
 use Rattle.history.proofs.Drives.{Driven, IsCallBy}
-use Rattle.history.proofs.Queues.{plain_starts, role_starts}
+use Rattle.history.proofs.Queues.{plain_begins, role_begins}
 
 -- a call on a structure is one on a structure with more words
 pub wider : {T C M E : Type 0} (code : Coding T) (effects : ℕ → Flight T → ℕ → List (Event T)) (some more : ℕ → ℕ)
@@ -58,6 +58,7 @@ look_lacks T Consumer roles p = refl
 len_lacks : (T : Type 0) (which : LengthOf) (roles : Roles) (p : ℕ) → lacks_role {T = T} roles p (length_start which) ≡ false
 len_lacks = grind arith
 
+-- a pass with a share has no call under way and knows one history alone
 module _ {T : Type 0} (code : Coding T) (kd : QueueKind) (x : View T) (m : Unit {0}) (idle : x.going ≡ None)
     (alone : x.other ≡ []) (any : 0 < x.share.part) where
   -- the first step of an acquire of a role, for a pass that needs none
@@ -71,8 +72,7 @@ module _ {T : Type 0} (code : Coding T) (kd : QueueKind) (x : View T) (m : Unit 
         some = any;
         first = acquire_is kd role x.capacity m ((opening_of (machine_kind kd)).kept x.capacity);
         starts =
-            plain_starts code kd x (takes_role role) (acquire_start role) (record { word = role_word role }) m refl
-            (acquire_is kd role x.capacity m) (λ o p h. h) (acquire_lacks T role);
+            plain_begins kd (acquire_start role) refl (acquire_is kd role x.capacity m) (λ o p h. h) (acquire_lacks T role);
         wrote = λ p. refl;
       })
 
@@ -87,8 +87,7 @@ module _ {T : Type 0} (code : Coding T) (kd : QueueKind) (x : View T) (m : Unit 
         some = any;
         first = release_is kd role x.capacity m ((opening_of (machine_kind kd)).kept x.capacity);
         starts =
-            role_starts code kd x (gives_role role) (release_start role) (record { word = role_word role }) m refl
-            (release_is kd role x.capacity m) role (λ o p. tt) (release_lacks T role) has;
+            role_begins kd (release_start role) refl (release_is kd role x.capacity m) role (λ o p. tt) (release_lacks T role) has;
         wrote = λ p. refl;
       })
 
@@ -103,8 +102,7 @@ module _ {T : Type 0} (code : Coding T) (kd : QueueKind) (x : View T) (m : Unit 
         some = any;
         first = look_is kd role x.capacity m ((opening_of (machine_kind kd)).kept x.capacity);
         starts =
-            plain_starts code kd x (looks_role role) (look_start role) (record { word = role_word role }) m refl
-            (look_is kd role x.capacity m) (λ o p h. h) (look_lacks T role);
+            plain_begins kd (look_start role) refl (look_is kd role x.capacity m) (λ o p h. h) (look_lacks T role);
         wrote = λ p. refl;
       })
 
@@ -120,7 +118,6 @@ module _ {T : Type 0} (code : Coding T) (kd : QueueKind) (x : View T) (m : Unit 
         some = any;
         first = len_is kd which x.capacity m ((opening_of (machine_kind kd)).kept x.capacity);
         starts =
-            plain_starts code kd x (counts_waiting which x.capacity) (length_start which) (first_len x.capacity) m refl
-            (len_is kd which x.capacity m) (λ o p h. h) (len_lacks T which);
+            plain_begins kd (length_start which) refl (len_is kd which x.capacity m) (λ o p h. h) (len_lacks T which);
         wrote = λ p. refl;
       }))

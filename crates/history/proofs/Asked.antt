@@ -97,7 +97,9 @@ module _ {T : Type 0} where
         most = omega arith;
         all = λ whole. (
             let spent : (j : ℕ) (x : View T) → j ≢ id → get_elem? views j ≡ some x → x.asked ≡ x.aside =
-            λ j x ne there. have_asked.spent j x there (others_none (λ (v : View T). v.share) views id v has_view shares whole j x ne there) in
+            λ j x ne there. (
+            let no_share = others_none (λ (v : View T). v.share) views id v has_view shares whole in
+            have_asked.spent j x there (no_share j x ne there)) in
             let least = sum_rest asked_of aside_of views id v has_view (λ j x ne there. omega (arith, spent j x ne there)) in
             omega arith);
       }
@@ -146,8 +148,9 @@ module _ {T : Type 0} where
   pub gains_have : {views : List (View T)} (id : ℕ) {v : View T} (w : View T) {steps : ℕ} → get_elem? views id ≡ some v → Gains views v w.asked w.aside steps
       → 0 < w.share.part → HaveAsked (set views id w) steps
   gains_have {views} id {v} w has_view gains some_share =
+      let more = have_more views id v w gains.old gains.n in
       subst (λ n. HaveAsked (set views id w) n) (sym gains.more)
-      (have_more views id v w gains.old gains.n has_view gains.have gains.own (λ none. absurd (omega arith)))
+      (more has_view gains.have gains.own (λ none. absurd (omega arith)))
 
   -- ---- the steps of a run
 
@@ -201,10 +204,10 @@ module _ {T : Type 0} where
   -- ---- a join
 
   -- a joined pass has asked for what both asked for and one operation, which is aside
-  pub have_both : {views : List (View T)} {steps : ℕ} (id other : ℕ) (v w : View T) → get_elem? views id ≡ some v → other ≢ id → get_elem? views other ≡ some w
+  pub have_both : {views : List (View T)} {steps : ℕ} {id other : ℕ} {v w : View T} → get_elem? views id ≡ some v → other ≢ id → get_elem? views other ≡ some w
       → 0 < v.share.part → Shares (λ (v : View T). v.share) views → HaveAsked views steps
       → HaveAsked (set (set views id (joined_view v w)) other spent_view) steps
-  have_both {views} id other v w has_view apart theirs any shares have_asked =
+  have_both {views} {id = id} {other = other} {v = v} {w = w} has_view apart theirs any shares have_asked =
       record {
         -- the sums change by what the two seats had, and by the one operation of the join
         sum = (

@@ -28,39 +28,39 @@ moved_in xs os ds rest =
 none_more : {a b : ℕ} → a ≡ b + 0 → b ≡ a
 none_more a_is = omega arith
 
-module _ {T C M E : Type 0} (code : Coding T) (kind : Kind) (call : Calling T C M E) where
+module _ {T C M E : Type 0} {code : Coding T} {kind : Kind} {call : Calling T C M E} {base v : View T} {c : C} {m : M} where
   -- the capacity stays
-  pub same_capacity : (base v : View T) (c : C) (m : M) → At code kind call base v c m → v.capacity ≡ base.capacity
+  pub same_capacity : At code kind call base v c m → v.capacity ≡ base.capacity
   same_capacity = grind arith
 
   -- the turns that were known as the drive began are the first of those that are known now
-  pub came_first : (base v : View T) (c : C) (m : M) → At code kind call base v c m → AreFirst base.turns v.turns
-  came_first base v c m (inl first) = subst (λ (z : View T). AreFirst base.turns z.turns) (sym first.is) (first_all base.turns)
-  came_first base v c m (inr under) = under.ran.first
+  pub came_first : At code kind call base v c m → AreFirst base.turns v.turns
+  came_first (inl first) = subst (λ (z : View T). AreFirst base.turns z.turns) (sym first.is) (first_all base.turns)
+  came_first (inr under) = under.ran.first
 
   -- the share stays
-  pub same_share : (base v : View T) (c : C) (m : M) → At code kind call base v c m → v.share ≡ base.share
+  pub same_share : At code kind call base v c m → v.share ≡ base.share
   same_share = grind arith
 
   -- the pass has a share
-  pub some_share : (base v : View T) (c : C) (m : M) → At code kind call base v c m → 0 < v.share.part
+  pub some_share : At code kind call base v c m → 0 < v.share.part
   some_share = grind arith
 
   -- what holds of the call between two steps holds
-  pub still_stands : (base v : View T) (c : C) (m : M) → At code kind call base v c m → call.stands base.capacity c
+  pub still_stands : At code kind call base v c m → call.stands base.capacity c
   still_stands = grind arith
 
   -- since the drive began at most the steps of its call were asked for
-  pub asked_so : (base v : View T) (c : C) (m : M) → At code kind call base v c m
+  pub asked_so : At code kind call base v c m
       → v.asked + taken_by base.going base.taken ≤ base.asked + taken_by v.going v.taken
-  asked_so base v c m (inl first) =
+  asked_so (inl first) =
       subst (λ (z : View T). z.asked + taken_by base.going base.taken ≤ base.asked + taken_by z.going z.taken) (sym first.is)
       (as_much (base.asked + taken_by base.going base.taken))
     where
       -- a number is at most itself
       as_much : (n : ℕ) → n ≤ n
       as_much n = omega arith
-  asked_so base v c m (inr under) =
+  asked_so (inr under) =
       subst (λ (o : Option (Start T × Flight T)). v.asked + taken_by base.going base.taken ≤ base.asked + taken_by o v.taken)
       (sym under.going) under.asked
 
@@ -129,10 +129,21 @@ module _ {T C M E : Type 0} (machines : Machines T) (call : Calling T C M E) whe
     pub known : v.capacity ≡ key
     pub y : Ready s v key id c m  -- the machine before the step
 
-  -- s is the table, key its capacity; the seat id knows v there, whose call stands at c with room
-  -- m; r: the table is a machine
-  module _ (s : State (Unit {0}) (View T)) (v : View T) (key id : ℕ) (c : C) (m : M) (r : IsMachine code kind key s)
-      (at : get_elem? s.views id ≡ some v) (known : v.capacity ≡ key) where
+  -- a seat on a table that is a machine, with the stage and the room of the seat's call
+  pub record OnTable : Type 0 where
+    pub s : State (Unit {0}) (View T)
+    pub v : View T  -- what the seat knows
+    pub key : ℕ  -- of the table
+    pub id : ℕ  -- of the seat
+    pub c : C
+    pub m : M
+    pub r : IsMachine code kind key s
+    pub at : get_elem? s.views id ≡ some v
+    pub known : v.capacity ≡ key
+
+  module _ (place : OnTable) where
+    open place use {s, v, key, id, c, m, r, at, known}
+
     -- the seat fits the machine of the table
     here : Fits r.owner r.trace id v
     here = r.seats id v at
@@ -167,7 +178,7 @@ module _ {T C M E : Type 0} (machines : Machines T) (call : Calling T C M E) whe
     -- of a call that is about to begin: with its begin the party has written nothing else
     first_prior : (p : ℕ) → r.owner p ≡ id → (base : View T) → v.going ≡ None → CallStands base v c m
         → Told_by p c m base (r.trace.events ++ Begun p call.start ∷ []) (v.made ++ Begun p call.start ∷ [])
-    first_prior = grind (arith, opened, none_late, append-nil, nothing_else, nothing_own, some_share code kind call, none_late_here)
+    first_prior = grind (arith, opened, none_late, append-nil, nothing_else, nothing_own, some_share, none_late_here)
 
     -- the party of a call under way has seen all its events, but for what is late
     late_own : (p : ℕ) → r.owner p ≡ id → v.party ≡ Some p → v.going ≡ Some (call.start, call.flight c m)
@@ -224,13 +235,13 @@ module _ {T C M E : Type 0} (machines : Machines T) (call : Calling T C M E) whe
     later_by = grind arith
 
     -- the machine of the table is ready for the step, after the call's begin where it has not begun
-    pub ready : (base : View T) → CallStands base v c m → Ready s v key id c m
+    pub ready_at : (base : View T) → CallStands base v c m → Ready s v key id c m
     -- the call is about to begin: its begin is made first, on the table's machine
-    ready base (inl first) =
+    ready_at base (inl first) =
         let none : v.going ≡ None = ap (λ (z : View T). z.going) first.is ∙ first.idle in
         let size : base.capacity ≡ key = ap (λ (z : View T). z.capacity) (sym first.is) ∙ known in
         -- what the seat made, by every measure, is what its parties wrote, since nothing is late for it
-        let self : r.owner id ≡ id = here.self (some_share code kind call base v c m (inl first)) in
+        let self : r.owner id ≡ id = here.self (some_share (inl first)) in
         let own_made : (f : Event T → ℕ) → sum_by f v.made ≡ sum_by (owned r.owner id f) r.trace.events =
         λ f. (let no : sum_by f here.late ≡ 0 = ap (sum_by f) (none_late_here none) in omega (arith, here.made f)) in
         let run : IsRun code kind base.capacity r.trace = subst (λ n. IsRun code kind n r.trace) (sym size) r.run in
@@ -248,7 +259,7 @@ module _ {T C M E : Type 0} (machines : Machines T) (call : Calling T C M E) whe
         subst (λ n. first_row (rows_as kind n r.trace.world.kept p call.start) ≡ None) size starts.may in
         -- before the begin the machine stands at the table's words, and the seat has gained nothing
         let before : Between code kind key r.owner s id p [] r.trace =
-        at_first code kind key s id p r [] starts.mine self (λ q of_id ne. idle q of_id)
+        at_first id p r [] starts.mine self (λ q of_id ne. idle q of_id)
         (λ u there f.
         (let same : sum_by f u.made ≡ sum_by f v.made = ap (λ (z : View T). sum_by f z.made) (some-injective u v (sym there ∙ at)) in
         omega (arith, own_made f))) in
@@ -290,7 +301,7 @@ module _ {T C M E : Type 0} (machines : Machines T) (call : Calling T C M E) whe
           has = subst (λ n. HasAsked v n) (none_more (begun_took beginning)) has_asked;
         }
     -- the call is under way: the table's machine is ready as it is
-    ready base (inr under) =
+    ready_at base (inr under) =
         let p = under.party in
         let mine : r.owner p ≡ id = subst (λ (o : Option ℕ). IfSome o (λ q. r.owner q ≡ id)) under.mine here.party in
         record {
@@ -300,7 +311,7 @@ module _ {T C M E : Type 0} (machines : Machines T) (call : Calling T C M E) whe
           u = r.trace;
           -- the seat has still to see what is late for its party's call
           between =
-              at_first code kind key s id p r here.late mine (here.self under.some)
+              at_first id p r here.late mine (here.self under.some)
               (λ q of_id ne. here.idle q of_id
               (λ e. (let both : ◌≡◌ {A = Option ℕ} (Some p) (Some q) = sym under.mine ∙ e in let same : p ≡ q = cc in ne (sym same))))
               (λ x there f.
@@ -317,3 +328,12 @@ module _ {T C M E : Type 0} (machines : Machines T) (call : Calling T C M E) whe
           have = r.asked;
           has = has_asked;
         }
+
+    -- the seat, whose call is about to take its next step on that machine
+    abbrev pub seat_at : {base : View T} → CallStands base v c m → Seat
+    seat_at {base} stage = record { s = s; v = v; key = key; id = id; c = c; m = m; at = at; known = known; y = ready_at base stage }
+
+  -- the same holds with the parts of `OnTable` as arguments of the lemma
+  pub ready : (s : State (Unit {0}) (View T)) (v : View T) (key id : ℕ) (c : C) (m : M) (r : IsMachine code kind key s)
+      (at : get_elem? s.views id ≡ some v) (known : v.capacity ≡ key) (base : View T) → CallStands base v c m → Ready s v key id c m
+  ready s v key id c m r at known = ready_at (record { s = s; v = v; key = key; id = id; c = c; m = m; r = r; at = at; known = known })

@@ -1,6 +1,6 @@
 -- A step of a call as a turn of the machine: what the view says then.
 use Rattle.std.proofs.Common.{arith}
-use Rattle.history.proofs.Names.{false, ◌≡◌, ◌⊎◌, ℕ, ◌+◌, ◌<◌, ◌≤◌, Option, Some, None, IfSome, List, [], ◌∷◌, ◌++◌, refl, inl, inr}
+use Rattle.history.proofs.Names.{false, ◌≡◌, ◌⊎◌, ℕ, ◌+◌, ◌<◌, ◌≤◌, Option, Some, None, IfSome, List, [], ◌∷◌, ◌++◌, slice_set, refl, inl, inr}
 use Rattle.history.proofs.Names.{sym, ap, subst, ◌∙◌, append_assoc, sum_by, fold, sum_by-append, Ask, After, GoOn}
 use Rattle.history.proofs.Names.{Answer, Event, Finished, Flight, Turn, Next, want_of, goes_of, ask_of}
 use Rattle.history.proofs.Names.{answer_in, span_of, own_after, Open, after_turn, events_of, ending_of, words_after}
@@ -11,18 +11,19 @@ use Rattle.model.specs.Parties.{party_of}
 use Rattle.model.specs.Turns.{step_count}
 use Rattle.history.specs.declared.view.View.{View}
 use Rattle.history.specs.Known.{events_by}
-use Rattle.history.specs.History.{IsRun, Continues, IsLate, IsOfParties, LastStep, call_in, started, steps_in, refusal_as, run_of, HasAsked, steps_of_run}
+use Rattle.history.specs.History.{IsRun, IsMachine, Continues, IsLate, IsOfParties, LastStep, call_in, started, steps_in, refusal_as, run_of}
+use Rattle.history.specs.History.{HasAsked, steps_of_run}
 use Rattle.history.specs.Stages.{Calling, LeavesState, Since, opened, IsUnderWay, At, Ends, StepsOnly, taken_by}
 use Rattle.history.proofs.Known.{by_more}
 use Rattle.history.proofs.Calls.{stands, call_then, next_no_look}
 use Rattle.history.proofs.Reached.{next_as}
 use Rattle.history.proofs.Turns.{Machines, Between, Going, want_for, at_ask, goes_free, gone, gone_named, gone_steps, gone_took, kept_then, goes_to, turning_at}
 use Rattle.history.proofs.Turns.{told as turn_told, own_told, found_old, made_between}
-use Rattle.history.proofs.Steps.{view_after}
-use Rattle.history.proofs.CallsIn.{regroup, Prior, span_since, Met}
+use Rattle.history.proofs.Steps.{view_after, settle_so}
+use Rattle.history.proofs.CallsIn.{regroup, Prior, span_since, Met, Writing}
 use Rattle.history.proofs.OneRun.{continues_all, continues_further}
 use Rattle.history.proofs.Asked.{Gains, gains_has, none_count, one_or_none, none_or_one}
-use Rattle.history.proofs.CallReady.{same_capacity, came_first, same_share, some_share, asked_so, Seat}
+use Rattle.history.proofs.CallReady.{same_capacity, came_first, same_share, some_share, still_stands, asked_so, Seat}
 
 module _ {T C M E : Type 0} (machines : Machines T) (call : Calling T C M E) where
   open machines use {code, kind, effects, size_of, laws}
@@ -39,7 +40,7 @@ module _ {T C M E : Type 0} (machines : Machines T) (call : Calling T C M E) whe
       → Prior p call.start wrote base u.events (v.made ++ gained) → events_of u.world turn ≡ effs ++ last
       → events_by p (events_of u.world turn) ≡ events_by p effs ++ last
       → Since p call.start (wrote ++ events_by p effs) last base
-      (view_after code kind base.capacity id p turns asked aside v (gained ++ events_by p (events_of u.world turn)) (after_turn u turn))
+      (view_after p turns asked aside v (gained ++ events_by p (events_of u.world turn)) (after_turn u turn))
   since_turn turns asked aside {p} id turn u v {base} gained {wrote} effs {last} prior told_now own_now =
       record {
         others = prior.others;
@@ -124,7 +125,7 @@ module _ {T C M E : Type 0} (machines : Machines T) (call : Calling T C M E) whe
 
     -- the view of the seat after the step
     abbrev pub view_then : View T
-    view_then = view_after code kind key id y.p next_between.one.turns (v.asked + 1) (v.aside + none_count ask) v then_gained then_trace
+    view_then = view_after y.p next_between.one.turns (v.asked + 1) (v.aside + none_count ask) v then_gained then_trace
 
     -- the step is one operation, and one step of the run where the call asks for a word
     pub gains_then : Gains s.views v (v.asked + 1) (v.aside + none_count ask) (steps_of_run code kind key next_between.one.turns)
@@ -147,14 +148,14 @@ module _ {T C M E : Type 0} (machines : Machines T) (call : Calling T C M E) whe
     one_then : (base : View T) → CallStands base v c m → then_trace ≡ run_of code kind base.capacity next_between.one.turns
     one_then base stage =
         next_between.one.is
-        ∙ ap (λ n. run_of code kind n next_between.one.turns) (sym known ∙ same_capacity code kind call base v c m stage)
+        ∙ ap (λ n. run_of code kind n next_between.one.turns) (sym known ∙ same_capacity stage)
 
     -- the run that was known as the drive began goes on to the run with this step
     ran_then : {base : View T} → CallStands base v c m → Continues code kind base.capacity base view_then
     ran_then {base} stage =
-        subst (λ n. Continues code kind n base view_then) (sym known ∙ same_capacity code kind call base v c m stage)
-        (continues_further code kind key base v view_then (came_first code kind call base v c m stage)
-        (continues_all code kind key id next_between.one at next_between.run refl refl refl has_then))
+        subst (λ n. Continues code kind n base view_then) (sym known ∙ same_capacity stage)
+        (continues_further code kind key base v view_then (came_first stage)
+        (continues_all id next_between.one at next_between.run refl refl refl has_then))
 
     -- the effects of the step
     abbrev effs : List (Event T)
@@ -165,13 +166,13 @@ module _ {T C M E : Type 0} (machines : Machines T) (call : Calling T C M E) whe
     mine_now = events_by y.p effs
 
     -- the step finds the word's number, on a machine on which the call stands at this stage
-    met : (base : View T) (stage : CallStands base v c m)
+    pub met : (base : View T) (stage : CallStands base v c m)
         → Met code kind base.capacity call.start flight_now y.p base.going
         ((y.prior base stage).wrote ++ (y.prior base stage).late) found y.u
     met base stage =
         let before = y.prior base stage in
         record {
-          run = subst (λ n. IsRun code kind n y.u) (sym (sym (same_capacity code kind call base v c m stage) ∙ known)) y.between.run;
+          run = subst (λ n. IsRun code kind n y.u) (sym (sym (same_capacity stage) ∙ known)) y.between.run;
           there = y.there;
           found =
               ap (λ z. old_of y.u.world.words (ask_of (want_of z flight_now))) (sym y.between.run.coded)
@@ -207,14 +208,13 @@ module _ {T C M E : Type 0} (machines : Machines T) (call : Calling T C M E) whe
     asked_then one base stage =
         let counted : steps_in y.u.world y.p ≡ taken_by v.going v.taken = y.counted in
         let more : steps_in then_trace.world y.p ≡ steps_in y.u.world y.p + step_count ask = steps_then in
-        omega (arith, asked_so code kind call base v c m stage)
+        omega (arith, asked_so stage)
 
     -- a pass with the whole share has made all that it has seen
     all_then : (base : View T) → CallStands base v c m → IsAll base.share → (f : Event T → ℕ) → sum_by f view_then.seen ≡ sum_by f view_then.made
     all_then base stage all f =
-        made_between code kind key y.owner id y.p then_gained then_trace
-        (record { words = words_after s.words ask; homes = s.homes; views = s.views }) next_between v at
-        (subst IsAll (sym (same_share code kind call base v c m stage)) all) f
+        made_between next_between v at
+        (subst IsAll (sym (same_share stage)) all) f
 
     -- what the pass has made are the events of its parties
     parties_then : IsOfParties view_then
@@ -258,60 +258,86 @@ module _ {T C M E : Type 0} (machines : Machines T) (call : Calling T C M E) whe
     aside_then base (inl first) = ap (λ (z : View T). z.aside) first.is
     aside_then base (inr under) = under.aside
 
+    -- the step, with what the call has written up to it
+    abbrev pub writing : {base : View T} → CallStands base v c m → Writing code kind call
+    writing {base} stage =
+        let before = y.prior base stage in
+        record {
+          capacity = base.capacity;
+          p = y.p;
+          from = base.going;
+          c = c;
+          m = m;
+          n = found;
+          es = before.wrote;
+          late = before.late;
+          t = y.u;
+          stands = still_stands stage;
+          wrote = before.tells;
+          waits = before.waits;
+          met = met base stage;
+        }
+
+    -- what the call has written after the step: what it had, what came late for it, and the effects of this step
+    abbrev pub wrote_now : {base : View T} → CallStands base v c m → List (Event T)
+    wrote_now {base} stage = ((y.prior base stage).wrote ++ (y.prior base stage).late) ++ mine_now
+
+    -- The step leads the call to the stage d with the room m', where it has written what it may have written,
+    -- and no word ends it there outside the history. The step was at a word, and from `base` on each operation was a step.
+    pub record LeadsOn {base : View T} (stage : CallStands base v c m) (d : C) (m' : M) : Type 0 where
+      pub leads : comes_now ≡ GoOn (call.flight d m')
+      pub stands : call.stands base.capacity d
+      pub past : (n : ℕ) → call.skips d n ≡ false
+      pub tells : call.wrote base.capacity y.p base.going d m' (wrote_now stage)
+      pub steps : StepsOnly base view_then
+      pub word : none_count ask ≡ 0
+
     -- where the step leads to another stage, the call is under way there
     pub goes_then : {base : View T} (stage : CallStands base v c m) {d : C} {m' : M}
-        → comes_now ≡ GoOn (call.flight d m') → call.stands base.capacity d → ((n : ℕ) → call.skips d n ≡ false)
-        → ((es late : List (Event T)) → call.wrote base.capacity y.p base.going c m es
-        → IsLate kind (Some (call.start, flight_now)) late
-        → Met code kind base.capacity call.start flight_now y.p base.going (es ++ late) found y.u
-        → call.wrote base.capacity y.p base.going d m' ((es ++ late) ++ mine_now))
-        → StepsOnly base view_then → none_count ask ≡ 0 → IsUnderWay code kind call base view_then d m'
-    goes_then {base} stage afters standing past tells steps word =
+        → LeadsOn stage d m' → IsUnderWay code kind call base view_then d m'
+    goes_then {base} stage on =
         let before = y.prior base stage in
         record {
           -- the step changes neither capacity nor share, and the call stands at its next stage
-          capacity = same_capacity code kind call base v c m stage;
-          share = same_share code kind call base v c m stage;
-          some = some_share code kind call base v c m stage;
-          standing = standing;
+          capacity = same_capacity stage;
+          share = same_share stage;
+          some = some_share stage;
+          standing = on.stands;
           -- the call is this party's, and the machine's call stands at that stage
           party = y.p;
           mine = refl;
           same = y.by base stage;
-          going = going_then ∙ ap (call_then call.start) afters;
+          going = going_then ∙ ap (call_then call.start) on.leads;
           state = state_then base stage;
-          past = past;
-          asked = steps;
-          aside = omega (arith, aside_then base stage);
+          past = on.past;
+          asked = on.steps;
+          aside = omega (arith, aside_then base stage, on.word);
           alone = refl;
           -- the call has written what it had, what came late for it, and the effects of this step
-          wrote = (before.wrote ++ before.late) ++ mine_now;
-          tells = tells before.wrote before.late before.tells before.waits (met base stage);
+          wrote = wrote_now stage;
+          tells = on.tells;
           since =
               since_then before.prior
-              (ap (λ (a : After (Flight T) (Answer T)). ending_of y.p call.start (answer_in a)) afters);
+              (ap (λ (a : After (Flight T) (Answer T)). ending_of y.p call.start (answer_in a)) on.leads);
           -- what is seen is the history of the machine after the step
           history = record { trace = then_trace; run = run_then base stage; is = refl };
           ran = ran_then stage;
-          stood = record { trace = then_trace; run = run_then base stage; is = refl; there = going_then ∙ ap (call_then call.start) afters };
+          stood = record { trace = then_trace; run = run_then base stage; is = refl; there = going_then ∙ ap (call_then call.start) on.leads };
           -- who has the whole share has made all that is seen
           all = all_then base stage;
           parties = parties_then;
         }
 
-    -- where the step ends the call, it has ended with this end
-    pub ends_then : (base : View T) (stage : CallStands base v c m) (end : E) (m' : M) → comes_now ≡ Done (call.answer end m')
-        → ((es late : List (Event T)) → call.wrote base.capacity y.p base.going c m es
-        → IsLate kind (Some (call.start, flight_now)) late
-        → Met code kind base.capacity call.start flight_now y.p base.going (es ++ late) found y.u
-        → call.wrote_all base.capacity y.p base.going end m' ((es ++ late) ++ mine_now))
+    -- where the step ends the call, and it has written what it may have written in all, it has ended with this end
+    pub ends_so : {base : View T} (stage : CallStands base v c m) {end : E} {m' : M} → comes_now ≡ Done (call.answer end m')
+        → call.wrote_all base.capacity y.p base.going end m' (wrote_now stage)
         → StepsOnly base view_then ⊎ (view_then.asked ≤ base.asked + 1) → Ends code kind call base end m' view_then
-    ends_then base stage end m' afters tells took =
+    ends_so {base} stage afters tells took =
         let before = y.prior base stage in
         record {
           -- the step changes neither capacity nor share, and the call is this party's
-          capacity = same_capacity code kind call base v c m stage;
-          share = same_share code kind call base v c m stage;
+          capacity = same_capacity stage;
+          share = same_share stage;
           party = y.p;
           mine = refl;
           same = y.by base stage;
@@ -320,8 +346,8 @@ module _ {T C M E : Type 0} (machines : Machines T) (call : Calling T C M E) whe
           idle = going_then ∙ ap (call_then call.start) afters;
           state = state_then base stage;
           -- the call has written what it had, what came late for it, and the effects of this step
-          wrote = (before.wrote ++ before.late) ++ mine_now;
-          tells = tells before.wrote before.late before.tells before.waits (met base stage);
+          wrote = wrote_now stage;
+          tells = tells;
           -- its response is the last event that is seen
           since =
               since_then
@@ -340,3 +366,20 @@ module _ {T C M E : Type 0} (machines : Machines T) (call : Calling T C M E) whe
           all = all_then base stage;
           parties = parties_then;
         }
+
+    -- the same, where any events that the call may have written, with those of the step, are what it may have
+    -- written in all
+    pub ends_then : (base : View T) (stage : CallStands base v c m) (end : E) (m' : M) → comes_now ≡ Done (call.answer end m')
+        → ((es late : List (Event T)) → call.wrote base.capacity y.p base.going c m es
+        → IsLate kind (Some (call.start, flight_now)) late
+        → Met code kind base.capacity call.start flight_now y.p base.going (es ++ late) found y.u
+        → call.wrote_all base.capacity y.p base.going end m' ((es ++ late) ++ mine_now))
+        → StepsOnly base view_then ⊎ (view_then.asked ≤ base.asked + 1) → Ends code kind call base end m' view_then
+    ends_then base stage end m' afters tells took =
+        let before = y.prior base stage in
+        ends_so stage afters (tells before.wrote before.late before.tells before.waits (met base stage)) took
+
+    -- with this view the table holds its machine again
+    pub settled_then : {base : View T} → CallStands base v c m
+        → IsMachine code kind key (record { words = words_after s.words ask; homes = s.homes; views = slice_set s.views id view_then })
+    settled_then stage = settle_so s at (some_share stage) next_between gains_then

@@ -51,7 +51,7 @@ pub record Driven (T C M E : Type 0) : Type 1 where
   pub kept : C → M → ℕ → M
   pub call : Calling T C M E
 
--- the call asks for one of the first `words` words
+-- what is wanted is one of the first `size` words
 abbrev pub AsksFor : ℕ → Want (Unit {0}) → Type 0
 AsksFor size want = (a : Ask) × (a.word < size) × (want ≡ wants.Ask a)
 
@@ -88,6 +88,44 @@ module _ {T C M E : Type 0} (Asks : Type 0) (code : Coding T) (effects : ℕ →
         → call.stands capacity c → call.skips c n ≡ false → call.wrote capacity p from c m es → after c n ≡ Done e
         → is_question (want c) ≡ false
         → call.wrote_all capacity p from e (kept c m n) (es ++ effects p (call.flight c m) n)
+
+-- A step of the call at the stage c with the room m, where the word that it asks for is n. Since `from` its
+-- party p has written `es`, which is what the call may have written up to this stage.
+pub record OwnStep {T C M E : Type 0} (call : Calling T C M E) : Type 0 where
+  pub capacity : ℕ
+  pub p : ℕ
+  pub from : Option (Start T × Flight T)
+  pub c : C
+  pub m : M
+  pub n : ℕ
+  pub es : List (Event T)
+  pub stands : call.stands capacity c
+  pub wrote : call.wrote capacity p from c m es
+
+module _ {T C M E : Type 0} (effects : ℕ → Flight T → ℕ → List (Event T)) (driven : Driven T C M E) where
+  open driven use {want, after, kept, call}
+
+  -- what the call has written after the step
+  abbrev wrote_with : OwnStep call → List (Event T)
+  wrote_with step = step.es ++ effects step.p (call.flight step.c step.m) step.n
+
+  -- the `tells` of `StepsOf`, from what is known of such a step with which the call goes on
+  pub each_tells : ((step : OwnStep call) (d : C) → after step.c step.n ≡ GoOn d
+      → call.wrote step.capacity step.p step.from d (kept step.c step.m step.n) (wrote_with step))
+      → (capacity p : ℕ) (from : Option (Start T × Flight T)) (c d : C) (m : M) (n : ℕ) (es : List (Event T))
+      → call.stands capacity c → call.wrote capacity p from c m es → after c n ≡ GoOn d
+      → call.wrote capacity p from d (kept c m n) (es ++ effects p (call.flight c m) n)
+  each_tells tells capacity p from c d m n es stands wrote =
+      tells (record { capacity = capacity; p = p; from = from; c = c; m = m; n = n; es = es; stands = stands; wrote = wrote }) d
+
+  -- the `tells_all` of `StepsOf`, from what is known of such a step that ends the call in the history
+  pub last_tells : ((step : OwnStep call) (e : E) → call.skips step.c step.n ≡ false → after step.c step.n ≡ Done e
+      → call.wrote_all step.capacity step.p step.from e (kept step.c step.m step.n) (wrote_with step))
+      → (capacity p : ℕ) (from : Option (Start T × Flight T)) (c : C) (e : E) (m : M) (n : ℕ) (es : List (Event T))
+      → call.stands capacity c → call.skips c n ≡ false → call.wrote capacity p from c m es → after c n ≡ Done e
+      → is_question (want c) ≡ false → call.wrote_all capacity p from e (kept c m n) (es ++ effects p (call.flight c m) n)
+  last_tells tells capacity p from c e m n es stands skip wrote leads still =
+      tells (record { capacity = capacity; p = p; from = from; c = c; m = m; n = n; es = es; stands = stands; wrote = wrote }) e skip leads
 
 -- at each stage the call asks for a word of the structure
 abbrev pub AsksThere : {T C M E : Type 0} → (ℕ → ℕ) → Driven T C M E → Type 0
@@ -127,6 +165,25 @@ pub record Met {T : Type 0} (code : Coding T) (kind : Kind) (capacity : ℕ) (st
   pub found : old_of t.world.words (ask_of (want_of code flight)) ≡ n
   pub span : from ≡ None → span_of p t.events ≡ fold own_after (Open start []) es
 
+-- A step of the call at the stage c with the room m, on the machine t, where the word that it asks for is n.
+-- Since `from` its party p had written `es` as far as it has seen, and another party wrote `late` for it.
+pub record Writing {T C M E : Type 0} (code : Coding T) (kind : Kind) (call : Calling T C M E) : Type 0 where
+  pub capacity : ℕ
+  pub p : ℕ
+  pub from : Option (Start T × Flight T)
+  pub c : C
+  pub m : M
+  pub n : ℕ
+  pub es : List (Event T)
+  pub late : List (Event T)
+  pub t : Trace T
+  -- the stage is one of the call, and the call may have written `es` up to there
+  pub stands : call.stands capacity c
+  pub wrote : call.wrote capacity p from c m es
+  -- what came late may come late for the call there, which stands so on the machine
+  pub waits : IsLate kind (Some (call.start, call.flight c m)) late
+  pub met : Met code kind capacity call.start (call.flight c m) p from (es ++ late) n t
+
 -- how it goes on: by itself, or by what the machine keeps
 module _ {T C M E : Type 0} (code : Coding T) (kind : Kind) (driven : Driven T C M E) where
   open driven use {after, kept, call}
@@ -148,6 +205,11 @@ module _ {T C M E : Type 0} (Asks Goes : Type 0) (code : Coding T) (kind : Kind)
     (driven : Driven T C M E) where
   open driven use {want, after, kept, call}
 
+  -- what the call has written after the step: what it had, what came late for it, and the step's effects that
+  -- are its party's own
+  abbrev pub written_with : Writing code kind call → List (Event T)
+  written_with step = (step.es ++ step.late) ++ events_by step.p (effects step.t.world step.p (call.flight step.c step.m) step.n)
+
   -- The model's call wants the same word, goes on in the same way, and its effects, with what another party
   -- wrote for it, are what the driver's call tells. What it writes may depend on the machine.
   pub record StepsAs : Type 0 where
@@ -168,19 +230,11 @@ module _ {T C M E : Type 0} (Asks Goes : Type 0) (code : Coding T) (kind : Kind)
     pub leaves : (c : C) (a : Ask) (n : ℕ) → call.skips c n ≡ true → want c ≡ wants.Ask a → (written a.op n ≡ n) × (e : E) × call.left e × (after c n ≡ Done e)
     -- what a step with which the call goes on writes, with what came late, may have been written
     -- up to the next stage
-    pub tells : (capacity p : ℕ) (from : Option (Start T × Flight T)) (c d : C) (m : M) (n : ℕ) (es late : List (Event T)) (t : Trace T)
-        → call.stands capacity c → call.wrote capacity p from c m es
-        → IsLate kind (Some (call.start, call.flight c m)) late
-        → Met code kind capacity call.start (call.flight c m) p from (es ++ late) n t → after c n ≡ GoOn d
-        → call.wrote capacity p from d (kept c m n) ((es ++ late) ++ events_by p (effects t.world p (call.flight c m) n))
+    pub tells : (step : Writing code kind call) (d : C) → after step.c step.n ≡ GoOn d
+        → call.wrote step.capacity step.p step.from d (kept step.c step.m step.n) (written_with step)
     -- what the last step writes, with what came late, may have been written in all
-    pub tells_all : (capacity p : ℕ) (from : Option (Start T × Flight T)) (c : C) (e : E) (m : M) (n : ℕ)
-        (es late : List (Event T)) (t : Trace T)
-        → call.stands capacity c → call.skips c n ≡ false → call.wrote capacity p from c m es
-        → IsLate kind (Some (call.start, call.flight c m)) late
-        → Met code kind capacity call.start (call.flight c m) p from (es ++ late) n t → after c n ≡ Done e
-        → is_question (want c) ≡ false
-        → call.wrote_all capacity p from e (kept c m n) ((es ++ late) ++ events_by p (effects t.world p (call.flight c m) n))
+    pub tells_all : (step : Writing code kind call) (e : E) → call.skips step.c step.n ≡ false → after step.c step.n ≡ Done e
+        → is_question (want step.c) ≡ false → call.wrote_all step.capacity step.p step.from e (kept step.c step.m step.n) (written_with step)
 
 -- the steps of a call that goes on by its stage alone, and those of one that may go on by
 -- what the machine keeps
@@ -211,10 +265,9 @@ module _ {T C M E Asks : Type 0} {code : Coding T} {kind : Kind} (effects : Worl
   open driven use {kept, call}
 
   -- nothing is late for the call, and of its effects those of its own party are all
-  all : (capacity p : ℕ) (from : Option (Start T × Flight T)) (c : C) (m : M) (n : ℕ) (es late : List (Event T)) (t : Trace T)
-      → IsLate kind (Some (call.start, call.flight c m)) late
-      → Met code kind capacity call.start (call.flight c m) p from (es ++ late) n t
-      → (es ++ late) ++ events_by p (effects t.world p (call.flight c m) n) ≡ es ++ own p (call.flight c m) n
+  all : (step : Writing code kind call)
+      → (step.es ++ step.late) ++ events_by step.p (effects step.t.world step.p (call.flight step.c step.m) step.n)
+      ≡ step.es ++ own step.p (call.flight step.c step.m) step.n
   all = grind (arith, append-nil)
 
   -- the steps of a call that writes for its own party alone, by its stage, are steps of the more general kind
@@ -229,14 +282,14 @@ module _ {T C M E Asks : Type 0} {code : Coding T} {kind : Kind} (effects : Worl
         past = h.past;
         finds = h.finds;
         leaves = h.leaves;
-        tells =
-            λ capacity p from c d m n es late t stands wrote waits met e. subst
-            (λ zs. call.wrote capacity p from d (kept c m n) zs) (sym (all capacity p from c m n es late t waits met))
-            (h.tells capacity p from c d m n es stands wrote e);
-        tells_all =
-            λ capacity p from c e m n es late t stands skip wrote waits met is still. subst
-            (λ zs. call.wrote_all capacity p from e (kept c m n) zs) (sym (all capacity p from c m n es late t waits met))
-            (h.tells_all capacity p from c e m n es stands skip wrote is still);
+        tells = λ step d leads. (
+            let tells = h.tells step.capacity step.p step.from step.c d step.m step.n in
+            subst (call.wrote step.capacity step.p step.from d (kept step.c step.m step.n)) (sym (all step))
+            (tells step.es step.stands step.wrote leads));
+        tells_all = λ step e skip leads still. (
+            let tells = h.tells_all step.capacity step.p step.from step.c e step.m step.n in
+            subst (call.wrote_all step.capacity step.p step.from e (kept step.c step.m step.n)) (sym (all step))
+            (tells step.es step.stands skip step.wrote leads still));
       }
 
   pub in_machine : StepsIn Asks code kind effects driven

@@ -3,7 +3,7 @@ use Rattle.history.proofs.Names.{◌≡◌, inl, ℕ, ◌+◌, ◌<◌, nat_lt, 
 use Rattle.history.proofs.Names.{refl, sym, ap, subst, arith, nat_tests}
 use Rattle.history.proofs.Names.{total_words, Replaced, first_replace, replace_asks, replace_want, replace_takes}
 use Rattle.history.proofs.Names.{replace_after, empty, went_on, Ask, After, GoOn, ReplaceStage}
-use Rattle.history.proofs.Names.{Answer, Event, Add, Replace, Coding, IsCoding, opening_of, replace_of, added}
+use Rattle.history.proofs.Names.{Answer, Event, Add, Replace, Coding, IsCoding, Some, replace_of, added}
 use Rattle.history.proofs.Names.{replaced, add_effects, replace_effects, as_it_is}
 use Rattle.history.proofs.Names.{as_call, data_within, answered}
 use Rattle.steps.specs.Container.Add.{Added, first_add, add_asks, add_want, add_takes}
@@ -23,9 +23,9 @@ use Rattle.model.specs.declared.turn.Kind.TheVariants as kinds
 use Rattle.history.specs.declared.view.View.{View}
 use Rattle.history.specs.Container.{AddIn, AddedAt, HasAdded, adds_value, ReplaceIn, ReplacedAt, HasReplaced, replaces_value}
 use Rattle.history.specs.Stages.{Calling, At}
-use Rattle.history.proofs.CallsIn.{AsksFor, Driven, IsCallBy, KeepsEnds}
+use Rattle.history.proofs.CallsIn.{AsksFor, Driven, IsCallBy, KeepsEnds, each_tells, last_tells}
 use Rattle.history.proofs.ContainerCalls.{set_words, change_low, count_low, place_is}
-use Rattle.history.proofs.Containers.{plain_effects, container_words, container_keeps, container_first, container_starts, fewer}
+use Rattle.history.proofs.Containers.{plain_effects, container_words, container_keeps, container_starts, fewer}
 use Rattle.history.proofs.Drives.{goes}
 use Rattle.history.proofs.RobustCalls.{acquire_words}
 
@@ -84,7 +84,7 @@ module _ {T : Type 0} (code : Coding T) (law : IsCoding code) (given : Owned T) 
   as_added (Done e) = refl
 
   -- after a step an add goes on or ends, and has written what its stage or its end tells
-  add_goes : (capacity p : ℕ) (c : Adding T) (n : ℕ) (es : List (Event T)) (r : After (Adding T) Added) → (h : adding.stands capacity c)
+  add_goes : {capacity : ℕ} (p : ℕ) (c : Adding T) (n : ℕ) (es : List (Event T)) {r : After (Adding T) Added} → (h : adding.stands capacity c)
       → AddedAt p given c.stage es → add_then c n ≡ r
       → AddGoes capacity code.size has_words c h.0 p given (es ++ (add_effects p given c.stage n ++ [])) r
   add_goes = grind arith
@@ -102,14 +102,16 @@ module _ {T : Type 0} (code : Coding T) (law : IsCoding code) (given : Owned T) 
         hears = λ c m a n e. (add_found code.words_of code.size c c.stage given a n e, refl);
         stays = λ capacity c d n h e. (
             let written = some_added capacity code.size has_words c h.0 0 given c.stage in
-            (add_goes capacity 0 c n written.0 (GoOn d) h written.1 e).0);
+            (add_goes 0 c n written.0 h written.1 e).0);
         asks = λ capacity c h. subst (λ k. AsksFor (container_words code capacity) (add_asks code.words_of code.size k c.stage given)) (sym h.0)
             (add_words code.words_of code.size capacity c.stage given h.1);
         past = λ capacity c d n k h e. refl;
         finds = λ c m n small t. tt;
         leaves = λ c a n t e. absurd (cc);
-        tells = λ capacity p from c d m n es h wrote e new. (add_goes capacity p c n es (GoOn d) h (wrote new) e).1;
-        tells_all = λ capacity p from c end m n es h skip wrote e still new. add_goes capacity p c n es (Done end) h (wrote new) e;
+        tells = each_tells (plain_effects code) add_driven
+            (λ step d leads new. (add_goes step.p step.c step.n step.es step.stands (step.wrote new) leads).1);
+        tells_all = last_tells (plain_effects code) add_driven
+            (λ step end skip leads new. add_goes step.p step.c step.n step.es step.stands (step.wrote new) leads);
       }
 
   -- each step of an add keeps the rule of the table
@@ -127,9 +129,8 @@ module _ {T : Type 0} (code : Coding T) (law : IsCoding code) (given : Owned T) 
         fresh = alone;
         standing = (refl, tt);
         some = any;
-        first = container_first code v adding (Add given.value given.owner) (first_add v.capacity) m refl (λ o p h. h) named refl
-            ((opening_of kinds.Container).kept v.capacity);
-        starts = container_starts code v adding (Add given.value given.owner) (first_add v.capacity) m refl (λ o p h. h) named refl;
+        first = rw named refl;
+        starts = container_starts (Add given.value given.owner) refl (λ o p h. h) named refl;
         wrote = λ p new. refl;
       })
 
@@ -153,6 +154,7 @@ module _ {T : Type 0} (words_of : T → List ℕ) (size : ℕ) where
   replace_words capacity replaces.AddsCount given low replace_in = (_, count_low capacity size given.index low, refl)
   replace_words capacity replaces.AddsChange given low replace_in = (_, change_low capacity size, refl)
 
+-- party p makes a replace, which stands at a stage, on a container of this capacity, whose values have `size` words
 module _ {T : Type 0} (capacity size : ℕ) (some : 0 < size) (c : Replacing T) (same : c.capacity ≡ capacity) (p : ℕ) (given : Replacement T)
     (low : given.index < capacity) where
   -- after a step a replace stands within the value, or has ended, with what it has written
@@ -184,7 +186,7 @@ module _ {T : Type 0} (code : Coding T) (law : IsCoding code) (given : Replaceme
   as_replaced (Done e) = refl
 
   -- after a step a replace goes on or ends, and has written what its stage or its end tells
-  replace_goes : (capacity p : ℕ) (c : Replacing T) (n : ℕ) (es : List (Event T)) (r : After (Replacing T) Replaced) → (h : replacing.stands capacity c)
+  replace_goes : {capacity : ℕ} (p : ℕ) (c : Replacing T) (n : ℕ) (es : List (Event T)) {r : After (Replacing T) Replaced} → (h : replacing.stands capacity c)
       → ReplacedAt p given c.stage es → replace_then c n ≡ r
       → ReplaceGoes capacity code.size has_some c h.0 p given h.1 (es ++ (replace_effects p given c.stage n ++ [])) r
   replace_goes = grind arith
@@ -202,14 +204,16 @@ module _ {T : Type 0} (code : Coding T) (law : IsCoding code) (given : Replaceme
         hears = λ c m a n e. (replace_found code.words_of code.size c c.stage given a n e, refl);
         stays = λ capacity c d n h e. (
             let written = some_replaced capacity code.size has_some c h.0 0 given h.1 c.stage in
-            (replace_goes capacity 0 c n written.0 (GoOn d) h written.1 e).0);
+            (replace_goes 0 c n written.0 h written.1 e).0);
         asks = λ capacity c h. subst (λ k. AsksFor (container_words code capacity) (replace_asks code.words_of code.size k c.stage given)) (sym h.0)
             (replace_words code.words_of code.size capacity c.stage given h.1 h.2);
         past = λ capacity c d n k h e. refl;
         finds = λ c m n small t. tt;
         leaves = λ c a n t e. absurd (cc);
-        tells = λ capacity p from c d m n es h wrote e new. (replace_goes capacity p c n es (GoOn d) h (wrote new) e).1;
-        tells_all = λ capacity p from c end m n es h skip wrote e still new. replace_goes capacity p c n es (Done end) h (wrote new) e;
+        tells = each_tells (plain_effects code) replace_driven
+            (λ step d leads new. (replace_goes step.p step.c step.n step.es step.stands (step.wrote new) leads).1);
+        tells_all = last_tells (plain_effects code) replace_driven
+            (λ step end skip leads new. replace_goes step.p step.c step.n step.es step.stands (step.wrote new) leads);
       }
 
   -- each step of a replace keeps the rule of the table
@@ -235,9 +239,7 @@ module _ {T : Type 0} (code : Coding T) (law : IsCoding code) (given : Replaceme
         fresh = alone;
         standing = (refl, low, rw below tt);
         some = any;
-        first = container_first code v replacing (Replace given.index given.value given.owner) (first_replace v.capacity given.index) m refl
-            (λ o p h. h) named flies ((opening_of kinds.Container).kept v.capacity);
-        starts = container_starts code v replacing (Replace given.index given.value given.owner) (first_replace v.capacity given.index) m refl
-            (λ o p h. h) named flies;
+        first = rw named (ap Some flies);
+        starts = container_starts (Replace given.index given.value given.owner) refl (λ o p h. h) named flies;
         wrote = λ p new. rw below refl;
       })

@@ -4,7 +4,7 @@ use Rattle.history.proofs.Names.{Bool, ◌≡◌, inl, ℕ, ◌+◌, ◌<◌, �
 use Rattle.history.proofs.Names.{append-nil, refl, sym, ap, subst, arith, nat_tests, change_word, count_word}
 use Rattle.history.proofs.Names.{total_words, first_borrowed, borrowed_want, empty, count_after, Released}
 use Rattle.history.proofs.Names.{load, went_on, Ask, After, GoOn, GiveBack, ReleaseStage, Answer, Event, Remove}
-use Rattle.history.proofs.Names.{Coding, first_call, place_of, remove_of, removed, counted, opening_of, names_owner}
+use Rattle.history.proofs.Names.{Coding, first_call, place_of, remove_of, removed, counted, Some, names_owner}
 use Rattle.history.proofs.Names.{remove_effects, release_effects, as_it_is, as_call, answered}
 use Rattle.steps.specs.Container.Remove.{Removed, first_remove, inner_release, remove_asks, remove_want}
 use Rattle.steps.specs.Container.Remove.{remove_released, remove_takes, remove_after}
@@ -27,7 +27,7 @@ use Rattle.model.specs.declared.turn.Kind.TheVariants as kinds
 use Rattle.history.specs.declared.view.View.{View}
 use Rattle.history.specs.Container.{RemoveIn, HasRemovedIt, RemovedAt, HasRemoved, removes_value, count_start, counts_values, sees_lock}
 use Rattle.history.specs.Stages.{At}
-use Rattle.history.proofs.CallsIn.{AsksFor, Driven, IsCallBy, KeepsEnds}
+use Rattle.history.proofs.CallsIn.{AsksFor, Driven, IsCallBy, KeepsEnds, each_tells, last_tells}
 use Rattle.history.proofs.Containers.{plain_effects, container_words, container_keeps, container_first, container_starts, fewer}
 use Rattle.history.proofs.Drives.{goes}
 use Rattle.history.proofs.RobustCalls.{release_words, ReleaseGoes, gives_so, counts_so}
@@ -108,8 +108,8 @@ module _ {T : Type 0} (code : Coding T) where
         fresh = alone;
         standing = tt;
         some = any;
-        first = container_first code v sees_lock IsLocked c m refl (λ o p h. h) refl refl ((opening_of kinds.Container).kept v.capacity);
-        starts = container_starts code v sees_lock IsLocked c m refl (λ o p h. h) refl refl;
+        first = refl;
+        starts = container_starts IsLocked refl (λ o p h. h) refl refl;
         wrote = λ p. refl;
       })
 
@@ -146,11 +146,12 @@ module _ (T : Type 0) (capacity : ℕ) (c : Removing) (same : c.capacity ≡ cap
   removes_so removes.Refuses k es remove_in removed_at = absurd remove_in
   removes_so removes.LoadsCount k es remove_in removed_at = ((same, low, tt), ap (λ zs. zs ++ []) removed_at)
   removes_so (removes.Releases count stage) k es remove_in removed_at =
+      let gives = gives_so T capacity (inner_release c.capacity stage) same p given low in
       released count stage _ (release_takes (inner_release c.capacity stage) stage given k)
       (subst (λ zs. ReleaseGoes T capacity (inner_release c.capacity stage) same p given low
       (zs ++ release_effects p given stage k)
       (release_takes (inner_release c.capacity stage) stage given k)) (sym removed_at)
-      (gives_so T capacity (inner_release c.capacity stage) same p given low stage k remove_in))
+      (gives stage k remove_in))
   removes_so (removes.Hides count state) k es remove_in removed_at = ((same, low, tt), (es, removed_at, (k == count, refl)))
   removes_so (removes.AddsChange state) k es remove_in removed_at = subst (HasRemovedIt p given state) (sym (append-nil es)) removed_at
 
@@ -168,7 +169,8 @@ module _ {T : Type 0} (code : Coding T) (given : GiveBack) where
   abbrev written : ℕ → Removing → ℕ → List (Event T)
   written p c n = remove_effects p given c.stage n ++ []
 
-  goes_so : (capacity p : ℕ) (c : Removing) (n : ℕ) (es : List (Event T)) (r : After Removing Removed) → (h : (removes_value {T = T} given).stands capacity c)
+  goes_so : {capacity : ℕ} (p : ℕ) (c : Removing) (n : ℕ) (es : List (Event T)) {r : After Removing Removed}
+      → (h : (removes_value {T = T} given).stands capacity c)
       → RemovedAt p given c.stage es → after c n ≡ r → RemoveGoes T capacity c h.0 p given h.1 (es ++ written p c n) r
   goes_so = grind (arith, append-nil, removes_so)
 
@@ -193,8 +195,10 @@ module _ {T : Type 0} (code : Coding T) (given : GiveBack) where
         past = λ capacity c d n k h e. refl;
         finds = λ c m n small t. tt;
         leaves = λ c a n t e. absurd (cc);
-        tells = λ capacity p from c d m n es h wrote e new. (goes_so capacity p c n es (GoOn d) h (wrote new) e).1;
-        tells_all = λ capacity p from c end m n es h skip wrote e still new. goes_so capacity p c n es (Done end) h (wrote new) e;
+        tells = each_tells (plain_effects code) remove_driven
+            (λ step d leads new. (goes_so step.p step.c step.n step.es step.stands (step.wrote new) leads).1);
+        tells_all = last_tells (plain_effects code) remove_driven
+            (λ step end skip leads new. goes_so step.p step.c step.n step.es step.stands (step.wrote new) leads);
       }
 
   -- each step of a remove keeps the rule of the table
@@ -221,9 +225,7 @@ module _ {T : Type 0} (code : Coding T) (given : GiveBack) where
         fresh = alone;
         standing = (refl, low, rw below tt);
         some = any;
-        first = container_first code v (removes_value given) (Remove given.index given.owner given.mode) (first_remove v.capacity given.index) m refl
-            (λ o p h. h) named flies ((opening_of kinds.Container).kept v.capacity);
-        starts = container_starts code v (removes_value given) (Remove given.index given.owner given.mode) (first_remove v.capacity given.index) m refl
-            (λ o p h. h) named flies;
+        first = rw named (ap Some flies);
+        starts = container_starts (Remove given.index given.owner given.mode) refl (λ o p h. h) named flies;
         wrote = λ p new. rw below refl;
       })

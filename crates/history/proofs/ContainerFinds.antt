@@ -5,7 +5,7 @@ use Rattle.history.proofs.Names.{append_assoc, fold, refl, sym, ap, subst, ◌�
 use Rattle.history.proofs.Names.{map-append, find_asks, find_keeps, first_find, find_want, find_comes_to, find_takes}
 use Rattle.history.proofs.Names.{find_after, is_even, total_words, empty, went_on, Ask, After, GoOn, Want}
 use Rattle.history.proofs.Names.{FindStage, Answer, Event, Start, Container, Flight, Registry, Find, Coding, IsCoding}
-use Rattle.history.proofs.Names.{opening_of, goes_of, is_question, find_of, find_effects, as_it_is}
+use Rattle.history.proofs.Names.{goes_of, is_question, find_of, find_effects, as_it_is}
 use Rattle.history.proofs.Names.{fresh_cell, kept_at, read_in, own_after, Open, as_call, number_of, Owes}
 use Rattle.history.proofs.Names.{answered}
 use Rattle.steps.specs.declared.ask.After.TheVariants.{Done}
@@ -25,10 +25,10 @@ use Rattle.history.specs.History.{IsMachine}
 use Rattle.history.specs.Rooms.{room_of}
 use Rattle.history.specs.Settled.{IsResting, RestsAt, EndsAsked}
 use Rattle.history.specs.Value.{value_of_room}
-use Rattle.history.proofs.CallsIn.{goes, AsksFor, StepsOf, Driven, KeepsSo}
+use Rattle.history.proofs.CallsIn.{goes, AsksFor, StepsOf, Driven, KeepsSo, each_tells, last_tells}
 use Rattle.history.proofs.Containers.{plain_effects, container_words, plain_acts}
-use Rattle.history.proofs.Containers.{container_first, container_starts, container_machines}
-use Rattle.history.proofs.Decisions.{IsAskingIn, keeps_said, keeps_word, hears_said, ends_said, AsksElse}
+use Rattle.history.proofs.Containers.{container_starts, container_machines}
+use Rattle.history.proofs.Decisions.{AskingCall, IsAskingIn, keeps_said, keeps_word, hears_said, ends_said, AsksElse}
 use Rattle.history.proofs.Rooms.{room_set, room_read}
 use Rattle.history.proofs.Written.{same_written}
 use Rattle.history.specs.Stages.{Calling, IsUnderWay, Ends, AtAsked}
@@ -49,6 +49,7 @@ find_words capacity size (finds.LoadsWord index found count at) find_in still = 
 find_words capacity size (finds.ChecksCount index found count) h still = (_, omega arith, refl)
 find_words capacity size (finds.Asks index found) h still = absurd (cc)
 
+-- R is the room of a value's words: `words_in` are its words, and `with_word` puts one of them
 module _ {T R : Type 0} (code : Coding T) (law : IsCoding code) (words_in : R → List ℕ) (with_word : R → ℕ → ℕ → R)
     (put_in : (x : R) (at word : ℕ) → words_in (with_word x at word) ≡ slice_set (words_in x) at word) (owner : ℕ) where
   -- the words that the find copies into, and the values that it has copied, for the proofs alone
@@ -182,8 +183,8 @@ module _ {T R : Type 0} (code : Coding T) (law : IsCoding code) (words_in : R �
         past = λ capacity c d n k h e. refl;
         finds = λ c m n small t. tt;
         leaves = λ c a n t e. absurd (cc);
-        tells = λ capacity p from c d m n es h wrote e new. tells_so p c m n es (wrote new);
-        tells_all = λ capacity p from c end m n es h skip wrote e still new. tells_so p c m n es (wrote new);
+        tells = each_tells (plain_effects code) driven (λ step d leads new. tells_so step.p step.c step.m step.n step.es (step.wrote new));
+        tells_all = last_tells (plain_effects code) driven (λ step end skip leads new. tells_so step.p step.c step.m step.n step.es (step.wrote new));
       }
 
   -- ---- which find a flight is, and with which room
@@ -228,11 +229,26 @@ module _ {T R : Type 0} (code : Coding T) (law : IsCoding code) (words_in : R �
   ended_step : (base : View T) (e : ℕ) (m : Room) (w : View T) → Ends code kinds.Container finding base e m w → FindOver base e m w
   ended_step base e m w ends = inl ends
 
+  -- the find, as a call that may put questions, which a drive leaves as `Finished` says
+  abbrev asking : (Finished : View T → ℕ → Room → View T → Type 0)
+      → ((base : View T) (e : ℕ) (m : Room) (w : View T) → Ends code kinds.Container finding base e m w → Finished base e m w)
+      → AskingCall T (Finding T R) Room ℕ
+  asking Finished ended =
+      record {
+        machines = container_machines code;
+        decides = tt;
+        own = plain_effects code;
+        driven = driven;
+        acts = plain_acts code finding (λ c m. tt);
+        is_call = find_call;
+        Finished = Finished;
+        ended = ended;
+      }
+
   -- each step of a find keeps the rule of the table
   pub container_find_keeps : KeepsSo code kinds.Container (container_words code) driven (AtAsked code kinds.Container after kept finding) FindOver
   container_find_keeps =
-      keeps_said (container_machines code) tt (plain_effects code) driven
-      (plain_acts code finding (λ c m. tt)) find_call FindOver ended_step rests_so
+      keeps_said (asking FindOver ended_step) rests_so
 
   -- a step at a word that ends a find ends its call in the history too, so the call does not rest
   pub container_find_word : (base v : View T) (c : Finding T R) (m : Room) (key words slots id : ℕ) → is_question (want c) ≡ false
@@ -240,23 +256,20 @@ module _ {T R : Type 0} (code : Coding T) (law : IsCoding code) (words_in : R �
       → Owes (λ (z : View T). z.asked) (IsMachine code kinds.Container key) words slots id
       (Told (λ (z : View T). z.capacity) (AtAsked code kinds.Container after kept finding) (Ends code kinds.Container finding) after kept c m) (want c) (v, [])
   container_find_word base v c m key words slots id still wide known at_asked =
-      keeps_word (container_machines code) tt (plain_effects code) driven
-      (plain_acts code finding (λ c m. tt)) find_call (Ends code kinds.Container finding) (λ base e m w h. h)
-      base v c m slots id wide known still at_asked
+      keeps_word (asking (Ends code kinds.Container finding) (λ base e m w h. h)) slots id wide known still at_asked
 
   -- a find that has asked goes on from the answer
   pub container_find_hears : (base v : View T) (c d : Finding T R) (m : Room) (said : Bool) → is_question (want c) ≡ true
       → after c (number_of said) ≡ GoOn d → AtAsked code kinds.Container after kept finding base v c m
       → AtAsked code kinds.Container after kept finding base v d (kept c m (number_of said))
   container_find_hears =
-      hears_said (container_machines code) tt (plain_effects code) driven
-      (plain_acts code finding (λ c m. tt)) find_call FindOver ended_step
+      hears_said (asking FindOver ended_step)
 
   -- a find that has asked ends with the answer, where that ends it
   pub container_find_ends : (base v : View T) (c : Finding T R) (m : Room) (said : Bool) (e : ℕ) → is_question (want c) ≡ true
       → after c (number_of said) ≡ Done e → AtAsked code kinds.Container after kept finding base v c m → FindOver base e (kept c m (number_of said)) v
   container_find_ends =
-      ends_said (container_machines code) tt (plain_effects code) driven (plain_acts code finding (λ c m. tt)) find_call FindOver ended_step rests_so
+      ends_said (asking FindOver ended_step) rests_so
 
   -- a find begins in a room of zeros in which a value fits
   pub container_find_first : (v : View T) (m : Room) → room m.0 ≡ fresh_cell → m.1 ≡ [] → v.going ≡ None
@@ -273,10 +286,8 @@ module _ {T R : Type 0} (code : Coding T) (law : IsCoding code) (words_in : R �
         fresh = alone;
         standing = (refl, some);
         some = any;
-        first =
-            container_first code v finding (Find owner) (first_find v.capacity) m refl (λ o p h. h) named flies
-            ((opening_of kinds.Container).kept v.capacity);
-        starts = container_starts code v finding (Find owner) (first_find v.capacity) m refl (λ o p h. h) named flies;
+        first = rw named (ap Some flies);
+        starts = container_starts (Find owner) refl (λ o p h. h) named flies;
         wrote = λ p new. ap (copies_of p) (sym none);
       }))
 
@@ -303,18 +314,24 @@ module _ {T R : Type 0} (code : Coding T) (law : IsCoding code) (words_in : R �
       let same = one_list p xs ys rest in
       λ i. (index i, value i) ∷ same i
 
+  -- a find with these copies is under way in the view
+  record CopiesUnderWay (base v : View T) (m : Room) : Type 0 where
+    stage : Finding T R
+    in_room : Room
+    same : in_room.1 ≡ m.1
+    under : IsUnderWay code kinds.Container finding base v stage in_room
+
   -- the find has not begun and copied nothing, or a find with these copies is under way in the view
   abbrev HasCopiedThese : View T → View T → Room → Type 0
-  HasCopiedThese base v m =
-      ((v.going ≡ None) × (m.1 ≡ []))
-      ⊎ ((d : Finding T R) × (k : Room) × (k.1 ≡ m.1) × IsUnderWay code kinds.Container finding base v d k)
+  HasCopiedThese base v m = ((v.going ≡ None) × (m.1 ≡ [])) ⊎ CopiesUnderWay base v m
 
   -- a find at any stage, also after an answer, has not begun or is under way with these copies
   stands_at : (base v : View T) (c : Finding T R) (m : Room) → AtAsked code kinds.Container after kept finding base v c m → HasCopiedThese base v m
   stands_at base v c m (inl (inl first)) = inl (ap (λ (z : View T). z.going) first.is ∙ first.idle, sym (one_list 0 [] m.1 (first.wrote 0 refl)))
-  stands_at base v c m (inl (inr under)) = inr (c, m, refl, under)
+  stands_at base v c m (inl (inr under)) = inr (record { stage = c; in_room = m; same = refl; under = under })
   stands_at base v c m (inr h) =
-      inr (h.asking, h.room, ap (λ (z : Room). z.1) (sym (h.keeps ∙ asked_room h.asking h.room (number_of h.said) h.asking.stage h.asks)), h.before)
+      let same = ap (λ (z : Room). z.1) (sym (h.keeps ∙ asked_room h.asking h.room (number_of h.said) h.asking.stage h.asks)) in
+      inr (record { stage = h.asking; in_room = h.room; same = same; under = h.before })
 
   -- two finds at a stage of one view, counted from any views in which they had not begun, have
   -- copied the same values
@@ -338,11 +355,13 @@ module _ {T R : Type 0} (code : Coding T) (law : IsCoding code) (words_in : R �
       go (inl x) (inr y) = grind (arith, start)
       go (inr x) (inl y) = grind (arith, start)
       go (inr x) (inr y) =
-          let same = same_written code kinds.Container finding idle still x.3 y.3
-          (long base x.0 x.1 idle x.3) (long other y.0 y.1 still y.3) in
-          let lists : copies_of x.3.party x.1.1 ≡ copies_of x.3.party y.1.1 = sym (x.3.tells idle)
-          ∙ (same.1 ∙ (y.3.tells still ∙ ap (λ q. copies_of q y.1.1) (sym same.0))) in
-          sym x.2 ∙ (one_list x.3.party x.1.1 y.1.1 lists ∙ y.2)
+          let first = x.under in
+          let second = y.under in
+          let same = same_written code kinds.Container finding idle still first second
+          (long base x.stage x.in_room idle first) (long other y.stage y.in_room still second) in
+          let lists : copies_of first.party x.in_room.1 ≡ copies_of first.party y.in_room.1 = sym (first.tells idle)
+          ∙ (same.1 ∙ (second.tells still ∙ ap (λ q. copies_of q y.in_room.1) (sym same.0))) in
+          sym x.same ∙ (one_list first.party x.in_room.1 y.in_room.1 lists ∙ y.same)
 
   -- ---- a find that rests
 

@@ -40,8 +40,21 @@ look_found = grind arith
 
 -- ---- where a look goes on after a step, and what it has written then
 
-module _ {T : Type 0} (size : ℕ) (some : 0 < size) (which : LookOf) (capacity cells : ℕ) (seen : Numbers) (c : Looking T) (same : c.capacity ≡ capacity)
-    (p : ℕ) where
+-- A look at a stage, as a party makes it on a container, for a state that had seen these numbers.
+pub record LookCase (T : Type 0) : Type 0 where
+  pub size : ℕ  -- the words of a value
+  pub some : 0 < size
+  pub which : LookOf
+  pub capacity : ℕ  -- of the container
+  pub cells : ℕ  -- of the state
+  pub seen : Numbers
+  pub c : Looking T
+  pub same : c.capacity ≡ capacity
+  pub p : ℕ  -- the party
+
+module _ {T : Type 0} (case : LookCase T) where
+  open case use {size, some, which, capacity, cells, seen, c, same, p}
+
   -- a look for a state of this capacity that had seen these numbers
   abbrev looking : Calling T (Looking T) (Showing T) Bool
   looking = looks_at size which cells seen
@@ -83,26 +96,39 @@ module _ {T : Type 0} (size : ℕ) (some : 0 < size) (which : LookOf) (capacity 
 
 -- ---- the state that the machine has for its party
 
-module _ {T : Type 0} (code : Coding T) (which : LookOf) (capacity : ℕ) (seen : Numbers) (p : ℕ) where
-  abbrev drives : Calling T (Looking T) (Showing T) Bool
-  drives = looks_at code.size which capacity seen
+-- a step of a look that finds n, on a machine that keeps for its party the state that the look's room shows
+pub record LookStep (T : Type 0) : Type 0 where
+  pub which : LookOf
+  pub cells : ℕ  -- of the state
+  pub seen : Numbers  -- that it has
+  pub p : ℕ  -- the party
+  pub c : Looking T
+  pub m : Showing T
+  pub n : ℕ
+  pub kept : Registry T  -- by the machine
+  pub has : HasState kept p (state_of_look cells seen m)
 
-  abbrev kept_shown : Looking T → Showing T → ℕ → Showing T
-  kept_shown c m n = look_kept code.value_of code.size c m n
+module _ {T : Type 0} (code : Coding T) (look : LookStep T) where
+  open look use {which, cells, seen, p, c, m, n, kept, has}
+
+  abbrev drives : Calling T (Looking T) (Showing T) Bool
+  drives = looks_at code.size which cells seen
+
+  -- what the room shows after the step
+  abbrev kept_shown : Showing T
+  kept_shown = look_kept code.value_of code.size c m n
 
   -- where the machine keeps the look's state, the model's look goes on as the driver's does
-  pub look_goes_so : (c : Looking T) (m : Showing T) (n : ℕ) (kept : Registry T) → HasState kept p (state_of_look capacity seen m)
-      → goes_of code p (flights.Container (calls.Look which c)) n kept ≡ goes drives (look_after code.size c seen n) (kept_shown c m n)
+  pub look_goes_so : goes_of code p (flights.Container (calls.Look which c)) n kept ≡ goes drives (look_after code.size c seen n) kept_shown
   look_goes_so = grind arith
 
   -- the step of the model leaves the state that the driver's room then shows
-  pub look_keeps_so : (words : List ℕ) (beside : Option (ℕ × ℕ)) (start : ContainerStart T) (c : Looking T) (m : Showing T) (n : ℕ) (kept : Registry T)
-      → HasState kept p (state_of_look capacity seen m)
+  pub look_keeps_so : (words : List ℕ) (beside : Option (ℕ × ℕ)) (start : ContainerStart T)
       → HasState (step_of code words beside p (Container start) (flights.Container (calls.Look which c)) n kept).kept p
-      (settled_if (look_after code.size c seen n) (state_of_look capacity seen (kept_shown c m n)))
+      (settled_if (look_after code.size c seen n) (state_of_look cells seen kept_shown))
   look_keeps_so = grind (arith, written_same)
 
   -- the copies that the step writes are of the value that the room has read
-  pub look_writes_so : (c : Looking T) (m : Showing T) (n : ℕ) (w : World T) → w.coding ≡ code → HasState w.kept p (state_of_look capacity seen m)
+  pub look_writes_so : (w : World T) → w.coding ≡ code → w.kept ≡ kept
       → container_effects w p (flights.Container (calls.Look which c)) n ≡ look_effects p (value_in code.value_of code.size m.copy) c.stage n ++ []
   look_writes_so = grind arith

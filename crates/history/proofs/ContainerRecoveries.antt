@@ -25,18 +25,19 @@ use Rattle.history.specs.ContainerRecovery.{RecoverIn, Came, wrote_visits, visit
 use Rattle.history.specs.Rooms.{room_of}
 use Rattle.history.specs.Stages.{Calling, IsUnderWay, Ends, AtAsked}
 use Rattle.history.specs.ValueQueue.{value_there}
-use Rattle.history.proofs.CallsIn.{AsksFor, Driven, KeepsSo}
+use Rattle.history.proofs.CallsIn.{AsksFor, Driven, KeepsSo, each_tells, last_tells}
 use Rattle.history.proofs.Containers.{plain_effects, plain_acts, container_words}
 use Rattle.history.proofs.Decisions.{IsAskingOf, keeps_asked, hears_answer}
 use Rattle.history.proofs.Drives.{goes}
 use Rattle.history.proofs.Rooms.{room_set, room_read}
 use Rattle.history.proofs.Written.{same_written}
-use Rattle.history.proofs.RecoverySteps.{recover_words, recover_found, AnswersOn, answers_on, Keeps, RecoverGoes, recovers_so, some_visits, wrote}
+use Rattle.history.proofs.RecoverySteps.{recover_words, recover_found, AnswersOn, answers_on, Keeps, RecoveryCase, RecoverGoes, recovers_so, some_visits, wrote}
 use Rattle.history.proofs.RecoveryVisits.{one_list, inside_both, inside_visits, inside_yet}
 use Rattle.history.proofs.Containers.{container_machines}
 
 -- ---- a recovery
 
+-- R is the room of a value's words: `words_in` are its words, and `with_word` puts one of them
 module _ {T R : Type 0} (code : Coding T) (law : IsCoding code) (words_in : R → List ℕ) (with_word : R → ℕ → ℕ → R)
     (put_in : (x : R) (at word : ℕ) → words_in (with_word x at word) ≡ slice_set (words_in x) at word) (given : DeadOwner) where
   -- the words that the recovery copies into, and its visits, for the proofs alone
@@ -124,29 +125,31 @@ module _ {T R : Type 0} (code : Coding T) (law : IsCoding code) (words_in : R �
   abbrev WroteAt : ℕ → RecoverStage → T → List (ℕ × Came T) → List (Event T) → Type 0
   WroteAt p stage value visits es = VisitsAt stage value visits × (es ≡ wrote_visits p given.owner visits ++ told_yet p given.owner stage)
 
+  -- the recovery at the stage of c, as party p makes it on a container of this capacity
+  abbrev recovery : {capacity : ℕ} (p : ℕ) (c : Recovering T R) → c.capacity ≡ capacity → RecoveryCase T R
+  recovery {capacity} p c same =
+      record { code = code; some = has_words; words_in = words_in; capacity = capacity; c = c; same = same; p = p; given = given }
+
   -- after a step the recovery goes on or ends, and has written what its visits tell
-  goes_so : (capacity p : ℕ) (c : Recovering T R) (m : Room) (n : ℕ) {es : List (Event T)} (r : After (Recovering T R) ReleaseState)
+  goes_so : {capacity : ℕ} (p : ℕ) (c : Recovering T R) (m : Room) (n : ℕ) {es : List (Event T)} {r : After (Recovering T R) ReleaseState}
       → (h : recovering.stands capacity c) → WroteAt p c.stage (value_at m) m.1 es → after c n ≡ r
-      → RecoverGoes code has_words words_in capacity c h.0 p given (value_at (kept c m n)) (kept c m n).1
-      (es ++ plain_effects code p (recovering.flight c m) n) r
-  goes_so capacity p c m n {es} r h wrote_at leads =
-      subst (RecoverGoes code has_words words_in capacity c h.0 p given (value_at (kept c m n)) (kept c m n).1
-      (es ++ plain_effects code p (recovering.flight c m) n))
-      leads
-      (subst (λ v. RecoverGoes code has_words words_in capacity c h.0 p given (value_at (kept c m n)) (kept c m n).1
+      → RecoverGoes (recovery p c h.0) (value_at (kept c m n)) (kept c m n).1 (es ++ plain_effects code p (recovering.flight c m) n) r
+  goes_so p c m n {es} h wrote_at leads =
+      let now = value_at (kept c m n) in
+      subst (RecoverGoes (recovery p c h.0) now (kept c m n).1 (es ++ plain_effects code p (recovering.flight c m) n)) leads
+      (subst (λ v. RecoverGoes (recovery p c h.0) now (kept c m n).1
       (es ++ (recover_effects p given v c.stage n ++ question_of p given c.stage n)) (after c n)) (sym (value_in_room m.0))
-      (recovers_so code has_words words_in capacity c h.0 p given (value_at m) (value_at (kept c m n)) c.stage n m.1 es
-      (check_keeps m.0 n c.stage) h.1 wrote_at.0 wrote_at.1))
+      (recovers_so (recovery p c h.0) (value_at m) now c.stage n m.1 (check_keeps m.0 n c.stage) h.1 wrote_at))
 
   -- a recovery that goes on stands within the container
   stands_so : (capacity : ℕ) (c d : Recovering T R) (n : ℕ) → recovering.stands capacity c → after c n ≡ GoOn d → recovering.stands capacity d
   stands_so capacity c d n h leads =
       let value : T = code.value_of [] in
-      let some = some_visits code has_words words_in capacity c h.0 0 given c.stage value in
+      let here = recovery 0 c h.0 in
+      let some = some_visits here c.stage value in
       let events_then : List (Event T) = wrote_visits 0 given.owner some.0 ++ told_yet 0 given.owner c.stage in
-      (subst (RecoverGoes code has_words words_in capacity c h.0 0 given value (visits_after given.owner c.stage n value some.0)
-      (events_then ++ wrote code has_words words_in capacity c h.0 0 given value c.stage n)) leads
-      (recovers_so code has_words words_in capacity c h.0 0 given value value c.stage n some.0 events_then (same_keeps value c.stage) h.1 some.1 refl)).0
+      (subst (RecoverGoes here value (visits_after given.owner c.stage n value some.0) (events_then ++ wrote here value c.stage n)) leads
+      (recovers_so here value value c.stage n some.0 (same_keeps value c.stage) h.1 (some.1, refl))).0
     where
       -- a value that is the same is kept, as `Keeps` says, at each stage
       same_keeps : (value : T) (stage : RecoverStage) → Keeps stage value value
@@ -205,8 +208,10 @@ module _ {T R : Type 0} (code : Coding T) (law : IsCoding code) (words_in : R �
                     finds = λ c m n small t. tt;
                     leaves = λ c a n t e. absurd (cc);
                     -- what a step writes, and what the last step writes, is what the visits tell
-                    tells = λ capacity p from c d m n es h wrote e new. (goes_so capacity p c m n (GoOn d) h (wrote new) e).1;
-                    tells_all = λ capacity p from c end m n es h skip wrote e still new. goes_so capacity p c m n (Done end) h (wrote new) e;
+                    tells = each_tells (plain_effects code) driven
+                        (λ step d leads new. (goes_so step.p step.c step.m step.n step.stands (step.wrote new) leads).1);
+                    tells_all = last_tells (plain_effects code) driven
+                        (λ step end skip leads new. goes_so step.p step.c step.m step.n step.stands (step.wrote new) leads);
                   };
               -- its stage can be told from its flight, and an answer changes nothing that was written
               never = λ c n. refl;
@@ -245,11 +250,16 @@ module _ {T R : Type 0} (code : Coding T) (law : IsCoding code) (words_in : R �
 
   -- ---- what a pass has seen tells the visits of its recovery
 
+  -- a recovery with these visits is under way in the view
+  record VisitsUnderWay (base v : View T) (m : Room) : Type 0 where
+    stage : Recovering T R
+    in_room : Room
+    same : in_room.1 ≡ m.1
+    under : IsUnderWay code kinds.Container recovering base v stage in_room
+
   -- the recovery has not begun, without visits, or it is under way in the view with these visits
   abbrev HasMadeVisits : View T → View T → Recovering T R → Room → Type 0
-  HasMadeVisits base v c m =
-      ((v.going ≡ None) × (m.1 ≡ []))
-      ⊎ ((d : Recovering T R) × (k : Room) × (k.1 ≡ m.1) × IsUnderWay code kinds.Container recovering base v d k)
+  HasMadeVisits base v c m = ((v.going ≡ None) × (m.1 ≡ [])) ⊎ VisitsUnderWay base v m
 
   -- a recovery at any stage, also after an answer, has not begun or is under way with these visits
   stands_at : (base v : View T) (c : Recovering T R) (m : Room) → AtAsked code kinds.Container after kept recovering base v c m → HasMadeVisits base v c m
@@ -261,9 +271,10 @@ module _ {T R : Type 0} (code : Coding T) (law : IsCoding code) (words_in : R �
       no_first : (xs ys : List (Event T)) → [] ≡ xs ++ ys → xs ≡ []
       no_first [] ys lists_are = refl
       no_first (x ∷ xs) ys lists_are = absurd (cc)
-  stands_at base v c m (inl (inr under)) = inr (c, m, refl, under)
+  stands_at base v c m (inl (inr under)) = inr (record { stage = c; in_room = m; same = refl; under = under })
   stands_at base v c m (inr h) =
-      inr (h.asking, h.room, ap (λ (z : Room). z.1) (sym (h.keeps ∙ asked_room h.asking h.room (number_of h.said) h.asking.stage h.asks)), h.before)
+      let same = ap (λ (z : Room). z.1) (sym (h.keeps ∙ asked_room h.asking h.room (number_of h.said) h.asking.stage h.asks)) in
+      inr (record { stage = h.asking; in_room = h.room; same = same; under = h.before })
 
   -- two recoveries at a stage of one view, counted from any views in which they had not begun,
   -- have the same visits
@@ -288,21 +299,23 @@ module _ {T R : Type 0} (code : Coding T) (law : IsCoding code) (words_in : R �
       go (inr x) (inl y) = grind (arith, start)
       -- both are under way: they are one call of one party, so their visits write the same events
       go (inr x) (inr y) =
-          let party_now = x.3.party in
-          let same = same_written code kinds.Container recovering idle still x.3 y.3
-          (long base x.0 x.1 idle x.3) (long other y.0 y.1 still y.3) in
-          let both : ◌≡◌ {A = Option (Start T × Flight T)} (Some (start, recovering.flight x.0 x.1))
-          (Some (start, recovering.flight y.0 y.1)) =
-          sym x.3.going ∙ y.3.going in
-          let pair : ◌≡◌ {A = Start T × Flight T} (start, recovering.flight x.0 x.1) (start, recovering.flight y.0 y.1) = cc in
-          let call : x.0 ≡ y.0 = ap (λ (z : Start T × Flight T). recovery_of x.0 z.1) pair in
-          let lists : wrote_visits party_now given.owner x.1.1 ++ told_yet party_now given.owner x.0.stage
-          ≡ wrote_visits party_now given.owner y.1.1 ++ told_yet party_now given.owner x.0.stage
+          let first = x.under in
+          let second = y.under in
+          let party_now = first.party in
+          let same = same_written code kinds.Container recovering idle still first second
+          (long base x.stage x.in_room idle first) (long other y.stage y.in_room still second) in
+          let both : ◌≡◌ {A = Option (Start T × Flight T)} (Some (start, recovering.flight x.stage x.in_room))
+          (Some (start, recovering.flight y.stage y.in_room)) =
+          sym first.going ∙ second.going in
+          let pair : ◌≡◌ {A = Start T × Flight T} (start, recovering.flight x.stage x.in_room) (start, recovering.flight y.stage y.in_room) = cc in
+          let call : x.stage ≡ y.stage = ap (λ (z : Start T × Flight T). recovery_of x.stage z.1) pair in
+          let lists : wrote_visits party_now given.owner x.in_room.1 ++ told_yet party_now given.owner x.stage.stage
+          ≡ wrote_visits party_now given.owner y.in_room.1 ++ told_yet party_now given.owner x.stage.stage
           =
-          sym (x.3.tells idle).1 ∙ (same.1
-          ∙ ((y.3.tells still).1 ∙ (ap (λ q. wrote_visits q given.owner y.1.1 ++ told_yet q given.owner y.0.stage) (sym same.0)
-          ∙ ap (λ (z : Recovering T R). wrote_visits party_now given.owner y.1.1 ++ told_yet party_now given.owner z.stage) (sym call)))) in
-          sym x.2 ∙ (one_list party_now given.owner x.1.1 y.1.1
-          (append_cancel_right (wrote_visits party_now given.owner x.1.1) (wrote_visits party_now given.owner y.1.1)
-          (told_yet party_now given.owner x.0.stage) lists)
-          ∙ y.2)
+          sym (first.tells idle).1 ∙ (same.1
+          ∙ ((second.tells still).1 ∙ (ap (λ q. wrote_visits q given.owner y.in_room.1 ++ told_yet q given.owner y.stage.stage) (sym same.0)
+          ∙ ap (λ (z : Recovering T R). wrote_visits party_now given.owner y.in_room.1 ++ told_yet party_now given.owner z.stage) (sym call)))) in
+          sym x.same ∙ (one_list party_now given.owner x.in_room.1 y.in_room.1
+          (append_cancel_right (wrote_visits party_now given.owner x.in_room.1) (wrote_visits party_now given.owner y.in_room.1)
+          (told_yet party_now given.owner x.stage.stage) lists)
+          ∙ y.same)

@@ -2,7 +2,7 @@
 -- step the machine is handed the answer that ended the `find`.
 use Rattle.std.proofs.Common.{arith}
 use Rattle.history.proofs.Names.{Bool, true, false, ◌≡◌, ℕ, ◌+◌, ◌<◌, Option, None, List, []}
-use Rattle.history.proofs.Names.{sym, ◌∙◌, Allows, After, GoOn, Want}
+use Rattle.history.proofs.Names.{sym, ◌∙◌, subst, Allows, After, GoOn, Want}
 use Rattle.history.proofs.Names.{Answer, Event, Start, Flight, Coding, want_of}
 use Rattle.history.proofs.Names.{goes_of, is_question, number_of, World}
 use Rattle.history.proofs.Names.{KeepsRule}
@@ -14,7 +14,7 @@ use Rattle.history.specs.Settled.{IsResting, Settles, AtRested, EndsRested}
 use Rattle.history.specs.Stages.{Calling, At, Ends, AtAsked}
 use Rattle.history.proofs.CallsIn.{AsksFor}
 use Rattle.history.proofs.Containers.{container_effects, container_words, container_machines}
-use Rattle.history.proofs.Settling.{KeepsWhere, Hearing, keeps_rested, keeps_rested_where, settles_at}
+use Rattle.history.proofs.Settling.{KeepsWhere, Hearing, NextCall, keeps_waiting, keeps_waiting_where, settles_at}
 
 -- a Bool is not true and false
 pub clash : {A : Type 0} (b : Bool) → b ≡ true → b ≡ false → A
@@ -75,12 +75,28 @@ module _ {T : Type 0} (code : Coding T) where
             → AtAsked code kinds.Container after kept call base v c m → ⊥
         apart_asked = grind arith
 
+        -- the call, as one that may begin where the last call of the pass rests
+        abbrev next : NextCall container_hears C M E
+        next =
+            record {
+              want = want;
+              after = after;
+              kept = kept;
+              Stage = AtAsked code kinds.Container after kept call;
+              Over = Over;
+              may = λ c. Unit {0};
+              keeps = λ base v c m key words slots id ok. keeps base v c m key words slots id;
+              Begins = λ v. Begins v.capacity;
+              asks = λ v. asks v.capacity;
+              stays = λ v w c m settled. subst (λ n. Begins n c m) (sym settled.capacity);
+              first = first;
+              apart = λ base v c m. apart_asked base v c m m;
+            }
+
         -- a call that puts questions keeps the rule, also if the last call of the pass rests
         pub rested_asks : Keeps (AtRested code kinds.Container Begins (AtAsked code kinds.Container after kept call) Over)
             (EndsRested code kinds.Container Begins (AtAsked code kinds.Container after kept call) Over) want after kept
-        rested_asks =
-            keeps_rested container_hears want after kept
-            (AtAsked code kinds.Container after kept call) Over keeps Begins asks first (λ base v c m. apart_asked base v c m m)
+        rested_asks = keeps_waiting container_hears next (λ c. tt)
 
         -- the steps of a call at a word keep the rule, also if the last call of the pass rests
         pub rested_words : (Ended : View T → E → M → View T → Type 0)
@@ -90,9 +106,7 @@ module _ {T : Type 0} (code : Coding T) where
             (AtRested code kinds.Container Begins (AtAsked code kinds.Container after kept call) Ended)
             (EndsRested code kinds.Container Begins (AtAsked code kinds.Container after kept call) Ended) want after kept
         rested_words Ended words =
-            keeps_rested_where container_hears
-            want after kept (AtAsked code kinds.Container after kept call) Ended (λ c. is_question (want c) ≡ false) words Begins asks first
-            (λ base v c m. apart_asked base v c m m)
+            keeps_waiting_where container_hears (record next { Over = Ended; may = λ c. is_question (want c) ≡ false; keeps = words })
 
     -- a call that puts no question rests and keeps the rule, whatever is in its room where it begins
     module _ (Begins : ℕ → C → Type 0) (asks : (capacity : ℕ) (c : C) → Begins capacity c → AsksFor (container_words code capacity) (want c))
@@ -104,7 +118,19 @@ module _ {T : Type 0} (code : Coding T) where
           (Ends code kinds.Container call))
           (EndsRested code kinds.Container (λ capacity c m. Begins capacity c) (At code kinds.Container call) (Ends code kinds.Container call)) want after kept
       rested_keeps =
-          keeps_rested container_hears want after kept
-          (At code kinds.Container call) (Ends code kinds.Container call) keeps (λ capacity c m. Begins capacity c)
-          (λ capacity c m begins. asks capacity c begins) first
-          (λ base v c m. apart_at (λ capacity c m. Begins capacity c) (λ capacity c m begins. asks capacity c begins) base v c m m)
+          keeps_waiting container_hears
+          (record {
+            want = want;
+            after = after;
+            kept = kept;
+            Stage = At code kinds.Container call;
+            Over = Ends code kinds.Container call;
+            may = λ c. Unit {0};
+            keeps = λ base v c m key words slots id ok. keeps base v c m key words slots id;
+            Begins = λ v c m. Begins v.capacity c;
+            asks = λ v c m. asks v.capacity c;
+            stays = λ v w c m settled. subst (λ n. Begins n c) (sym settled.capacity);
+            first = first;
+            apart = λ base v c m. apart_at (λ capacity c m. Begins capacity c) (λ capacity c m begins. asks capacity c begins) base v c m m;
+          })
+          (λ c. tt)

@@ -142,16 +142,17 @@ module _ {T : Type 0} (code : Coding T) (capacity : ℕ) where
       let all : List SetAct = set_acts_of p is_sound.state.events in
       let done : List (Act T) = acts_of p is_sound.state.events in
       let mine : FlightAt world_now.capacity world_now.coding.size all done here.x.start flight = there.at in
+      -- what the laws of the container say of its calls on this machine
+      let beside = beside_of world_now.words world_now.kept world_now.latest p in
+      let writes_here = writes_there world_now.coding world_now.words beside world_now.capacity world_now.coding.size p in
+      let goes_here = goes_there world_now.coding world_now.words beside world_now.capacity world_now.coding.size p in
       record {
         -- nothing refuses the step, and its effects are those of the party's own call
         may = no_rows t is_on world_now.capacity world_now.coding.size all done here.x.start flight mine;
         writes = λ x n found. (
             let same : here.x ≡ x = (let both : Some here.x ≡ Some x = sym here.found ∙ found in cc) in
             subst (λ (z : Party T). (step_in world_now p z flight n).wrote ≡ container_effects world_now p flight n) same
-            (writes_there world_now.coding world_now.words
-            (beside_of world_now.words world_now.kept world_now.latest p) world_now.capacity world_now.coding.size p
-            n all done world_now.kept is_sound.state
-            here.x.start flight is_sound.fit.kept mine));
+            (writes_here n all done world_now.kept is_sound.state here.x.start flight is_sound.fit.kept mine));
         -- each of them is of this party, and of no other
         someone = λ n. all_someone p (container_effects world_now p flight n) (effects_of_party world_now.coding world_now.kept p flight n);
         beside = λ n q ne. by_other p q (container_effects world_now p flight n) ne (effects_of_party world_now.coding world_now.kept p flight n);
@@ -159,10 +160,7 @@ module _ {T : Type 0} (code : Coding T) (capacity : ℕ) where
         goes = λ x n found. (
             let same : here.x ≡ x = (let both : Some here.x ≡ Some x = sym here.found ∙ found in cc) in
             subst (λ (z : Party T). (step_in world_now p z flight n).after ≡ goes_of world_now.coding p flight n world_now.kept) same
-            (goes_there world_now.coding world_now.words
-            (beside_of world_now.words world_now.kept world_now.latest p) world_now.capacity world_now.coding.size p
-            n all done world_now.kept is_sound.state
-            here.x.start flight is_sound.fit.kept mine));
+            (goes_here n all done world_now.kept is_sound.state here.x.start flight is_sound.fit.kept mine));
       }
 
   -- a turn that is no look of a party's state leaves that state
@@ -206,20 +204,22 @@ module _ {T : Type 0} (capacity p : ℕ) (dead : List ℕ) (states : List (ℕ �
   may_begin : (start : ContainerStart T) → names_owner start ≡ true → FreeTo start
   may_begin = grind arith
 
--- each call that the container has may, as the party that the pass was last
-module _ {T C M E : Type 0} (code : Coding T) (base : View T) (call : Calling T C M E) (start : ContainerStart T) (c : C) (m : M)
+-- the model has a call that names an owner, at its first stage
+pub container_first : {T C M E : Type 0} (base : View T) (call : Calling T C M E) {start : ContainerStart T} (c : C) (m : M) → call.start ≡ Container start
+    → names_owner start ≡ true → flights.Container (first base.capacity start) ≡ call.flight c m
+    → (kept : Registry T) → first_of kinds.Container base.capacity call.start kept ≡ Some (call.flight c m)
+container_first base call c m is_named named flies kept = rw is_named (rw named (ap Some flies))
+
+-- A call `start` that names an owner, and is at its first stage on a pass with the view base, begins for a party
+-- of the pass: the machine finds that party without a call under way, and nobody has died.
+module _ {T C M E : Type 0} {code : Coding T} {base : View T} {call : Calling T C M E} (start : ContainerStart T) {c : C} {m : M}
     (is_named : call.start ≡ Container start) (by_last : (o : Option ℕ) (p : ℕ) → IfSome o (λ q. q ≡ p) → call.by o p)
     (named : names_owner start ≡ true) (flies : flights.Container (first base.capacity start) ≡ call.flight c m) where
-  -- the model has this call, at its first stage
-  pub container_first : (kept : Registry T) → first_of kinds.Container base.capacity call.start kept ≡ Some (call.flight c m)
-  container_first kept = rw is_named (rw named (ap Some flies))
-
-  -- a call begins for a party of the pass, which the machine finds without a call under way
   pub container_starts : (t : Trace T) (owner : ℕ → ℕ) (j : ℕ) → IsOn code base.capacity t → owner j ≡ j → IfSome base.party (λ p. owner p ≡ j)
       → ((f : Event T → ℕ) → sum_by f base.made ≡ sum_by (owned owner j f) t.events)
       → Starts code kinds.Container call base c m t owner j
   container_starts t owner j run self party sums =
-      starts_by_last code kinds.Container call base c m t owner j by_last self party (container_first t.world.kept)
+      starts_by_last by_last self party (container_first base call c m is_named named flies t.world.kept)
       (λ p. rw is_named (subst (λ k. first_row (rows_as kinds.Container base.capacity k p (Container start)) ≡ None) (sym kept.2)
       (may_begin base.capacity p kept.0 kept.1 kept.3 start named)))
     where
@@ -240,7 +240,8 @@ module _ {T C M E : Type 0} (code : Coding T) (call : Calling T C M E) (plain : 
   pub plain_acts : ActsAlone code kinds.Container container_effects (plain_effects code) call
   plain_acts = grind arith
 
--- each step of a call on a container keeps the rule, if the call is no look of a state
+-- Each step of a call on a container keeps the rule of histories, and the call ends in the history, if it is one of the
+-- call values of a container (`IsCallBy`), no look of a state, and skips nothing.
 pub container_keeps : {T C M E : Type 0} (code : Coding T) (driven : Driven T C M E) → ((c : C) (m : M) → IsPlain (driven.call.flight c m))
     → IsCallBy code (plain_effects code) (container_words code) driven → ((c : C) (n : ℕ) → driven.call.skips c n ≡ false)
     → KeepsEnds code kinds.Container (container_words code) driven

@@ -2,7 +2,7 @@
 use Rattle.history.proofs.Names.{Bool, true, false, ◌≡◌, inl, inr, ℕ, ◌+◌, ◌<◌, Option, Some, None, List, [], ◌++◌}
 use Rattle.history.proofs.Names.{slice_index, slice_set, set-set, refl, sym, ap, subst, ◌∙◌, append-nil, arith}
 use Rattle.history.proofs.Names.{sum_by-append, set_here, written, Ask, After, GoOn, Want, Event, Start, Flight, Kind}
-use Rattle.history.proofs.Names.{Decide, Coding, opening_of, first_of, want_of, goes_of, is_question, after_turn}
+use Rattle.history.proofs.Names.{Decide, Coding, want_of, goes_of, is_question, after_turn}
 use Rattle.history.proofs.Names.{events_of, number_of, Trace, IsAll, Owes, OwesAsk, NextKnown}
 use mathlib.Core.Option.{some}
 use lib.ListN.{get_elem?}
@@ -19,45 +19,20 @@ use Rattle.history.specs.Stages.{LeavesState, Since, IsUnderWay, At, Ends, HasHe
 use Rattle.history.proofs.Known.{by_more, within}
 use Rattle.history.proofs.Reached.{MayDecide, decide_as}
 use Rattle.history.proofs.Calls.{stands, flight_is}
-use Rattle.history.proofs.Turns.{Machines, Between, Answering, heard, decided, decided_at, decided_steps, decided_took, made_between, turning_at}
+use Rattle.history.proofs.Turns.{Machines, Between, made_between, turning_at}
+use Rattle.history.proofs.Answering.{Answering, heard, decided, decided_at, decided_steps, decided_took}
 use Rattle.history.proofs.OneRun.{continues_all, continues_further}
-use Rattle.history.proofs.Steps.{view_after, settle}
-use Rattle.history.proofs.CallsIn.{by_bool, Driven, goes, AsksFor, KeepsSo, StepsOf, StepsThere, ActsAlone, written_alone, steps_alone}
+use Rattle.history.proofs.Steps.{view_after, settle_so}
+use Rattle.history.proofs.CallsIn.{by_bool, Driven, goes, AsksFor, KeepsSo, StepsThere, ActsAlone, written_alone, steps_alone}
 use Rattle.history.proofs.CallTurns.{since_turn}
 use Rattle.history.proofs.CallReady.{Ready, ready, asked_so, Told_by}
 use Rattle.history.proofs.Drives.{ToldOver, keeps_at, next_ended}
+pub use Rattle.history.proofs.AskingCalls.{AsksElse, IsAskingIn, AskingCall}
+use Rattle.history.proofs.AskingCalls.{both_ways, flight_or, same_stage}
 
--- at each stage that is no question the call asks for a word of the structure
-abbrev pub AsksElse : {T C M E : Type 0} → (ℕ → ℕ) → Driven T C M E → Type 0
-AsksElse {T} {C} size_of driven =
-    (capacity : ℕ) (c : C) → driven.call.stands capacity c → is_question (driven.want c) ≡ false → AsksFor (size_of capacity) (driven.want c)
-
--- A call that may put questions. It begins with none, and puts none right after another.
-module _ {T C M E : Type 0} (code : Coding T) (kind : Kind) (effects : ℕ → Flight T → ℕ → List (Event T)) (size_of : ℕ → ℕ) (driven : Driven T C M E) where
-  open driven use {want, after, kept, call}
-
-  -- The call takes steps as a call of the model does, no word that it loads ends it outside the
-  -- history, its stage can be told from its flight in the model, it begins at no question, and no
-  -- question comes right after another.
-  pub record IsAskingIn : Type 0 where
-    pub steps : StepsOf (AsksElse size_of driven) code effects driven
-    pub never : (c : C) (n : ℕ) → call.skips c n ≡ false
-    pub same_call : (c d : C) (m k : M) → call.flight c m ≡ call.flight d k → c ≡ d
-    -- at a question, what it has written tells no rooms apart that the model has as one, and that an answer leaves as one
-    pub same_room : (capacity p : ℕ) (from : Option (Start T × Flight T)) (c : C) (m k : M) (a b : ℕ) (es : List (Event T)) → is_question (want c) ≡ true
-        → call.flight c m ≡ call.flight c k → kept c m a ≡ kept c k b → call.wrote capacity p from c m es → call.wrote capacity p from c k es
-    pub first : (n : ℕ) (c : C) (m : M) → first_of kind n call.start ((opening_of kind).kept n) ≡ Some (call.flight c m) → is_question (want c) ≡ false
-    -- after an answer the call stands at no question
-    pub one : (c d : C) (n : ℕ) → is_question (want c) ≡ true → after c n ≡ GoOn d → is_question (want d) ≡ false
-
--- own is what a step of the call writes; Finished is how a drive of the call leaves it once it is over
-module _ {T C M E : Type 0} (machines : Machines T) (decides : MayDecide machines.kind) (own : ℕ → Flight T → ℕ → List (Event T))
-    (driven : Driven T C M E) (acts : ActsAlone machines.code machines.kind machines.effects own driven.call)
-    (is_call : IsAskingIn machines.code machines.kind own machines.size_of driven) (Finished : View T → E → M → View T → Type 0)
-    (ended : (base : View T) (e : E) (m : M) (w : View T) → Ends machines.code machines.kind driven.call base e m w → Finished base e m w) where
-  open machines use {code, kind, effects, size_of, laws}
-  open driven use {want, after, kept, call}
-  open is_call use {steps, same_call}
+module _ {T C M E : Type 0} (asking_call : AskingCall T C M E) where
+  open asking_call use {machines, machines.{code, kind, effects, size_of, laws}, decides, own, driven, driven.{want, after, kept, call}}
+  open asking_call use {acts, is_call, is_call.{steps, same_call}, Finished, ended}
 
   -- the call has heard an answer in the view v that the machine has not been handed yet
   abbrev HasHeardAnswer : View T → View T → C → M → Type 0
@@ -138,7 +113,7 @@ module _ {T C M E : Type 0} (machines : Machines T) (decides : MayDecide machine
 
     -- the view of the seat once the machine has been handed the answer
     abbrev view_heard : View T
-    view_heard = view_after code kind key id y.p between_heard.one.turns v.asked v.aside v gained_then u_then
+    view_heard = view_after y.p between_heard.one.turns v.asked v.aside v gained_then u_then
 
     -- the table with the seat's view after the answer
     abbrev table_heard : State (Unit {0}) (View T)
@@ -163,7 +138,7 @@ module _ {T C M E : Type 0} (machines : Machines T) (decides : MayDecide machine
 
     -- the table with this view is a machine
     machine_heard : IsMachine code kind key table_heard
-    machine_heard = settle code kind key id y.p y.owner v.asked v.aside s.words s v gained_then u_then at h.before.some between_heard gains_heard
+    machine_heard = settle_so s at h.before.some between_heard gains_heard
 
     -- after the answer the call stands at its next stage in the machine
     there_heard : call_in u_then.world y.p ≡ Some (call.start, call.flight c m)
@@ -186,7 +161,7 @@ module _ {T C M E : Type 0} (machines : Machines T) (decides : MayDecide machine
     module _ (base : View T) (k : HasHeardAnswer base v c m) where
       -- before the answer the call was at its question
       stage_then : CallStands base v h.asking h.room
-      stage_then = grind arith
+      stage_then = same_stage is_call h k
 
       -- what the call had written before the answer
       told_by : Told_by machines call y.p h.asking h.room base y.u.events (v.made ++ y.gained)
@@ -205,7 +180,10 @@ module _ {T C M E : Type 0} (machines : Machines T) (decides : MayDecide machine
 
       -- with the effects of the answer, the call has written what it may have written up to its next stage
       tells_then : call.wrote base.capacity y.p base.going c m (told_by.wrote ++ mine)
-      tells_then = grind arith
+      tells_then =
+          let tells = steps.tells base.capacity y.p base.going h.asking c h.room n in
+          subst (λ room. call.wrote base.capacity y.p base.going c room (told_by.wrote ++ mine)) (sym h.keeps)
+          (tells told_by.wrote standing_then told_by.tells h.goes)
 
       -- since the drive began, the view has gained these events of the call
       since_then : Since y.p call.start ((told_by.wrote ++ told_by.late) ++ events_by y.p effs) [] base view_heard
@@ -227,7 +205,7 @@ module _ {T C M E : Type 0} (machines : Machines T) (decides : MayDecide machine
       asked_heard =
           let counted : steps_in y.u.world y.p ≡ taken_by v.going v.taken = y.counted in
           let more : steps_in u_then.world y.p ≡ steps_in y.u.world y.p + 0 = decided_steps answering in
-          omega (arith, asked_so code kind call base v h.asking h.room stage_then)
+          omega (arith, asked_so stage_then)
 
       -- the machine after the answer is a run
       run_then : IsRun code kind base.capacity u_then
@@ -238,7 +216,7 @@ module _ {T C M E : Type 0} (machines : Machines T) (decides : MayDecide machine
       ran_then =
           subst (λ n. Continues code kind n base view_heard) (sym known ∙ k.before.capacity)
           (continues_further code kind key base v view_heard k.before.ran.first
-          (continues_all code kind key id between_heard.one at between_heard.run refl refl refl has_heard))
+          (continues_all id between_heard.one at between_heard.run refl refl refl has_heard))
 
       -- after the answer the call is under way at its next stage, whatever the view with which its drive began
       lifted : IsUnderWay code kind call base view_heard c m
@@ -267,19 +245,37 @@ module _ {T C M E : Type 0} (machines : Machines T) (decides : MayDecide machine
             history = record { trace = u_then; run = run_then; is = refl };
             ran = ran_then;
             stood = record { trace = u_then; run = run_then; is = refl; there = there_heard };
-            all = λ all f. made_between code kind key y.owner id y.p gained_then u_then s between_heard v at (subst IsAll (sym k.before.share) all) f;
+            all = λ all. made_between between_heard v at (subst IsAll (sym k.before.share) all);
             parties = record { owner = y.owner; seat = id; sums = λ f. sum_by-append f v.made gained_then ∙ between_heard.made_own v at f };
           }
 
   -- ---- calls at a word, and calls that have heard an answer
 
+  -- the stage at which a call heard its answer is a question, and the next one is none
+  at_question : {base v : View T} {c : C} {m : M} (heard : HasHeardAnswer base v c m) → is_question (want heard.asking) ≡ true
+  at_question heard = ap is_question (sym (steps.same_want heard.asking heard.room)) ∙ heard.asks
+
+  still_then : {base v : View T} {c : C} {m : M} → HasHeardAnswer base v c m → is_question (want c) ≡ false
+  still_then {c = c} heard = is_call.one heard.asking c (number_of heard.said) (at_question heard) heard.goes
+
   -- a call that has heard an answer in one drive is at no other stage in another drive of the same view
   never_both : {A : Type 0} (base other v : View T) (c : C) (m : M) → is_question (want c) ≡ false → CallStands base v c m → HasHeardAnswer other v c m → A
-  never_both = grind arith
+  never_both base other v c m still (inl first) heard =
+      let none : v.going ≡ None = ap (λ (z : View T). z.going) first.is ∙ first.idle in
+      let no : ◌≡◌ {A = Option (Start T × Flight T)} None (Some (call.start, call.flight heard.asking heard.room)) = sym none ∙ heard.before.going in
+      absurd (cc)
+  never_both base other v c m still (inr under) heard =
+      let both : ◌≡◌ {A = Option (Start T × Flight T)} (Some (call.start, call.flight c m)) (Some (call.start, call.flight heard.asking heard.room)) =
+      sym under.going ∙ heard.before.going in
+      let flies : call.flight c m ≡ call.flight heard.asking heard.room = ap (flight_or (call.flight c m)) both in
+      let same : c ≡ heard.asking = same_call c heard.asking m heard.room flies in
+      both_ways (is_question (want c)) (ap (λ d. is_question (want d)) same ∙ at_question heard) still
 
   -- at each stage what holds of the call between two steps holds
   standing : (base v : View T) (c : C) (m : M) → AtAsked code kind after kept call base v c m → call.stands base.capacity c
-  standing = grind arith
+  standing base v c m (inl (inl first)) = first.standing
+  standing base v c m (inl (inr under)) = under.standing
+  standing base v c m (inr heard) = steps.stays base.capacity heard.asking c (number_of heard.said) heard.before.standing heard.goes
 
   -- at each stage the capacity is that with which the drive began
   same_size : (base v : View T) (c : C) (m : M) → AtAsked code kind after kept call base v c m → v.capacity ≡ base.capacity
@@ -294,7 +290,10 @@ module _ {T C M E : Type 0} (machines : Machines T) (decides : MayDecide machine
   -- a call that stands at a question, and is answered so that it goes on, has heard the answer
   pub hears_said : (base v : View T) (c d : C) (m : M) (said : Bool) → is_question (want c) ≡ true → after c (number_of said) ≡ GoOn d
       → AtAsked code kind after kept call base v c m → AtAsked code kind after kept call base v d (kept c m (number_of said))
-  hears_said = grind arith
+  hears_said base v c d m said due leads (inl (inl first)) = both_ways (is_question (want c)) due (is_call.first base.capacity c m first.first)
+  hears_said base v c d m said due leads (inl (inr under)) =
+      inr (record { asking = c; room = m; before = under; asks = ap is_question (steps.same_want c m) ∙ due; said = said; goes = leads; keeps = refl })
+  hears_said base v c d m said due leads (inr heard) = both_ways (is_question (want c)) due (still_then heard)
 
   -- ---- each step keeps the rule
 
@@ -323,6 +322,7 @@ module _ {T C M E : Type 0} (machines : Machines T) (decides : MayDecide machine
         (told_so.1 base (as_stage base stage))),
   )
 
+  -- a call that stands at no question asks for a word of the structure; the table of capacity `key` has one word more
   module _ (key words slots id : ℕ) (c : C) (m : M) (wide : words ≡ size_of key + 1) (still : is_question (want c) ≡ false)
       (asked : AsksFor (size_of key) (want c)) where
     -- the word that the call asks for
@@ -342,14 +342,17 @@ module _ {T C M E : Type 0} (machines : Machines T) (decides : MayDecide machine
     at_word base v known stage =
         let size : key ≡ base.capacity = sym known ∙ same_size base v c m (inl stage) in
         subst (λ w. Owes (λ (z : View T). z.asked) (IsMachine code kind key) words slots id (ToldSo c m) w (v, [])) asked.2
-        (keeps_at machines driven steps_there base v c m slots id wide known stage
-        (subst (λ i. AsksFor (size_of i) (want c)) size asked))
+        (keeps_at machines driven steps_there slots id wide known stage (subst (λ i. AsksFor (size_of i) (want c)) size asked))
 
     -- a call that has heard no answer owes just the step at its word
     at_once : (base₀ v : View T) → v.capacity ≡ key → CallStands base₀ v c m → OwedAt v ToldAsked
     at_once base₀ v known at₀ =
-        let h = at_word base₀ v known at₀ in
-        (h.0, λ s r long at small. (let x = h.1 s r long at small in (x.0, x.1, x.2, x.3, (told_asked c m _ v v x.0 refl as_it_is x.4.0, x.4.1, x.4.2))))
+        let (below_all, step) = at_word base₀ v known at₀ in (
+          below_all,
+          λ s r long at small. (
+              let (w, act, valid, holds, (told, counts, carried)) = step s r long at small in
+              (w, act, valid, holds, (told_asked c m _ v v w refl as_it_is told, counts, carried))),
+        )
       where
         -- the call is at a word, so it has heard no answer
         as_it_is : (base : View T) → AtAsked code kind after kept call base v c m → CallStands base v c m
@@ -362,20 +365,19 @@ module _ {T C M E : Type 0} (machines : Machines T) (decides : MayDecide machine
       below,
       λ s r long at small. (
           let it = hearing s r at in
-          let x = (at_word base₀ (view_heard it) known (inr (lifted it base₀ has_heard_answer))).1 (table_heard it) (machine_heard it) long
-          (set_here s.views id (view_heard it) (within s.views id v at)) small
-          in (
-            x.0,
-            x.1,
-            x.2,
+          let step = (at_word base₀ (view_heard it) known (inr (lifted it base₀ has_heard_answer))).1 (table_heard it) (machine_heard it) in
+          let (w, act, valid, holds, (told, counts, carried)) = step long (set_here s.views id (view_heard it) (within s.views id v at)) small in (
+            w,
+            act,
+            valid,
             subst (λ vs. IsMachine code kind key
                 (record {
                   words = slice_set s.words ask.word (written ask.op (slice_index s.words ask.word));
-                  homes = table.homes_after s.homes [] x.1;
+                  homes = table.homes_after s.homes [] act;
                   views = vs;
                 }))
-                (set-set s.views id (view_heard it) x.0) x.3,
-            (told_asked c m _ (view_heard it) v x.0 refl (as_heard s r at) x.4.0, x.4.1, x.4.2),
+                (set-set s.views id (view_heard it) w) holds,
+            (told_asked c m _ (view_heard it) v w refl (as_heard s r at) told, counts, carried),
           )),
     )
       where
@@ -403,10 +405,10 @@ module _ {T C M E : Type 0} (machines : Machines T) (decides : MayDecide machine
         as_heard s r at base (inr k) = inr (lifted (hearing s r at) base k)
 
   -- at a word, each step keeps the rule, where the call can end by a step alone
-  pub keeps_word : (base₀ v : View T) (c : C) (m : M) {key words : ℕ} (slots id : ℕ) → words ≡ size_of key + 1 → v.capacity ≡ key
+  pub keeps_word : {base₀ v : View T} {c : C} {m : M} {key words : ℕ} (slots id : ℕ) → words ≡ size_of key + 1 → v.capacity ≡ key
       → is_question (want c) ≡ false → AtAsked code kind after kept call base₀ v c m
       → Owes (λ (z : View T). z.asked) (IsMachine code kind key) words slots id (ToldAsked c m) (want c) (v, [])
-  keeps_word base₀ v c m {key} {words} slots id wide known still at₀ = go_at (steps.asks key c stands_so still)
+  keeps_word {base₀} {v} {c} {m} {key} {words} slots id wide known still at₀ = go_at (steps.asks key c stands_so still)
     where
       -- the stage is one of the call
       stands_so : call.stands key c
@@ -419,8 +421,8 @@ module _ {T C M E : Type 0} (machines : Machines T) (decides : MayDecide machine
           -- the call is about to begin or under way, and steps at once, or it has heard an answer, of which
           -- the machine is told first
           go : AtAsked code kind after kept call base₀ v c m → OwedAt key words slots id c m wide still asked v ToldAsked
-          go (inl stage) = at_once key words slots id c m wide still asked base₀ v known stage
-          go (inr h) = once_heard key words slots id c m wide still asked base₀ v known h
+          go (inl stage) = let owes = at_once key words slots id c m wide still asked in owes base₀ v known stage
+          go (inr h) = let owes = once_heard key words slots id c m wide still asked in owes base₀ v known h
 
   -- where the answer ends its call, the call finishes so, as `rested` says
   module _ (rested : (base v : View T) (c : C) (m : M) (said : Bool) (e : E) → is_question (want c) ≡ true → after c (number_of said) ≡ Done e
@@ -428,7 +430,9 @@ module _ {T C M E : Type 0} (machines : Machines T) (decides : MayDecide machine
     -- an answer that ends the call leaves it over, as `Finished` says
     pub ends_said : (base v : View T) (c : C) (m : M) (said : Bool) (e : E) → is_question (want c) ≡ true → after c (number_of said) ≡ Done e
         → AtAsked code kind after kept call base v c m → Finished base e (kept c m (number_of said)) v
-    ends_said = grind arith
+    ends_said base v c m said e due leads (inl (inl first)) = both_ways (is_question (want c)) due (is_call.first base.capacity c m first.first)
+    ends_said base v c m said e due leads (inl (inr under)) = rested base v c m said e due leads under
+    ends_said base v c m said e due leads (inr heard) = both_ways (is_question (want c)) due (still_then heard)
 
     -- a call at a question that is told no goes on or ends as `NextKnown` asks
     told_no : (v : View T) (c : C) (m : M) → is_question (want c) ≡ true → ToldAsked c m v 0 v
@@ -442,15 +446,15 @@ module _ {T C M E : Type 0} (machines : Machines T) (decides : MayDecide machine
 
     -- each step of the call keeps the rule of the table, at a word and at a question
     pub keeps_said : KeepsSo code kind size_of driven (AtAsked code kind after kept call) Finished
-    keeps_said base₀ v c m key words slots id wide known at₀ = by_bool (is_question (want c)) (λ due. at_question (want c) refl due)
-        (λ still. keeps_word base₀ v c m slots id wide known still at₀)
+    keeps_said base₀ v c m key words slots id wide known at₀ = by_bool (is_question (want c)) (λ due. owes_at (want c) refl due)
+        (λ still. keeps_word slots id wide known still at₀)
       where
         -- a call at a question owes nothing at the words until the answer is there
-        at_question : (w : Want (Unit {0})) → want c ≡ w → is_question w ≡ true
+        owes_at : (w : Want (Unit {0})) → want c ≡ w → is_question w ≡ true
             → Owes (λ (z : View T). z.asked) (IsMachine code kind key) words slots id (ToldAsked c m) w (v, [])
-        at_question (wants.Ask a) asks_it due = absurd (cc)
-        at_question (wants.Question q) asks_it due = told_no v c m (ap is_question asks_it ∙ due)
-        at_question wants.Nothing asks_it due = absurd (cc)
+        owes_at (wants.Ask a) asks_it due = absurd (cc)
+        owes_at (wants.Question q) asks_it due = told_no v c m (ap is_question asks_it ∙ due)
+        owes_at wants.Nothing asks_it due = absurd (cc)
 
 -- ---- a call that no answer ends
 
@@ -474,7 +478,19 @@ module _ {T C M E : Type 0} (machines : Machines T) (decides : MayDecide machine
 
   -- each step of a call that no answer ends keeps the rule, and the call ends by a step
   pub keeps_asked : KeepsSo code kind size_of driven (AtAsked code kind after kept call) (Ends code kind call)
-  keeps_asked = keeps_said machines decides own driven acts is_call.asking (Ends code kind call) (λ base e m w h. h) never_ends
+  keeps_asked =
+      keeps_said
+      (record {
+        machines = machines;
+        decides = decides;
+        own = own;
+        driven = driven;
+        acts = acts;
+        is_call = is_call.asking;
+        Finished = Ends code kind call;
+        ended = λ base e m w h. h;
+      })
+      never_ends
 
   -- a call that stands at a question and is answered so that it goes on has heard the answer,
   -- since no answer ends it

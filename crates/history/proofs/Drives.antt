@@ -1,8 +1,8 @@
 -- The driver over the rule of a machine: what it asks of the steps of a call, shown once for all calls of all kinds.
 use Rattle.history.proofs.Names.{◌^◌, true, false, ◌≡◌, inl, inr, ℕ, ◌+◌, ◌<◌, ◌≤◌, Some, List, [], ◌∷◌}
-use Rattle.history.proofs.Names.{length, slice_index, slice_set, refl, sym, ap, subst, ◌∙◌, arith, written}
-use Rattle.history.proofs.Names.{Ask, After, GoOn, Want, Event, Flight, Kind, Next, Coding, want_of}
-use Rattle.history.proofs.Names.{goes_of, is_question, after_turn, Trace, answered, Owes, NextKnown}
+use Rattle.history.proofs.Names.{length, slice_index, refl, sym, ap, subst, ◌∙◌, arith, written}
+use Rattle.history.proofs.Names.{Ask, After, GoOn, Want, Event, Flight, Kind, Coding, want_of}
+use Rattle.history.proofs.Names.{goes_of, is_question, Trace, answered, Owes, NextKnown}
 use Rattle.history.proofs.Names.{IsFreshCall}
 use Rattle.atomic_table.specs.Table.{State}
 use Rattle.atomic_table.specs.Table as table
@@ -10,18 +10,15 @@ use Rattle.steps.specs.declared.ask.After.TheVariants.{Done}
 use Rattle.steps.specs.declared.ask.Want.TheVariants as wants
 use Rattle.threaded.specs.Driver.{Told}
 use Rattle.history.specs.declared.view.View.{View}
-use Rattle.history.specs.History.{IsRun, IsMachine, IsLate, steps_of_run}
+use Rattle.history.specs.History.{IsRun, IsMachine, IsLate}
 use Rattle.history.specs.Stages.{Calling, At, Ends, LeftOut, Over, StepsOnly}
 use Rattle.history.specs.Views.{Looks}
 use Rattle.history.proofs.Calls.{get_left}
-use Rattle.history.proofs.KindLaws.{KindLaws, Machines, SteadyMachines, LoneMachines, kept_machines, steady_machines, goes_on_alike}
-use Rattle.history.proofs.Turns.{Between}
-use Rattle.history.proofs.Steps.{settle}
-use Rattle.history.proofs.PassLooks.{looks_at}
+use Rattle.history.proofs.KindLaws.{KindLaws, Machines, SteadyMachines, LoneMachines, kept_machines, steady_machines, goes_by_flight}
+use Rattle.history.proofs.PassLooks.{look_by}
 use Rattle.history.proofs.CallsIn.{by_bool, AsksFor, StepsThere, IsCallThere, ActsAlone, steps_alone, with_goes}
-use Rattle.history.proofs.CallTurns.{Stepping, then_gained, next_between, view_then, gains_then, asked_then, goes_then, ends_then}
-use Rattle.history.proofs.Asked.{Gains}
-use Rattle.history.proofs.CallReady.{same_capacity, some_share, still_stands, ready, Seat}
+use Rattle.history.proofs.CallTurns.{Stepping, view_then, writing, asked_then, goes_then, ends_so, settled_then}
+use Rattle.history.proofs.CallReady.{same_capacity, some_share, still_stands, seat_at, Seat}
 pub use Rattle.history.proofs.CallsIn.{Driven, goes, IsCallBy, IsCallOf, KeepsSo, KeepsEnds, KeepsOver, Met, IsCallIn, in_machine, NeverPushes}
 pub use Rattle.history.proofs.Called.{called, at_itself}
 pub use Rattle.history.proofs.Sized.{AtSized, EndsSized, keeps_sized}
@@ -86,38 +83,27 @@ module _ {T C M E Asks : Type 0} (machines : Machines T) (driven : Driven T C M 
     -- what is known of the call after the step
     known_then : (base : View T) → At code kind call base v c m → (r : After C E) → after c n ≡ r → KnownAfter base r (kept c m n) view_now
     known_then base stage (GoOn d) leads =
-        inr (goes_then machines call step stage (comes_there base stage ∙ ap (λ r. goes call r (kept c m n)) leads)
-        (is_call.stays base.capacity c d n (still_stands code kind call base v c m stage) leads)
-        (λ k. is_call.past base.capacity c d n k (still_stands code kind call base v c m stage) leads)
-        (λ es late h waits met. is_call.tells base.capacity y.p base.going c d m n es late y.u
-        (still_stands code kind call base v c m stage) h waits met leads)
-        (steps_so base stage) refl)
+        let standing = still_stands stage in
+        inr (goes_then machines call step stage (record {
+          leads = comes_there base stage ∙ ap (λ r. goes call r (kept c m n)) leads;
+          stands = is_call.stays base.capacity c d n standing leads;
+          past = λ k. is_call.past base.capacity c d n k standing leads;
+          tells = is_call.tells (writing machines call step stage) d leads;
+          steps = steps_so base stage;
+          word = refl;
+        }))
     known_then base stage (Done end) leads =
-        inl (ends_then machines call step
-        base stage end (kept c m n) (comes_there base stage ∙ ap (λ r. goes call r (kept c m n)) leads)
-        (λ es late h waits met. is_call.tells_all base.capacity y.p base.going c end m n es late y.u
-        (still_stands code kind call base v c m stage) skip h waits met leads
-        (ap is_question wants_it))
-        (inl (steps_so base stage)))
+        inl (ends_so machines call step stage (comes_there base stage ∙ ap (λ r. goes call r (kept c m n)) leads)
+        (is_call.tells_all (writing machines call step stage) end skip leads (ap is_question wants_it)) (inl (steps_so base stage)))
 
     -- what the step tells: where the call stands or how it has ended, in each drive
     pub told : Told (λ (z : View T). z.capacity) (At code kind call) (Over code kind call) after kept c m v (answered ask.op n) view_now
     told = grind (arith, known_then)
 
-    -- after the step the machine stands at the table's words, and the seat has gained the step's events
-    pub between_then : Between code kind key y.owner
-        (record { words = slice_set s.words ask.word (written ask.op n); homes = s.homes; views = s.views }) id y.p
-        (then_gained machines call step) (after_turn y.u (Next y.p))
-    between_then = next_between machines call step
-
-    -- the step is one operation, and one step of the run
-    pub gains_now : Gains s.views v (v.asked + 1) (v.aside + 0)
-        (steps_of_run code kind key (next_between machines call step).one.turns)
-    gains_now = gains_then machines call step
-
-    -- the events that the view gains by the step
-    abbrev pub gained_now : List (Event T)
-    gained_now = then_gained machines call step
+    -- with that view the table holds its machine again
+    pub holds_then : {base : View T} → At code kind call base v c m
+        → IsMachine code kind key (table.stepped s ask.word (written ask.op n) id [] view_now table.keeps)
+    holds_then stage = settled_then machines call step stage
 
   -- ---- a call that finds the last position or version ends outside the history: its step is a look
 
@@ -188,14 +174,13 @@ module _ {T C M E Asks : Type 0} (machines : Machines T) (driven : Driven T C M 
   ToldOver c m = Told (λ (z : View T). z.capacity) (At code kind call) (Over code kind call) after kept c m
 
   -- each step of a call at a word keeps the rule of the machine
-  pub keeps_at : (base₀ v : View T) (c : C) (m : M) {key words : ℕ} (slots id : ℕ) → words ≡ size_of key + 1 → v.capacity ≡ key → At code kind call base₀ v c m
+  pub keeps_at : {base₀ v : View T} {c : C} {m : M} {key words : ℕ} (slots id : ℕ) → words ≡ size_of key + 1 → v.capacity ≡ key → At code kind call base₀ v c m
       → AsksFor (size_of base₀.capacity) (want c)
       → Owes (λ (z : View T). z.asked) (IsMachine code kind key) words slots id (ToldOver c m) (want c) (v, [])
-  unfolding between_then
-  keeps_at base₀ v c m {key} {words} slots id wide known at₀ asked =
+  keeps_at {base₀} {v} {c} {m} {key} {words} slots id wide known at₀ asked =
       -- the word that the call asks for is one of the structure's, before the last word of the table
       let ask = asked.0 in
-      let same : base₀.capacity ≡ key = sym (same_capacity code kind call base₀ v c m at₀) ∙ known in
+      let same : base₀.capacity ≡ key = sym (same_capacity at₀) ∙ known in
       let low : ask.word < size_of key = subst (λ z. ask.word < size_of z) same asked.1 in
       let below : ask.word < words = omega arith in
       subst (λ w. Owes (λ (z : View T). z.asked) (IsMachine code kind key) words slots id (ToldOver c m) w (v, [])) (sym asked.2) (
@@ -204,22 +189,28 @@ module _ {T C M E Asks : Type 0} (machines : Machines T) (driven : Driven T C M 
             -- the word ends the call outside the history: the step is a look, which leaves
             -- the words as they are
             let out = is_call.leaves c ask (slice_index s.words ask.word) skip asked.2 in
-            let look =
-            looks_at code kind key slots id ask.word v
-            (some_share code kind call base₀ v c m at₀)
-            (calm base₀ v c m (slice_index s.words ask.word) skip at₀) s r long at small in
+            let look = look_by code kind key (record {
+              s = s;
+              m = r;
+              id = id;
+              v = v;
+              word = ask.word;
+              has_view = at;
+              some_share = some_share at₀;
+              calm = calm base₀ v c m (slice_index s.words ask.word) skip at₀;
+            }) in
             let wide : length r.trace.world.words ≡ size_of key = (laws key).size r.trace r.run in
             let same_word : slice_index r.trace.world.words ask.word ≡ slice_index s.words ask.word =
             sym (ap (λ ws. slice_index ws ask.word) r.words ∙ get_left r.trace.world.words (0 ∷ []) ask.word (omega arith)) in (
-              look.0,
-              look.1,
-              look.2,
-              subst (λ n. IsMachine code kind key (table.stepped s ask.word n id [] look.0 look.1)) (sym out.0) look.3,
+              look.w,
+              table.keeps,
+              tt,
+              subst (λ n. IsMachine code kind key (table.stepped s ask.word n id [] look.w table.keeps)) (sym out.0) look.holds,
               (
                 told_left (record {
                   s = s;
                   v = v;
-                  w = look.0;
+                  w = look.w;
                   key = key;
                   c = c;
                   m = m;
@@ -227,36 +218,21 @@ module _ {T C M E Asks : Type 0} (machines : Machines T) (driven : Driven T C M 
                   known = known;
                   wants_it = asked.2;
                   skip = skip;
-                  looked = look.4.0;
-                  counts = look.6;
+                  looked = look.looks;
+                  counts = look.asked;
                   t = r.trace;
                   run = r.run;
-                  same_seen = look.5;
+                  same_seen = look.seen;
                   same_word = same_word;
                 }),
-                look.6,
-                look.4.1,
+                look.asked,
+                refl,
               ),
               -- else the step is one of the machine, and the view gains its events
             ))) (λ skip. (
-            let y = ready machines call s v key id c m r at known base₀ at₀ in
-            let asking : Asking =
-            record {
-              seat = record { s = s; v = v; key = key; id = id; c = c; m = m; at = at; known = known; y = y };
-              ask = ask;
-              low = low;
-              wants_it = asked.2;
-              small = small;
-              skip = skip;
-            } in (
-              view_now asking,
-              table.keeps,
-              tt,
-              settle code kind key id y.p y.owner (v.asked + 1) (v.aside + 0)
-                  (slice_set s.words ask.word (written ask.op (slice_index s.words ask.word))) s v (gained_now asking) (after_turn y.u (Next y.p)) at
-                  (some_share code kind call base₀ v c m at₀) (between_then asking) (gains_now asking),
-              (told asking, refl, refl),
-            ))),
+            let seat = seat_at machines call (record { s = s; v = v; key = key; id = id; c = c; m = m; r = r; at = at; known = known }) at₀ in
+            let asking : Asking = record { seat = seat; ask = ask; low = low; wants_it = asked.2; small = small; skip = skip } in
+            (view_now asking, table.keeps, tt, holds_then asking at₀, (told asking, refl, refl)))),
       )
 
   -- a call that no word leaves out always ends
@@ -281,20 +257,18 @@ module _ {T C M E Asks : Type 0} (machines : Machines T) (driven : Driven T C M 
 
     -- a call whose steps keep the rule, and that no word ends outside the history, keeps it to its end
     pub keeps_ends : KeepsOver code kind size_of driven → KeepsEnds code kind size_of driven
-    keeps_ends keeps base₀ v c m key words slots id wide known at₀ = go (want c) (keeps base₀ v c m key words slots id wide known at₀)
+    keeps_ends keeps base₀ v c m key words slots id wide known at₀ =
+        let keeps_here = keeps base₀ v c m key words slots id in
+        go (want c) (keeps_here wide known at₀)
       where
         -- whatever the call wants next, what is told of it over all is told of its end
         go : (w : Want (Unit {0})) → Owes (λ (z : View T). z.asked) (IsMachine code kind key) words slots id (ToldOver c m) w (v, [])
             → Owes (λ (z : View T). z.asked) (IsMachine code kind key) words slots id (ToldEnds c m) w (v, [])
         go (wants.Ask a) owes = (
           owes.0,
-          λ s r long at small. (let told_there = owes.1 s r long at small in (
-            told_there.0,
-            told_there.1,
-            told_there.2,
-            told_there.3,
-            (told_all c m v _ told_there.0 told_there.4.0, told_there.4.1, told_there.4.2),
-          )),
+          λ s r long at small. (
+              let (w, act, valid, holds, (told, counts, carried)) = owes.1 s r long at small in
+              (w, act, valid, holds, (told_all c m v _ w told, counts, carried))),
         )
         go (wants.Question q) owes = told_all c m v 0 v owes
         go wants.Nothing owes = told_all c m v 0 v owes
@@ -307,8 +281,8 @@ module _ {T C M E : Type 0} (machines : Machines T) (driven : Driven T C M E) (i
   -- each step of a call that is always at a word keeps the rule of the machine
   pub keeps_there : KeepsOver code kind size_of driven
   keeps_there base₀ v c m key words slots id wide known at₀ =
-      keeps_at machines driven is_call base₀ v c m slots id wide known at₀
-      (is_call.asks base₀.capacity c (still_stands code kind driven.call base₀ v c m at₀))
+      keeps_at machines driven is_call slots id wide known at₀
+      (is_call.asks base₀.capacity c (still_stands at₀))
 
   -- a call each step of which is at a word, and that no word ends outside the history,
   -- keeps the rule to its end
@@ -326,7 +300,7 @@ module _ {T C M E : Type 0} (machines : SteadyMachines T) (driven : Driven T C M
   steps_there =
       with_goes code kind effects driven
       (λ capacity p c m n t run there stands.
-      goes_on_alike code kind capacity (size_of capacity) effects (laws capacity) t run p (call.flight c m) n ∙ is_call.same_after capacity c m n stands)
+      goes_by_flight (laws capacity) t run p (call.flight c m) n ∙ is_call.same_after capacity c m n stands)
       is_call
 
   -- each step of such a call keeps the rule
@@ -352,8 +326,7 @@ acts_alone machines {call} =
       same = λ capacity p c m n t run. refl;
       its_own = λ capacity p c m n t run there. ((machines.laws capacity).goes_on t run p call.start (call.flight c m) there).own n;
       alike = λ capacity p c m n t run.
-          goes_on_alike machines.code machines.kind capacity (machines.size_of capacity) (λ w. machines.effects)
-          ((steady_machines machines).laws capacity) t run p (call.flight c m) n;
+          goes_by_flight ((steady_machines machines).laws capacity) t run p (call.flight c m) n;
     }
 
 module _ {T C M E : Type 0} (machines : LoneMachines T) (driven : Driven T C M E)

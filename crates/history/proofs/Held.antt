@@ -26,7 +26,7 @@ module _ {T : Type 0} (owner : ℕ → ℕ) (j c i : ℕ) where
   pub held_by : (all made : List (Event T)) → Each (HoldsRight c) all
       → ((f : Event T → ℕ) → sum_by f made ≡ sum_by (owned owner j f) all) → Holds i made
       → (p : ℕ) × (owner p ≡ j) × (holder_of i all ≡ Some p)
-  held_by all made each sums holds = held_by_one (claims i) (frees i) (holder_after i) owner j all made (all_move all each) sums holds
+  held_by all made each sums holds = held_by_one (claims i) (frees i) (holder_after i) owner j made (all_move all each) sums holds
 
 -- a pass has freed the index as often as it claimed it, or holds it once
 pub holds_once : {T : Type 0} (c i : ℕ) (v : View T) → Each (HoldsRight c) v.seen → IsOfParties v

@@ -117,6 +117,8 @@ module _ {T : Type 0} (c : ℕ) where
     first_at : (words : List ℕ) (stage : PopStage) → KnowsPop code c k words stage → FirstAt before (named (value_in code.value_of code.size words)) stage
     first_at = grind arith
 
+  -- A step of a call of party p, which finds n, after events of which the queue has these roles: a push publishes
+  -- as the producer where its stage knows room, and a pop takes out as the consumer what its stage has read first.
   module _ (en : Coding T) (words : List ℕ) (waits : Option (ℕ × ℕ)) (p n : ℕ) (ro : Roles)
       (before : List (Event T)) (producers : producer_of before ≡ ro.producer)
       (consumers : consumer_of before ≡ ro.consumer) where
@@ -158,11 +160,10 @@ module _ {T : Type 0} (c : ℕ) where
           → kept ≡ registries.Queues s.state.roles → (family en (kind_of r) c).At s.state p start flight
           → AllRightly t.events (step_of t.world.coding t.world.words waits p start flight n kept).wrote
       any_right p n waits (Queues start) (flights.Queues flight) kept kept_is stands_at =
+          let right_here = flight_right en t.world.words waits p n s.state.roles t.events s.holds.producers s.holds.consumers in
           subst (λ z. AllRightly t.events (step_of z t.world.words waits p (Queues start) (flights.Queues flight) n kept).wrote) (sym s.coding)
           (subst (λ k. AllRightly t.events (step_of en t.world.words waits p (Queues start) (flights.Queues flight) n k).wrote) (sym kept_is)
-          (flight_right en t.world.words waits p n s.state.roles t.events s.holds.producers s.holds.consumers r
-          s.state.core (waiting_is t.events (map (values.item (kind_of r)) s.state.core.waiting) s.holds.book) start
-          flight stands_at))
+          (right_here r s.state.core (waiting_is t.events (map (values.item (kind_of r)) s.state.core.waiting) s.holds.book) start flight stands_at))
       any_right p n waits start flight kept kept_is stands_at = absurd stands_at
 
       -- the machine keeps the roles as the queue's laws say

@@ -181,7 +181,7 @@ module _ {T : Type 0} (code : Coding T) (index : ℕ) where
         some = any;
         first = refl;
         starts =
-            release_starts code v (gives_index index) modes.Default (first_release v.capacity) m refl (λ o p. tt) (λ kept. refl) low held;
+            release_starts modes.Default refl (λ o p. tt) (λ kept. refl) low held;
         wrote = λ p new. refl;
       })
 
@@ -243,8 +243,7 @@ module _ {T : Type 0} (code : Coding T) (index : ℕ) where
         some = any;
         first = refl;
         starts =
-            release_starts code v (gives_or_locks index) modes.LockIfLastIndex (first_release v.capacity) m refl
-            (λ o p. tt) (λ kept. refl) low held;
+            release_starts modes.LockIfLastIndex refl (λ o p. tt) (λ kept. refl) low held;
         wrote = λ p new. refl;
       })
 

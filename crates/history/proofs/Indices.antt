@@ -89,6 +89,10 @@ module _ {T : Type 0} (code : Coding T) (capacity : ℕ) where
       let here = stands world_now p start flight call_is in
       let there = stands_there (family world_now.coding world_now.capacity) t is_sound p here.x here.since flight here.found here.doing in
       let mine : FlightAt world_now.capacity is_sound.state.holders p here.x.start flight = there.at in
+      -- what the laws of the set say of its calls on this machine
+      let beside = beside_of world_now.words world_now.kept world_now.latest p in
+      let writes_here = writes_there world_now.coding world_now.words beside world_now.capacity p in
+      let goes_here = goes_there world_now.coding world_now.words beside world_now.capacity p in
       record {
         -- nothing refuses the step, and its effects are of this party
         may = no_rows world_now.coding world_now.capacity world_now.kept is_sound.state.holders p here.x.start flight mine;
@@ -97,15 +101,11 @@ module _ {T : Type 0} (code : Coding T) (capacity : ℕ) where
         writes = λ x n found. (
             let same : here.x ≡ x = (let both : Some here.x ≡ Some x = sym here.found ∙ found in cc) in
             subst (λ (z : Party T). (step_in world_now p z flight n).wrote ≡ index_effects p flight n) same
-            (writes_there world_now.coding world_now.words (beside_of world_now.words world_now.kept world_now.latest p) world_now.capacity p n world_now.kept
-            is_sound.state here.x.start flight is_sound.fit.kept mine));
+            (writes_here n world_now.kept is_sound.state here.x.start flight is_sound.fit.kept mine));
         goes = λ x n found. (
             let same : here.x ≡ x = (let both : Some here.x ≡ Some x = sym here.found ∙ found in cc) in
             subst (λ (z : Party T). (step_in world_now p z flight n).after ≡ after_of world_now.coding flight n) same
-            (goes_there world_now.coding world_now.words
-            (beside_of world_now.words world_now.kept world_now.latest p) world_now.capacity p n world_now.kept
-            is_sound.state
-            here.x.start flight is_sound.fit.kept mine));
+            (goes_here n world_now.kept is_sound.state here.x.start flight is_sound.fit.kept mine));
       }
 
   -- unique index sets keep the laws of a kind: what their steps write, and where they lead
@@ -136,23 +136,24 @@ module _ {T : Type 0} (code : Coding T) (base : View T) where
   kept_there : (t : Trace T) → IsPassRun t → (holders : List (Option ℕ)) × (t.world.kept ≡ registries.Indices holders)
   kept_there t is_on = let is_sound = sound code base.capacity is_on in (is_sound.state.holders, is_sound.fit.kept)
 
+module _ {T : Type 0} {code : Coding T} {base : View T} where
   -- a call that names no index always may, as the party that the pass was last
-  module _ {C M E : Type 0} (call : Calling T C M E) (start : IndexStart) (c : C) (m : M)
+  module _ {C M E : Type 0} {call : Calling T C M E} (start : IndexStart) {c : C} {m : M}
       (named : call.start ≡ Indices start) (by_last : (o : Option ℕ) (p : ℕ) → IfSome o (λ q. q ≡ p) → call.by o p)
       (first_is : (kept : Registry T) → first_of kinds.Indices base.capacity (Indices start) kept ≡ Some (call.flight c m))
       (free : (holders : List (Option ℕ)) (p : ℕ) → first_row (call_rows base.capacity holders p start) ≡ None) where
     -- a call that is no release begins for a party of the pass, which the machine finds
     -- without a call under way
-    pub plain_starts : (t : Trace T) (owner : ℕ → ℕ) (j : ℕ) → IsPassRun t → owner j ≡ j
+    pub plain_starts : (t : Trace T) (owner : ℕ → ℕ) (j : ℕ) → IsPassRun code base t → owner j ≡ j
         → IfSome base.party (λ p. owner p ≡ j)
         → ((f : Event T → ℕ) → sum_by f base.made ≡ sum_by (owned owner j f) t.events)
         → Starts code kinds.Indices call base c m t owner j
     plain_starts t owner j run self party sums =
-        starts_by_last code kinds.Indices call base c m t owner j by_last self party first_here may
+        starts_by_last by_last self party first_here may
       where
         -- the machine keeps who holds each index
         kept : (holders : List (Option ℕ)) × (t.world.kept ≡ registries.Indices holders)
-        kept = kept_there t run
+        kept = kept_there code base t run
 
         -- the model has this call
         is_some : is_none (first_of kinds.Indices base.capacity (Indices start) t.world.kept) ≡ false
@@ -167,20 +168,20 @@ module _ {T : Type 0} (code : Coding T) (base : View T) where
         first_here = rw named (first_is t.world.kept)
 
   -- a release may, as that of the pass's parties which holds the index
-  module _ {C M E : Type 0} (call : Calling T C M E) {index : ℕ} (mode : ReleaseMode) (c : C) (m : M)
+  module _ {C M E : Type 0} {call : Calling T C M E} {index : ℕ} (mode : ReleaseMode) {c : C} {m : M}
       (named : call.start ≡ Indices (Release index mode)) (by_any : (o : Option ℕ) (p : ℕ) → call.by o p)
       (first_is : (kept : Registry T)
       → first_of kinds.Indices base.capacity (Indices (Release index mode)) kept ≡ Some (call.flight c m))
       (below : index < base.capacity) (held : Holds index base.made) where
     -- a release of an index that the pass holds begins as that of the party which holds it
-    pub release_starts : (t : Trace T) (owner : ℕ → ℕ) (j : ℕ) → IsPassRun t → owner j ≡ j
+    pub release_starts : (t : Trace T) (owner : ℕ → ℕ) (j : ℕ) → IsPassRun code base t → owner j ≡ j
         → IfSome base.party (λ p. owner p ≡ j)
         → ((f : Event T → ℕ) → sum_by f base.made ≡ sum_by (owned owner j f) t.events)
         → Starts code kinds.Indices call base c m t owner j
     release_starts t owner j run self party sums =
         -- by what the pass made, one of its parties holds the index
         let set = is_index_set t run.of_kind run.reached in
-        let kept = kept_there t run in
+        let kept = kept_there code base t run in
         let by = held_by owner j t.world.capacity index t.events base.made set.holds sums held in
         -- the machine keeps that party as the holder, so it does not refuse the release
         let keeps : KeepsHolders (registries.Indices kept.0) t.events = subst (λ k. KeepsHolders k t.events) kept.1 set.holders in

@@ -98,6 +98,12 @@ module _ {T : Type 0} where
           stateless = laws.stateless;
         }
 
+-- by the laws of a kind whose calls go on by their stage alone, a call goes on by its flight alone
+pub goes_by_flight : {T : Type 0} {code : Coding T} {kind : Kind} {capacity words : ℕ} {effects : World T → ℕ → Flight T → ℕ → List (Event T)}
+    → MachineLaws code kind capacity words effects → (t : Trace T) → IsRun code kind capacity t → (p : ℕ) (flight : Flight T) (n : ℕ)
+    → goes_of code p flight n t.world.kept ≡ after_of code flight n
+goes_by_flight {code = code} laws t run p flight n = goes_alike code p flight n t.world.kept (laws.stateless t run)
+
 -- machines of one kind and coding, of any capacity, with the laws of the kind
 pub record MachinesOf {T F : Type 0} (Laws : Coding T → Kind → ℕ → ℕ → F → Type 0) : Type 0 where
   pub code : Coding T

@@ -59,10 +59,10 @@ module _ {T : Type 0} (takes gives : Event T → ℕ) (after : Option ℕ → Ev
         )
 
     -- where a seat has taken it once more than it gave it back, one of its parties holds it
-    pub held_by_one : (all made : List (Event T)) → Each Moves all
+    pub held_by_one : {all : List (Event T)} (made : List (Event T)) → Each Moves all
         → ((f : Event T → ℕ) → sum_by f made ≡ sum_by (owned owner j f) all) → sum_by takes made ≡ sum_by gives made + 1
         → (p : ℕ) × (owner p ≡ j) × (held_in all ≡ Some p)
-    held_by_one all made each sums holds =
+    held_by_one {all} made each sums holds =
         let a = sums takes in
         let b = sums gives in
         let sum = adds_up [] all each in

@@ -10,6 +10,7 @@ pub mod Asked
 pub mod OneRun
 pub mod KindLaws
 pub mod Turns
+pub mod Answering
 pub mod KnownRuns
 pub mod Steps
 pub mod Passes
@@ -25,6 +26,7 @@ pub mod Drives
 pub mod Paid
 pub mod Latest
 pub mod Ended
+pub mod AskingCalls
 pub mod Decisions
 pub mod Made
 pub mod Starting

@@ -138,16 +138,6 @@ module _ {T : Type 0} where
           asked = subst (λ ts. HasAsked w (steps_of_run code kind capacity ts)) (sym turns_are) asked;
         }
 
-    -- the run that a seat knew goes on to the whole run of the table
-    pub continues_all : {views : List (View T)} {u : Trace T} (id : ℕ) {v w : View T} (one : OneRun code kind capacity views u)
-        → get_elem? views id ≡ some v → IsRun code kind capacity u → w.turns ≡ one.turns → w.seen ≡ u.events → w.others ≡ others_by u.world w.party
-        → HasAsked w (steps_of_run code kind capacity one.turns) → Continues code kind capacity v w
-    continues_all {views} {u} id {v} {w} one has_view run turns_are seen others asked =
-        record {
-          first = subst (λ ts. AreFirst v.turns ts) (sym turns_are) (one.knew id v has_view).mine;
-          knows = knows_all one run turns_are seen others asked;
-        }
-
     pub continues_further : (x y z : View T) → AreFirst x.turns y.turns → Continues code kind capacity y z → Continues code kind capacity x z
     continues_further x y z are_first continues = record { first = first_further x.turns y.turns z.turns are_first continues.first; knows = continues.knows }
 
@@ -205,3 +195,14 @@ module _ {T : Type 0} where
 
     pub seats_know_one : {s : State (Unit {0}) (View T)} → IsMachine code kind capacity s → SeatsKnowOneRun s
     seats_know_one is_machine i j v w at there = know_one is_machine.one.turns v w (is_machine.one.knew i v at) (is_machine.one.knew j w there)
+
+-- the run that a seat knew goes on to the whole run of the table
+pub continues_all : {T : Type 0} {code : Coding T} {kind : Kind} {capacity : ℕ} {views : List (View T)} {u : Trace T} (id : ℕ) {v w : View T}
+    (one : OneRun code kind capacity views u)
+    → get_elem? views id ≡ some v → IsRun code kind capacity u → w.turns ≡ one.turns → w.seen ≡ u.events → w.others ≡ others_by u.world w.party
+    → HasAsked w (steps_of_run code kind capacity one.turns) → Continues code kind capacity v w
+continues_all {code = code} {kind = kind} {capacity = capacity} id {v = v} one has_view run turns_are seen others asked =
+    record {
+      first = subst (λ ts. AreFirst v.turns ts) (sym turns_are) (one.knew id v has_view).mine;
+      knows = knows_all code kind capacity one run turns_are seen others asked;
+    }

@@ -4,7 +4,7 @@ use Rattle.history.proofs.Names.{inl, ◌≡◌, ℕ, ◌+◌, ◌^◌, ◌%◌,
 use Rattle.history.proofs.Names.{Some, None, List, [], ◌∷◌, ◌++◌, get_or, slice_index, fold, refl, sym, ap, subst}
 use Rattle.history.proofs.Names.{◌∙◌, append_assoc, append-nil, arith, nat_tests, AllByRecursion, written, Ask}
 use Rattle.history.proofs.Names.{Exchange, GoOn, OneWord, Producer, after_position, Answer}
-use Rattle.history.proofs.Names.{PoppedNone, Event, Acted, Start, Flight}
+use Rattle.history.proofs.Names.{PoppedNone, Event, Acted, Start}
 use Rattle.history.proofs.Names.{QueueStart, PushIndex, Effect}
 use Rattle.history.proofs.Names.{Coding, after_of, ask_of, popped, overflow_push_effect}
 use Rattle.history.proofs.Names.{acts_if_done, Open, longer, own_after, old_of, World, Trace, stands_there}
@@ -32,12 +32,12 @@ use Rattle.history.specs.Overflow.{IsWithin, over_push_skips, HasPushWord, HasAc
 use Rattle.history.specs.Roles.{HasRole}
 use Rattle.history.specs.Stages.{Calling, At}
 use Rattle.history.proofs.Calls.{stands}
-use Rattle.history.proofs.Drives.{IsCallIn, Met, goes, keeps_in}
+use Rattle.history.proofs.Drives.{IsCallIn, goes, keeps_in}
 use Rattle.history.proofs.Known.{by_mine}
 use Rattle.history.proofs.Overflows.{over_effects, push_own, overflow_machines}
 use Rattle.history.proofs.QueueCalls.{holds_it}
-use Rattle.history.proofs.Queues.{role_starts, sound_of}
-use Rattle.history.proofs.CallsIn.{Driven, KeepsOver}
+use Rattle.history.proofs.Queues.{role_begins, sound_of}
+use Rattle.history.proofs.CallsIn.{Driven, KeepsOver, Writing}
 
 -- ---- events within a call
 
@@ -152,43 +152,48 @@ module _ {T : Type 0} (code : Coding T) (v : ℕ) where
 
   -- the machine on which a push stands at this stage: its positions, its cells, and what the
   -- push has written so far
-  record StandsThere (capacity p : ℕ) (c : Pushing) (es : List (Event T)) (n : ℕ) (t : Trace T) : Type 0 where
+  record StandsThere (capacity p : ℕ) (stage : PushStage) (es : List (Event T)) (n : ℕ) (t : Trace T) : Type 0 where
     -- the queue, as its laws have it, and that the push has written what its stage says
     pub core : Core ℕ
-    pub wrote : es ≡ overflow_wrote capacity core p v c.stage
+    pub wrote : es ≡ overflow_wrote capacity core p v stage
     -- the read position and the cells are those of the machine's words
     pub read : slice_index t.world.words 1 ≡ core.read
     pub cell : (position : ℕ) → slice_index t.world.words (cell_word capacity position) ≡ get_or core.cells (position % (capacity + 1)) 0
     -- the word that the push asks for is n
-    pub found : old_of t.world.words (ask_of (push_asks capacity c.stage v)) ≡ n
+    pub found : old_of t.world.words (ask_of (push_asks capacity stage v)) ≡ n
 
-  -- on the machine on which the driver's push is to take a step, the model's push stands,
-  -- with what it has written
-  there : {capacity p : ℕ} {from : Option (Start T × Flight T)} {c : Pushing} (m : OneWord) {n : ℕ} {es : List (Event T)} {t : Trace T}
-      → c.capacity ≡ capacity → from ≡ None → AllByRecursion IsWithin es
-      → Met code kinds.Overflow capacity pushing.start (pushing.flight c m) p from es n t → StandsThere capacity p c es n t
-  there {capacity} {p} {c = c} m {es = es} {t = t} same none are met =
+  -- what the push has written, with what came late, lies within the call
+  all_within : (step : Writing code kinds.Overflow pushing) → AllByRecursion IsWithin (step.es ++ step.late)
+  all_within step = within_both step.es step.late step.wrote.1 (within_late pushing.start step.late step.waits)
+
+  -- on the machine on which the driver's push is to take a step, the model's push stands, with what it has written
+  there : (step : Writing code kinds.Overflow pushing) → StandsThere step.capacity step.p step.c.stage (step.es ++ step.late) step.n step.t
+  there step =
+      let t = step.t in
+      let p = step.p in
+      let es : List (Event T) = step.es ++ step.late in
       -- what the queue's laws say of the push on this machine
-      let is_sound = sound_of code capacity queues.Overflow t met.run in
-      let at = stands t.world p pushing.start (pushing.flight c m) met.there in
-      let now = stands_there (family t.world.coding queues.Overflow t.world.capacity) t is_sound p at.x at.since (pushing.flight c m) at.found at.doing in
+      let is_sound = sound_of code step.capacity queues.Overflow t step.met.run in
+      let at = stands t.world p pushing.start (pushing.flight step.c step.m) step.met.there in
+      let stands_now = stands_there (family t.world.coding queues.Overflow t.world.capacity) t is_sound p in
+      let now = stands_now at.x at.since (pushing.flight step.c step.m) at.found at.doing in
       let core_now = is_sound.state.core in
       let words : t.world.words ≡ layout is_sound.state.roles core_now = is_sound.fit.words in
       -- the span of its party tells what the push has written
-      let span : Open at.x.start (overflow_wrote t.world.capacity core_now p v c.stage) ≡ Open pushing.start es =
-      sym now.span ∙ (met.span none ∙ spans_on pushing.start [] es are) in
+      let span : Open at.x.start (overflow_wrote t.world.capacity core_now p v step.c.stage) ≡ Open pushing.start es =
+      sym now.span ∙ (step.met.span step.wrote.0 ∙ spans_on pushing.start [] es (all_within step)) in
       record {
         core = core_now;
         wrote =
-            same_open pushing.start at.x.start es (overflow_wrote t.world.capacity core_now p v c.stage) (sym span)
-            ∙ ap (λ z. overflow_wrote z core_now p v c.stage) met.run.sized;
+            same_open pushing.start at.x.start es (overflow_wrote t.world.capacity core_now p v step.c.stage) (sym span)
+            ∙ ap (λ z. overflow_wrote z core_now p v step.c.stage) step.met.run.sized;
         read = ap (λ ws. slice_index ws 1) words;
         -- each cell of the queue is where the position says
         cell =
-            λ position. ap (λ ws. slice_index ws (cell_word capacity position)) words
+            λ position. ap (λ ws. slice_index ws (cell_word step.capacity position)) words
             ∙ word_at core_now.write core_now.read (free is_sound.state.roles.producer) (free is_sound.state.roles.consumer) core_now.cells
-            (cell_word capacity position) (position % (capacity + 1)) refl;
-        found = ap (λ z. old_of t.world.words (ask_of (push_asks z c.stage v))) (sym same) ∙ met.found;
+            (cell_word step.capacity position) (position % (step.capacity + 1)) refl;
+        found = ap (λ z. old_of t.world.words (ask_of (push_asks z step.c.stage v))) (sym step.stands.1) ∙ step.met.found;
       }
 
   -- the events of the step with which a push ends, by its stage and its end
@@ -205,14 +210,19 @@ module _ {T : Type 0} (code : Coding T) (v : ℕ) where
       (Some (popped (push_answer v (push_keeps m stage n).0 e)))
       ≡ over_push_wrote p v (push_keeps m stage n).0 e
 
-  -- the last step of a push writes what a push with its end writes in all
-  tells_end : (capacity p : ℕ) (c : Pushing) (e : PushEnd) (m : OneWord) (n : ℕ) (es : List (Event T)) (t : Trace T)
-      (k : Core ℕ) (stage : PushStage)
-      → es ≡ overflow_wrote capacity k p v stage → slice_index t.world.words 1 ≡ k.read
-      → ((position : ℕ) → slice_index t.world.words (cell_word capacity position) ≡ get_or k.cells (position % (capacity + 1)) 0)
-      → old_of t.world.words (ask_of (push_asks capacity stage v)) ≡ n → HasPushWord stage
-      → over_push_skips stage n ≡ false → push_takes c stage n ≡ Done e → TellsAtEnd capacity p c e m n es t.world stage
+  -- the last step of a push writes what a push with its end writes in all, by the machine on which the push stands
+  tells_end : {capacity p : ℕ} (c : Pushing) (e : PushEnd) (m : OneWord) {n : ℕ} {es : List (Event T)} {t : Trace T} {stage : PushStage}
+      → StandsThere capacity p stage es n t → HasPushWord stage → over_push_skips stage n ≡ false → push_takes c stage n ≡ Done e
+      → TellsAtEnd capacity p c e m n es t.world stage
   tells_end = grind arith
+
+  -- what a step of the push writes
+  abbrev its_effects : Writing code kinds.Overflow pushing → List (Event T)
+  its_effects step = over_effects step.t.world step.p (pushing.flight step.c step.m) step.n
+
+  -- all that the step writes is the push's own
+  its_own : (step : Writing code kinds.Overflow pushing) → events_by step.p (its_effects step) ≡ its_effects step
+  its_own step = by_mine step.p (its_effects step) (push_own step.t.world step.p (record { call = step.c; given = v; room = step.m }) step.n)
 
   -- a push, as the driver makes it
   abbrev pub push_driven : Driven T Pushing OneWord PushEnd
@@ -234,23 +244,16 @@ module _ {T : Type 0} (code : Coding T) (v : ℕ) where
         finds = λ c m n small t. finds n c.stage small t;
         leaves = λ c a n t e. leaves c a n c.stage t e;
         -- what a step writes, and what came late, lies within the call
-        tells = λ capacity p from c d m n es late t h wrote waits met e. (
-          wrote.0,
-          within_both (es ++ late) (events_by p (over_effects t.world p (pushing.flight c m) n))
-              (within_both es late wrote.1 (within_late pushing.start late waits))
-              (subst (λ zs. AllByRecursion IsWithin zs)
-              (sym (by_mine p (over_effects t.world p (pushing.flight c m) n)
-              (push_own t.world p (record { call = c; given = v; room = m }) n)))
-              (within_effect p (PushIndex v) _ _)),
+        tells = λ step d leads. (
+          step.wrote.0,
+          within_both (step.es ++ step.late) (events_by step.p (its_effects step)) (all_within step)
+              (subst (λ zs. AllByRecursion IsWithin zs) (sym (its_own step)) (within_effect step.p (PushIndex v) _ _)),
         );
         -- the last step writes what a push with its end writes, as the machine on which it stands has it
-        tells_all = λ capacity p from c e m n es late t h skip wrote waits met is still. (
-          acts c e n c.stage h.2 skip is,
-          let x = there m h.1 wrote.0 (within_both es late wrote.1 (within_late pushing.start late waits)) met in
-              ap (λ zs. (es ++ late) ++ zs)
-              (by_mine p (over_effects t.world p (pushing.flight c m) n) (push_own t.world p (record { call = c; given = v; room = m }) n)
-              ∙ effects_end t.world p c e m n is)
-              ∙ tells_end capacity p c e m n (es ++ late) t x.core c.stage x.wrote x.read x.cell x.found h.2 skip is,
+        tells_all = λ step e skip leads still. (
+          acts step.c e step.n step.c.stage step.stands.2 skip leads,
+          ap (λ zs. (step.es ++ step.late) ++ zs) (its_own step ∙ effects_end step.t.world step.p step.c e step.m step.n leads)
+              ∙ tells_end step.c e step.m (there step) step.stands.2 skip leads,
         );
       }
 
@@ -272,8 +275,6 @@ module _ {T : Type 0} (code : Coding T) (v : ℕ) where
         some = any;
         first = refl;
         starts =
-            role_starts code queues.Overflow x pushing (PushIndex v) (first_push x.capacity)
-            (record { 0 = 0 }) refl (λ kept. refl) Producer (λ o p. tt) (λ roles p is. holds_it roles.producer p is)
-            has;
+            role_begins queues.Overflow (PushIndex v) refl (λ kept. refl) Producer (λ o p. tt) (λ roles p is. holds_it roles.producer p is) has;
         wrote = λ p. (refl, tt);
       })

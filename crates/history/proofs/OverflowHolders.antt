@@ -139,6 +139,8 @@ module _ {T : Type 0} (c : ℕ) where
 
   -- ---- what a call knows of the list
 
+  -- the queue's laws hold of its core k, in which there waits what the events say, and which lies in the table's words as
+  -- its read position and its cells
   module _ (k : Core ℕ) (words : List ℕ) (before : List (Event T)) (good : Good 1 words_of_index (c + 1) k)
       (same : waiting before ≡ map Index k.waiting) (is_read : slice_index words 1 ≡ k.read)
       (cell : (position : ℕ) → slice_index words (cell_word c position) ≡ get_or k.cells (position % (c + 1)) 0) where
@@ -232,11 +234,13 @@ module _ {T : Type 0} (c : ℕ) where
     over_right p n (Queues (PushIndex v)) (flights.Queues (Overflow (overflows.Push run))) stands_at handed =
         grind (arith, push_right, after, push_effect_own, push_fits, its_waiting, its_read, its_cell, push_handed)
     over_right p n (Queues Pop) (flights.Queues (Overflow (overflows.Pop run))) stands_at handed =
+        -- a push that waits for room is the producer's, and the cell has the index that the pop has read
+        let waits_here = beside_waits en c t en c s t.world.kept p in
+        let fits_here = pop_fits s.state.core t.world.words t.events s.holds.good its_waiting its_read its_cell run.room in
         pop_right t.world.words run.call.capacity p n (beside_of t.world.words t.world.kept t.world.latest p)
         run.call.stage (answer_in (after t.world.coding (Overflow (overflows.Pop run)) n)) t.events
-        (λ q v e. (beside_waits en c t en c s t.world.kept p q v e s.fit.kept).producer)
-        (pop_fits s.state.core t.world.words t.events s.holds.good its_waiting its_read its_cell run.room
-        run.call.capacity n run.call.stage stands_at.1 stands_at.2 (pop_handed run n handed))
+        (λ q v e. (waits_here q v e s.fit.kept).producer)
+        (fits_here run.call.capacity n run.call.stage stands_at.1 stands_at.2 (pop_handed run n handed))
         (s.holds.consumers ∙ stands_at.0)
     over_right p n (Queues start) (flights.Queues (OnRole call)) stands_at handed = tt
     over_right p n (Queues start) (flights.Queues (Length which run)) stands_at handed = tt
@@ -250,9 +254,8 @@ module _ {T : Type 0} (c : ℕ) where
         → x.doing ≡ Going flight since → IsHanded t flight n → AllRightly t.events (step_in t.world p x flight n).wrote
     step_right p n x flight since found doing handed =
         let there = stands_there (family en queues.Overflow c) t s p x since flight found doing in
-        let fact =
-        facts en c t.world en c p n s.state.roles s.state.core x.start flight t.world.kept
-        s.fit.kept there.at in
+        let facts_here = facts en c t.world en c p in
+        let fact = facts_here n s.state.roles s.state.core x.start flight t.world.kept s.fit.kept there.at in
         subst (AllRightly t.events) (sym fact.writes) (over_right p n x.start flight there.at handed)
 
 module _ {T : Type 0} (code : Coding T) (capacity : ℕ) where

@@ -32,8 +32,8 @@ use Rattle.history.proofs.Drives.{IsCallIn, Met, goes, keeps_all_in}
 use Rattle.history.proofs.Known.{by_mine}
 use Rattle.history.proofs.Overflows.{over_effects, own_of_effect, overflow_machines, room_by_own, beside_waits}
 use Rattle.history.proofs.QueueCalls.{holds_it}
-use Rattle.history.proofs.Queues.{role_starts, sound_of}
-use Rattle.history.proofs.CallsIn.{Driven, KeepsEnds}
+use Rattle.history.proofs.Queues.{role_begins, sound_of}
+use Rattle.history.proofs.CallsIn.{Driven, KeepsEnds, Writing}
 
 module _ {T : Type 0} (code : Coding T) where
   -- a pop, as a call of the model
@@ -162,10 +162,14 @@ module _ {T : Type 0} (code : Coding T) where
       ≡ pop_wrote p (pop_keeps m stage n).0 b
 
   -- the last step of a pop writes of its own party what a pop with its end writes
-  loud : (p n : ℕ) (c : Popping) (m : OneWord) (b : Bool) (t : Trace T) (stage : PopStage) → HasPopWord stage
+  loud : (p n : ℕ) (c : Popping) (m : OneWord) {b : Bool} (t : Trace T) {stage : PopStage} → HasPopWord stage
       → ((read : ℕ) → stage ≡ pops.MovesRead read → n ≡ read → slice_index t.world.words (cell_word c.capacity read) ≡ m.0)
       → ((q v : ℕ) → beside_of t.world.words t.world.kept t.world.latest p ≡ Some (q, v) → p ≢ q) → pop_takes c stage n ≡ Done b → TellsAtEnd p n c m t stage b
-  loud p n c m b t stage pop_word slice_index_is p_is_not_q pop_takes_is = grind arith
+  loud p n c m {b} t {stage} pop_word slice_index_is p_is_not_q pop_takes_is = grind arith
+
+  -- what a step of the pop writes of its own party
+  abbrev its_own : Writing code kinds.Overflow popping → List (Event T)
+  its_own step = events_by step.p (over_effects step.t.world step.p (popping.flight step.c step.m) step.n)
 
   -- a pop, as the driver makes it
   abbrev pub pop_driven : Driven T Popping OneWord Bool
@@ -187,18 +191,19 @@ module _ {T : Type 0} (code : Coding T) where
         finds = λ c m n small t. tt;
         leaves = λ c a n t e. absurd (cc);
         -- a step with which the pop goes on writes nothing
-        tells = λ capacity p from c d m n es late t h wrote waits met e.
-            ap (λ zs. (zs ++ late) ++ events_by p (over_effects t.world p (popping.flight c m) n)) wrote
-            ∙ (ap (λ zs. zs ++ events_by p (over_effects t.world p (popping.flight c m) n)) waits
-            ∙ ap (events_by p) (effects_on t.world p c d m n e
-            ∙ quiet t.world.words (beside_of t.world.words t.world.kept t.world.latest p) p n c d c.stage e));
+        tells = λ step d leads.
+            ap (λ zs. (zs ++ step.late) ++ its_own step) step.wrote
+            ∙ (ap (λ zs. zs ++ its_own step) step.waits
+            ∙ ap (events_by step.p) (effects_on step.t.world step.p step.c d step.m step.n leads
+            ∙ quiet step.t.world.words (beside_of step.t.world.words step.t.world.kept step.t.world.latest step.p) step.p step.n step.c d step.c.stage leads));
         -- the last step writes what a pop with its end writes, since the cell still holds the index that the
         -- pop has read
-        tells_all = λ capacity p from c b m n es late t h skip wrote waits met e still. (
-            let at = takes_at h.1 met in
-            ap (λ zs. (zs ++ late) ++ events_by p (over_effects t.world p (popping.flight c m) n)) wrote
-            ∙ (ap (λ zs. zs ++ events_by p (over_effects t.world p (popping.flight c m) n)) waits
-            ∙ (ap (events_by p) (effects_end t.world p c b m n e) ∙ loud p n c m b t c.stage h.2 at.front at.apart e)));
+        tells_all = λ step b skip leads still. (
+            let at = takes_at step.stands.1 step.met in
+            ap (λ zs. (zs ++ step.late) ++ its_own step) step.wrote
+            ∙ (ap (λ zs. zs ++ its_own step) step.waits
+            ∙ (ap (events_by step.p) (effects_end step.t.world step.p step.c b step.m step.n leads)
+            ∙ loud step.p step.n step.c step.m step.t step.stands.2 at.front at.apart leads)));
       }
 
   -- each step of a pop keeps the rule of the table
@@ -219,7 +224,6 @@ module _ {T : Type 0} (code : Coding T) where
         some = any;
         first = refl;
         starts =
-            role_starts code queues.Overflow x popping Pop (first_pop x.capacity) (record { 0 = 0 }) refl
-            (λ kept. refl) Consumer (λ o p. tt) (λ roles p is. holds_it roles.consumer p is) has;
+            role_begins queues.Overflow Pop refl (λ kept. refl) Consumer (λ o p. tt) (λ roles p is. holds_it roles.consumer p is) has;
         wrote = λ p. refl;
       })

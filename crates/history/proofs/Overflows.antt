@@ -221,10 +221,11 @@ module _ {T : Type 0} (code : Coding T) (capacity : ℕ) where
       let here = stands t.world p start flight call_is in
       let there = stands_there (family t.world.coding queues.Overflow t.world.capacity) t is_sound p here.x here.since flight here.found here.doing in
       let kept = is_sound.fit.kept in
+      let facts_here = facts t.world t.world.coding t.world.capacity p in
       let fact = λ (x : Party T) (n : ℕ) (found : party_of p t.world.latest ≡ Some x).
       (let same : here.x ≡ x = (let both : Some here.x ≡ Some x = sym here.found ∙ found in cc) in
       subst (λ (st : Start T). Facts t.world p n st flight t.world.kept) (ap (λ (y : Party T). y.start) same)
-      (facts t.world t.world.coding t.world.capacity p n is_sound.state.roles is_sound.state.core here.x.start flight t.world.kept kept there.at))
+      (facts_here n is_sound.state.roles is_sound.state.core here.x.start flight t.world.kept kept there.at))
       in
       record {
         may = (fact here.x 0 here.found).may;

@@ -1,7 +1,7 @@
 -- A pass may look through its history by a load of any word of the table, outside any call: it then knows all
 -- events up to that load (`Looks`).
 use Rattle.history.proofs.Names.{◌≡◌, ◌≢◌, ◌⊎◌, inl, inr, ⊎_elim, ℕ, zero, suc, ◌+◌, ◌<◌, Option, Some, None, List, []}
-use Rattle.history.proofs.Names.{◌∷◌, ◌++◌, length, set, slice_index, slice_set, refl, sym, ap, subst, ◌∙◌}
+use Rattle.history.proofs.Names.{◌∷◌, ◌++◌, length, set, slice_index, refl, sym, ap, subst, ◌∙◌}
 use Rattle.history.proofs.Names.{append-nil, arith, length-set, sum_by, Allows, at_set, Event, Kind, Coding, Trace}
 use Rattle.history.proofs.Names.{Start, Flight}
 use mathlib.Core.Option.{some, some-injective}
@@ -17,7 +17,7 @@ use Rattle.history.proofs.Asked.{Gains, gains_has, gains_have, asked_at}
 use Rattle.history.specs.Views.{Looks, LooksOnce, LooksAt, WhenIdle}
 use Rattle.history.specs.Known.{Known, owned, events_by}
 use Rattle.history.proofs.Calls.{get_left}
-use Rattle.history.proofs.Known.{by_more, itself, nil_right, within, none_late, by_nothing}
+use Rattle.history.proofs.Known.{by_more, itself, nil_right, none_late, by_nothing}
 use Rattle.history.proofs.AllSeen.{known_step, known_whole, owned_whole}
 use Rattle.history.proofs.OneRun.{one_set, knew_all, continues_all}
 use Rattle.history.proofs.Passes.{nothing, set_same}
@@ -65,11 +65,11 @@ module _ {T : Type 0} (code : Coding T) (kind : Kind) (capacity : ℕ) where
 
   -- a seat may have another view w: one that fits the machine, with which some seat has still seen all
   -- events, and the table's run and operations are still counted right
-  pub reseat : (words : List ℕ) (s : State (Unit {0}) (View T)) (m : IsTableMachine s) (id : ℕ) (v w : View T)
+  reseated : {words : List ℕ} {s : State (Unit {0}) (View T)} (m : IsTableMachine s) {id : ℕ} {v : View T} (w : View T)
       → words ≡ s.words → get_elem? s.views id ≡ some v → Fits m.owner m.trace id w
       → Known (set s.views id w) m.trace.events → Knew m.one.turns w → HaveAsked (set s.views id w) (steps_of_run code kind capacity m.one.turns)
       → IsTableMachine (record { words = words; homes = s.homes; views = set s.views id w })
-  reseat words s m id v w same has_view fits known knew asked =
+  reseated {s = s} m {id = id} w same has_view fits known knew asked =
       record {
         trace = m.trace;
         run = m.run;
@@ -90,77 +90,99 @@ module _ {T : Type 0} (code : Coding T) (kind : Kind) (capacity : ℕ) where
         asked = asked;
       }
 
-  -- a load of a word of this table is a look, where nothing is late for the seat: the view w knows all events
-  -- of the machine
-  pub looks_at : (slots id word : ℕ) (v : View T) → 0 < v.share.part
-      → ((late : List (Event T)) → IsLate kind v.going late → late ≡ []) → (s : State (Unit {0}) (View T))
-      → (m : IsTableMachine s) → length s.homes ≡ slots → get_elem? s.views id ≡ some v
-      → slice_index s.words word < 18446744073709551616
-      → (w : View T) × (a : table.Act (Unit {0})) × table.Valid s.homes [] a
-      × IsTableMachine (table.stepped s word (slice_index s.words word) id [] w a)
-      × (Looks code kind capacity v w × (table.carried_after [] a ≡ [])) × (w.seen ≡ m.trace.events) × (w.asked ≡ v.asked + 1)
-  looks_at slots id word v some_share calm s m long has_view small =
-      let t = m.trace in
-      -- nothing is late for the seat, so what it made are just the events of its parties
-      let seat_fits = m.seats id v has_view in
-      let none : seat_fits.late ≡ [] = calm seat_fits.late (subst (λ k. IsLate k v.going seat_fits.late) m.run.of_kind seat_fits.waits) in
-      let made : (g : Event T → ℕ) → sum_by g v.made ≡ sum_by (owned m.owner id g) t.events =
-      λ g. (let no : sum_by g seat_fits.late ≡ 0 = ap (sum_by g) none in omega (arith, seat_fits.made g)) in
-      -- the view after the look has all events and all turns of the machine
-      let view_now : View T =
-      record {
-        capacity = v.capacity;
-        party = v.party;
-        share = v.share;
-        seen = t.events;
-        other = [];
-        turns = m.one.turns;
-        other_turns = [];
-        made = v.made;
-        going = v.going;
-        state = v.state;
-        asked = v.asked + 1;
-        aside = v.aside + 1;
-        taken = v.taken;
-        others = others_by t.world v.party;
-      } in
-      -- the look is one operation, and no step of the run
-      let gains : Gains s.views v view_now.asked view_now.aside (steps_of_run code kind capacity m.one.turns) =
-      record {
-        old = steps_of_run code kind capacity m.one.turns;
-        n = 0;
-        have = m.asked;
-        has = asked_at id has_view m.known.shares m.asked;
-        more = omega arith;
-        own = omega arith;
-      } in (
-        view_now,
-        table.keeps,
-        tt,
-        -- the table's words stay, and the new view fits the machine
-        reseat (slice_set s.words word (slice_index s.words word)) s m id v view_now (set_same s.words word) has_view
-            (record {
-              seen = itself t.events;
-              other = nothing t.events;
-              self = seat_fits.self;
-              going = seat_fits.going;
-              idle = seat_fits.idle;
-              stated = seat_fits.stated;
-              counted = seat_fits.counted;
-              party = seat_fits.party;
-              late = [];
-              waits = none_late t.world.kind v.going;
-              of_party = by_nothing v.party;
-              own = λ any p of_id. inl (append-nil (events_by p t.events));
-              made = λ g. omega (arith, made g);
-            })
-            (known_step id v view_now
-            (within s.views id v has_view) has_view refl some_share refl m.known.someone m.known.spent m.known.shares)
-            (knew_all code kind capacity m.one refl refl)
-            (gains_have id view_now has_view gains some_share),
-        (
+  -- the same holds with the words, the table, the seat and its views as explicit arguments
+  pub reseat : (words : List ℕ) (s : State (Unit {0}) (View T)) (m : IsTableMachine s) (id : ℕ) (v w : View T)
+      → words ≡ s.words → get_elem? s.views id ≡ some v → Fits m.owner m.trace id w
+      → Known (set s.views id w) m.trace.events → Knew m.one.turns w → HaveAsked (set s.views id w) (steps_of_run code kind capacity m.one.turns)
+      → IsTableMachine (record { words = words; homes = s.homes; views = set s.views id w })
+  reseat words s m id v w same has_view fits known knew asked = reseated m w same has_view fits known knew asked
+
+  -- a seat that is to look through the history of a table that is a machine, by a load of a word of the table
+  pub record Looker : Type 0 where
+    pub s : State (Unit {0}) (View T)
+    pub m : IsTableMachine s
+    pub id : ℕ  -- of the seat
+    pub v : View T  -- what it knows
+    pub word : ℕ
+    pub has_view : get_elem? s.views id ≡ some v
+    pub some_share : 0 < v.share.part
+    -- nothing is late for the seat's call
+    pub calm : (late : List (Event T)) → IsLate kind v.going late → late ≡ []
+
+  -- what a load of the word leaves: the view w, which knows all events of the machine, and with which the table
+  -- holds its machine again
+  pub record Looked (looker : Looker) : Type 0 where
+    pub w : View T
+    pub holds : IsTableMachine (table.stepped looker.s looker.word (slice_index looker.s.words looker.word) looker.id [] w table.keeps)
+    pub looks : Looks code kind capacity looker.v w
+    pub seen : w.seen ≡ looker.m.trace.events
+    pub asked : w.asked ≡ looker.v.asked + 1
+
+  module _ (looker : Looker) where
+    open looker use {s, m, id, v, word, has_view, some_share, calm}
+
+    -- since nothing is late for the seat, what it made are the events of its parties, so its view may take over all
+    -- events and all turns of the machine
+    pub look_by : Looked looker
+    look_by =
+        let t = m.trace in
+        -- nothing is late for the seat, so what it made are just the events of its parties
+        let seat_fits = m.seats id v has_view in
+        let none : seat_fits.late ≡ [] = calm seat_fits.late (subst (λ k. IsLate k v.going seat_fits.late) m.run.of_kind seat_fits.waits) in
+        let made : (g : Event T → ℕ) → sum_by g v.made ≡ sum_by (owned m.owner id g) t.events =
+        λ g. (let no : sum_by g seat_fits.late ≡ 0 = ap (sum_by g) none in omega (arith, seat_fits.made g)) in
+        -- the view after the look has all events and all turns of the machine
+        let view_now : View T =
+        record {
+          capacity = v.capacity;
+          party = v.party;
+          share = v.share;
+          seen = t.events;
+          other = [];
+          turns = m.one.turns;
+          other_turns = [];
+          made = v.made;
+          going = v.going;
+          state = v.state;
+          asked = v.asked + 1;
+          aside = v.aside + 1;
+          taken = v.taken;
+          others = others_by t.world v.party;
+        } in
+        -- the look is one operation, and no step of the run
+        let gains : Gains s.views v view_now.asked view_now.aside (steps_of_run code kind capacity m.one.turns) =
+        record {
+          old = steps_of_run code kind capacity m.one.turns;
+          n = 0;
+          have = m.asked;
+          has = asked_at id has_view m.known.shares m.asked;
+          more = omega arith;
+          own = omega arith;
+        } in record {
+          w = view_now;
+          -- the table's words stay, and the new view fits the machine
+          holds =
+              reseated m view_now (set_same s.words word) has_view
+              (record {
+                seen = itself t.events;
+                other = nothing t.events;
+                self = seat_fits.self;
+                going = seat_fits.going;
+                idle = seat_fits.idle;
+                stated = seat_fits.stated;
+                counted = seat_fits.counted;
+                party = seat_fits.party;
+                late = [];
+                waits = none_late t.world.kind v.going;
+                of_party = by_nothing v.party;
+                own = λ any p of_id. inl (append-nil (events_by p t.events));
+                made = λ g. omega (arith, made g);
+              })
+              (known_step id view_now has_view refl some_share refl m.known.someone m.known.spent m.known.shares)
+              (knew_all code kind capacity m.one refl refl)
+              (gains_have id view_now has_view gains some_share);
           -- what the look tells of the new view
-          record {
+          looks = record {
             capacity = refl;
             party = refl;
             going = refl;
@@ -176,29 +198,40 @@ module _ {T : Type 0} (code : Coding T) (kind : Kind) (capacity : ℕ) where
                 λ all. ⊎_elim (λ (e : v.seen ≡ t.events). inl (sym e)) (λ (e : v.other ≡ t.events). inr (sym e))
                 (known_whole id has_view all m.known);
             all =
-                λ all g. owned_whole m.owner t s.views id v has_view all m.known.shares m.known.spent
+                λ all g. owned_whole has_view all m.known.shares m.known.spent
                 (λ j u ne there. m.seats j u there) m.inside (λ q ne past. m.made_none q past) m.known.someone g
                 ∙ sym (made g);
             history = record { trace = t; run = m.run; is = refl };
-            ran = continues_all code kind capacity id m.one has_view m.run refl refl refl
+            ran = continues_all id m.one has_view m.run refl refl refl
                 (gains_has gains refl);
             theirs_ran = (m.one.knew id v has_view).theirs;
             parties = record { owner = m.owner; seat = id; sums = made };
             apart = λ alone any p of_id. rest_apart v t seat_fits.late seat_fits.seen p alone none (seat_fits.own any p of_id);
-          },
-          refl,
-        ),
-        refl,
-        refl,
-      )
+          };
+          seen = refl;
+          asked = refl;
+        }
+
+  -- a load of a word of this table is a look, where nothing is late for the seat: the view w knows all events
+  -- of the machine
+  pub looks_at : (slots id word : ℕ) (v : View T) → 0 < v.share.part
+      → ((late : List (Event T)) → IsLate kind v.going late → late ≡ []) → (s : State (Unit {0}) (View T))
+      → (m : IsTableMachine s) → length s.homes ≡ slots → get_elem? s.views id ≡ some v
+      → slice_index s.words word < 18446744073709551616
+      → (w : View T) × (a : table.Act (Unit {0})) × table.Valid s.homes [] a
+      × IsTableMachine (table.stepped s word (slice_index s.words word) id [] w a)
+      × (Looks code kind capacity v w × (table.carried_after [] a ≡ [])) × (w.seen ≡ m.trace.events) × (w.asked ≡ v.asked + 1)
+  looks_at slots id word v some_share calm s m long has_view small =
+      let look = look_by (record { s = s; m = m; id = id; v = v; word = word; has_view = has_view; some_share = some_share; calm = calm }) in
+      (look.w, table.keeps, tt, look.holds, (look.looks, refl), look.seen, look.asked)
 
   -- a look by a load of any word is one operation
   pub looks_once : (slots id word : ℕ) (v : View T) → 0 < v.share.part
       → ((late : List (Event T)) → IsLate kind v.going late → late ≡ [])
       → Allows IsTableMachine slots id (v, []) word (λ n. n) (λ found me. LooksOnce code kind capacity v me.0 × (me.1 ≡ []))
   looks_once slots id word v some_share calm s m long at small =
-      (let looked = looks_at slots id word v some_share calm s m long at small in
-      (looked.0, looked.1, looked.2, looked.3, ((looked.4.0, looked.6), looked.4.1)))
+      let look = look_by (record { s = s; m = m; id = id; v = v; word = word; has_view = at; some_share = some_share; calm = calm }) in
+      (look.w, table.keeps, tt, look.holds, ((look.looks, look.asked), refl))
 
   -- a look is all that a seat owes for one load
   pub owes_look : (words slots id word : ℕ) (v : View T) → word < words → 0 < v.share.part
@@ -207,8 +240,8 @@ module _ {T : Type 0} (code : Coding T) (kind : Kind) (capacity : ℕ) where
   owes_look words slots id word v below some_share calm = (
     below,
     λ s m long at small. (
-        let looked = looks_at slots id word v some_share calm s m long at small in
-        (looked.0, looked.1, looked.2, looked.3, ((looked.4.0, looked.6), looked.6, looked.4.1))),
+        let look = look_by (record { s = s; m = m; id = id; v = v; word = word; has_view = at; some_share = some_share; calm = calm }) in
+        (look.w, table.keeps, tt, look.holds, ((look.looks, look.asked), look.asked, refl))),
   )
 
   -- A load where something may be late for the seat: it keeps its view, and nothing is told of the look.
@@ -225,14 +258,14 @@ module _ {T : Type 0} (code : Coding T) (kind : Kind) (capacity : ℕ) where
           × IsTableMachine (table.stepped s word (slice_index s.words word) id [] w a) × (table.carried_after [] a ≡ [])
           × WhenIdle kind v.going (Looks code kind capacity v w × (w.seen ≡ m.trace.events))
       told calm =
-          (let looked = looks_at slots id word v some_share calm s m long has_view small in (
-            looked.0,
-            looked.1,
-            looked.2,
-            looked.3,
-            looked.4.1,
-            told_when kind v.going (Looks code kind capacity v looked.0 × (looked.0.seen ≡ m.trace.events)) (looked.4.0, looked.5),
-          ))
+          let look = look_by (record { s = s; m = m; id = id; v = v; word = word; has_view = has_view; some_share = some_share; calm = calm }) in (
+            look.w,
+            table.keeps,
+            tt,
+            look.holds,
+            refl,
+            told_when kind v.going (Looks code kind capacity v look.w × (look.w.seen ≡ m.trace.events)) (look.looks, look.seen),
+          )
 
       -- where something may be late for the seat, it stays as it is, and nothing is told
       untold : (kind ≡ kinds.Overflow) × (v.going ≢ None)
@@ -243,7 +276,7 @@ module _ {T : Type 0} (code : Coding T) (kind : Kind) (capacity : ℕ) where
         v,
         table.keeps,
         tt,
-        reseat (slice_set s.words word (slice_index s.words word)) s m id v v (set_same s.words word) has_view
+        reseated m v (set_same s.words word) has_view
             (m.seats id v has_view) (subst (λ views. Known views m.trace.events) (sym (set_again s.views id v has_view)) m.known) (m.one.knew id v has_view)
             (subst (λ views. HaveAsked views (steps_of_run code kind capacity m.one.turns)) (sym (set_again s.views id v has_view)) m.asked),
         refl,

@@ -103,9 +103,11 @@ module _ {T : Type 0} (code : Coding T) (kind : Kind) (capacity : ℕ) where
         further = λ j past. (let l = long in m.further j (omega arith));
         made_none = λ j past. (let l = long in m.made_none j (omega arith));
         -- the split is one operation, which is aside
-        asked = have_end (right_view v) refl refl
+        asked = (
+            let more = have_more s.views id v (left_view v) steps 0 in
+            have_end (right_view v) refl refl
             (subst (λ n. HaveAsked (set s.views id (left_view v)) n) (no_more steps)
-            (have_more s.views id v (left_view v) steps 0 at m.asked (omega arith) (λ none. omega (arith, m.asked.spent id v at none))));
+            (more at m.asked (omega arith) (λ none. omega (arith, m.asked.spent id v at none)))));
         known = known_split id v (within s.views id v at) at m.known;
         one = one;
       }
@@ -227,9 +229,9 @@ module _ {T : Type 0} (code : Coding T) (kind : Kind) (capacity : ℕ) where
         further = λ j past. (let l = long in m.further j (omega arith));
         made_none = λ j past. (let l = long in m.made_none j (omega arith));
         -- the join is one operation, which is aside
-        asked = have_both id other v w at apart theirs some_share m.known.shares m.asked;
+        asked = have_both at apart theirs some_share m.known.shares m.asked;
         -- some seat with a share has seen all events, and each seat knows first turns of the run
-        known = known_join id other v w at apart theirs some_share (m.seats id v at).seen alone alone' m.known;
+        known = known_join at apart theirs some_share (m.seats id v at).seen alone alone' m.known;
         one =
             one_set code kind capacity (set s.views id (joined_view v w)) m.trace other spent_view
             (one_set code kind capacity s.views m.trace id (joined_view v w) m.one

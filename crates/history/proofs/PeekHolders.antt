@@ -67,10 +67,11 @@ module _ {T : Type 0} (code : Coding T) (kd : QueueKind) (capacity p : ℕ) (ans
         let is_sound = sound_of code capacity kd l.old l.run in
         let beside = beside_of w.words w.kept w.latest p in
         let there = stands_there (family w.coding kd w.capacity) l.old is_sound p x since flight found doing in
-        let it = last_is p p (Queues Peek) x.start answer (answer_in (step_in w p x flight n).after) l.wrote (step_in w p x flight n).wrote
-        (writes_no_end T w.coding w.words beside p x.start flight n w.kept) writes in
+        let by_last = last_is p p (Queues Peek) x.start answer (answer_in (step_in w p x flight n).after) l.wrote (step_in w p x flight n).wrote in
+        let it = by_last (writes_no_end T w.coding w.words beside p x.start flight n w.kept) writes in
         let at = subst (λ st. (family w.coding kd w.capacity).At is_sound.state p st flight) it.0 there.at in
-        let quiet = peek_at w.coding w.coding w.capacity p n w.words beside kd is_sound.state.roles is_sound.state.core flight at in
+        let peeks = peek_at w.coding w.coding w.capacity p n w.words beside in
+        let quiet = peeks kd is_sound.state.roles is_sound.state.core flight at in
         let same : (step_in w p x flight n).wrote ≡ [] =
         ap (λ st. (step_of w.coding w.words beside p st flight n w.kept).wrote) it.0
         ∙ (ap (λ k. (step_of w.coding w.words beside p (Queues Peek) flight n k).wrote) is_sound.fit.kept ∙ quiet.1) in

@@ -29,9 +29,9 @@ use Rattle.history.specs.Stages.{Calling, At}
 use Rattle.history.specs.ValueQueue.{IsWordOf, PeekPlace, peeks_value}
 use Rattle.history.proofs.Drives.{goes, keeps_to_end}
 use Rattle.history.proofs.QueueCalls.{holds_it}
-use Rattle.history.proofs.Queues.{queue_effects, role_starts, index_queue_machines, queue_machines}
+use Rattle.history.proofs.Queues.{queue_effects, role_begins, index_queue_machines, queue_machines}
 use Rattle.history.proofs.Rooms.{room_set, room_read}
-use Rattle.history.proofs.CallsIn.{Driven, IsCallBy, KeepsEnds}
+use Rattle.history.proofs.CallsIn.{Driven, IsCallBy, KeepsEnds, each_tells, last_tells}
 use Rattle.laws_robust.proofs.Cases.{by_bool}
 
 -- ---- of an index queue
@@ -105,8 +105,10 @@ module _ {T : Type 0} (code : Coding T) where
         past = λ capacity c d n k h e. refl;
         finds = λ c m n small t. tt;
         leaves = λ c a n t e. absurd (cc);
-        tells = λ capacity p from c d m n es h wrote e. ap (λ zs. zs ++ queue_effects code p (index_looking.flight c m) n) wrote;
-        tells_all = λ capacity p from c b m n es h skip wrote e still. ap (λ zs. zs ++ queue_effects code p (index_looking.flight c m) n) wrote;
+        tells = each_tells (queue_effects code) peek_driven
+            (λ step d leads. ap (λ zs. zs ++ queue_effects code step.p (index_looking.flight step.c step.m) step.n) step.wrote);
+        tells_all = last_tells (queue_effects code) peek_driven
+            (λ step b skip leads. ap (λ zs. zs ++ queue_effects code step.p (index_looking.flight step.c step.m) step.n) step.wrote);
       }
 
   -- each step of a peek keeps the rule of the table
@@ -125,8 +127,7 @@ module _ {T : Type 0} (code : Coding T) where
         some = any;
         first = refl;
         starts =
-            role_starts code queues.IndexQueue x peeks_index Peek (first_peek x.capacity) (record { 0 = 0 }) refl (λ kept. refl)
-            Consumer (λ o p. tt) (λ roles p is. holds_it roles.consumer p is) has;
+            role_begins queues.IndexQueue Peek refl (λ kept. refl) Consumer (λ o p. tt) (λ roles p is. holds_it roles.consumer p is) has;
         wrote = λ p. refl;
       })
 
@@ -136,6 +137,7 @@ module _ {T : Type 0} (code : Coding T) where
 cell_low : (size capacity position cell at : ℕ) → IsWordOf size capacity position cell at → word_at cell at < 4 + size * capacity
 cell_low = grind arith
 
+-- R is the room of a value's words: `words_in` are its words, and `with_word` puts one of them
 module _ {T R : Type 0} (code : Coding T) (law : IsCoding code) (words_in : R → List ℕ) (with_word : R → ℕ → ℕ → R)
     (put_in : (x : R) (at word : ℕ) → words_in (with_word x at word) ≡ slice_set (words_in x) at word) where
   -- a peek, as a call of the model
@@ -232,8 +234,10 @@ module _ {T R : Type 0} (code : Coding T) (law : IsCoding code) (words_in : R �
         past = λ capacity c d n k h e. refl;
         finds = λ c m n small t. tt;
         leaves = λ c a n t e. absurd (cc);
-        tells = λ capacity p from c d m n es h wrote e. ap (λ zs. zs ++ queue_effects code p (looking.flight c m) n) wrote;
-        tells_all = λ capacity p from c b m n es h skip wrote e still. ap (λ zs. zs ++ queue_effects code p (looking.flight c m) n) wrote;
+        tells = each_tells (queue_effects code) value_peek_driven
+            (λ step d leads. ap (λ zs. zs ++ queue_effects code step.p (looking.flight step.c step.m) step.n) step.wrote);
+        tells_all = last_tells (queue_effects code) value_peek_driven
+            (λ step b skip leads. ap (λ zs. zs ++ queue_effects code step.p (looking.flight step.c step.m) step.n) step.wrote);
       }
 
   -- each step of a peek keeps the rule of the table
@@ -253,8 +257,7 @@ module _ {T R : Type 0} (code : Coding T) (law : IsCoding code) (words_in : R �
         some = any;
         first = named;
         starts =
-            role_starts code queues.Queue x looking Peek (first_peek x.capacity) m refl (λ kept. named)
-            Consumer (λ o p. tt) (λ roles p is. holds_it roles.consumer p is) has;
+            role_begins queues.Queue Peek refl (λ kept. named) Consumer (λ o p. tt) (λ roles p is. holds_it roles.consumer p is) has;
         wrote = λ p. refl;
       })
     where

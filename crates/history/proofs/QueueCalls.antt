@@ -25,7 +25,7 @@ use Rattle.model.specs.declared.families.queues.QueueKind.TheVariants.{IndexQueu
 use Rattle.history.specs.Queues.{push_skips, PushStage, pushes_index, Taking, PopStage, pop_wrote}
 use Rattle.history.specs.Queues.{pops_index}
 use Rattle.history.proofs.Drives.{goes, keeps, keeps_to_end}
-use Rattle.history.proofs.Queues.{queue_effects, role_starts}
+use Rattle.history.proofs.Queues.{queue_effects, role_begins}
 use Rattle.history.proofs.CallsIn.{Driven, IsCallBy, KeepsEnds, KeepsOver}
 use Rattle.history.proofs.Queues.{index_queue_machines}
 
@@ -189,8 +189,7 @@ module _ {T : Type 0} (code : Coding T) where
         some = any;
         first = refl;
         starts =
-            role_starts code IndexQueue x (pushes_index v) (PushIndex v) (first_push x.capacity) m refl (λ kept. refl)
-            Producer (λ o p. tt) (λ roles p is. holds_it roles.producer p is) has;
+            role_begins IndexQueue (PushIndex v) refl (λ kept. refl) Producer (λ o p. tt) (λ roles p is. holds_it roles.producer p is) has;
         wrote = λ p. refl;
       })
 
@@ -206,7 +205,6 @@ module _ {T : Type 0} (code : Coding T) where
         some = any;
         first = refl;
         starts =
-            role_starts code IndexQueue x pops_index Pop (first_pop x.capacity) (record { 0 = 0 }) refl (λ kept. refl)
-            Consumer (λ o p. tt) (λ roles p is. holds_it roles.consumer p is) has;
+            role_begins IndexQueue Pop refl (λ kept. refl) Consumer (λ o p. tt) (λ roles p is. holds_it roles.consumer p is) has;
         wrote = λ p. refl;
       })

@@ -25,7 +25,7 @@ use Rattle.model.specs.declared.families.queues.calls.LengthOf.TheVariants as me
 use Rattle.model.specs.Families.Queues.Opening.{lacks_role}
 use Rattle.history.specs.Queues.{takes_role, gives_role, looks_role, length_start, counts_waiting}
 use Rattle.history.proofs.Drives.{goes, keeps_sized, keeps_to_end}
-use Rattle.history.proofs.Queues.{queue_effects, plain_starts, role_starts, index_queue_machines}
+use Rattle.history.proofs.Queues.{queue_effects, plain_begins, role_begins, index_queue_machines}
 use Rattle.history.proofs.QueueCalls.{holds_it}
 use Rattle.history.proofs.CallsIn.{Driven, IsCallBy, KeepsEnds}
 
@@ -64,8 +64,7 @@ module _ {T : Type 0} (code : Coding T) (role : Role) where
         some = any;
         first = first_is ((opening_of kinds.IndexQueue).kept x.capacity) role;
         starts =
-            plain_starts code IndexQueue x acquiring (acquire_start role) (record { word = role_word role }) m refl
-            (λ kept. first_is kept role) (λ o p h. h) (λ roles p. none_lacks role roles p);
+            plain_begins IndexQueue (acquire_start role) refl (λ kept. first_is kept role) (λ o p h. h) (λ roles p. none_lacks role roles p);
         wrote = λ p. refl;
       })
     where
@@ -104,8 +103,7 @@ module _ {T : Type 0} (code : Coding T) (role : Role) where
         some = any;
         first = first_is ((opening_of kinds.IndexQueue).kept x.capacity) role;
         starts =
-            role_starts code IndexQueue x releasing (release_start role) (record { word = role_word role }) m refl
-            (λ kept. first_is kept role) role (λ o p. tt) (λ roles p is. free role roles p is) has;
+            role_begins IndexQueue (release_start role) refl (λ kept. first_is kept role) role (λ o p. tt) (λ roles p is. free role roles p is) has;
         wrote = λ p. refl;
       })
     where
@@ -181,8 +179,7 @@ module _ {T : Type 0} (code : Coding T) (which : LengthOf) (size : ℕ) where
         some = any;
         first = first_is ((opening_of kinds.IndexQueue).kept x.capacity) which;
         starts =
-            plain_starts code IndexQueue x counting (length_start which) (first_len size) m refl (λ kept. first_is kept which)
-            (λ o p h. h) (λ roles p. none_lacks which roles p);
+            plain_begins IndexQueue (length_start which) refl (λ kept. first_is kept which) (λ o p h. h) (λ roles p. none_lacks which roles p);
         wrote = λ p. refl;
       })
     where

@@ -141,10 +141,11 @@ module _ {T : Type 0} (code : Coding T) (capacity : ℕ) (r : Ring) where
       let here = stands t.world p start flight call_is in
       let there = stands_there (family t.world.coding (kind_of r) t.world.capacity) t is_sound p here.x here.since flight here.found here.doing in
       let waits = beside_of t.world.words t.world.kept t.world.latest p in
+      let facts_here = facts t.world.coding t.world.words waits t.world.capacity p in
       let fact = λ (x : Party T) (n : ℕ) (found : party_of p t.world.latest ≡ Some x).
       (let same : here.x ≡ x = (let both : Some here.x ≡ Some x = sym here.found ∙ found in cc) in
       subst (λ (st : Start T). StepFacts t.world.coding t.world.words waits p n st flight t.world.kept) (ap (λ (y : Party T). y.start) same)
-      (facts t.world.coding t.world.words waits t.world.capacity p n is_sound.state here.x.start flight t.world.kept is_sound.fit.kept there.at))
+      (facts_here n is_sound.state here.x.start flight t.world.kept is_sound.fit.kept there.at))
       in
       record {
         may = (fact here.x 0 here.found).may;
@@ -213,72 +214,82 @@ module _ {T : Type 0} (code : Coding T) (kd : QueueKind) (base : View T) where
   abbrev MadeByParties : Trace T → (ℕ → ℕ) → ℕ → Type 0
   MadeByParties t owner j = (f : Event T → ℕ) → sum_by f base.made ≡ sum_by (owned owner j f) t.events
 
-  -- a party that lacks no role for it may begin
-  module _ {C M E : Type 0} (call : Calling T C M E) (start : QueueStart T) (c : C) (m : M) (named : call.start ≡ Queues start)
-      (first_is : (kept : Registry T) → first_of (machine_kind kd) base.capacity (Queues start) kept ≡ Some (call.flight c m))
-      (t : Trace T) (owner : ℕ → ℕ) (j p : ℕ) (run : IsPassRun t) (mine : owner p ≡ j) (by : call.by base.party p)
-      (roles : Roles) (is : t.world.kept ≡ registries.Queues roles)
-      (lacks : lacks_role roles p start ≡ false) where
-    -- the call may begin as that of party p, whom the machine finds without a call under way
-    as_party : Starts code (machine_kind kd) call base c m t owner j
-    as_party =
-        record {
-          party = p;
-          mine = mine;
-          by = by;
-          first = rw named (first_is t.world.kept);
-          may = rw named (rows kd (first_is t.world.kept));
-        }
-      where
-        -- what the machine keeps refuses no begin of the call
-        kept_free : first_row (kept_rows start t.world.kept p) ≡ None
-        kept_free = subst (λ k. first_row (kept_rows start k p) ≡ None) (sym is) (rw lacks refl)
+-- a call of the driver at its first stage, on a pass with the view base, is a call `start` of the model on a queue
+module _ {T C M E : Type 0} {code : Coding T} {base : View T} {call : Calling T C M E} {c : C} {m : M} (kd : QueueKind) (start : QueueStart T)
+    (named : call.start ≡ Queues start)
+    (first_is : (kept : Registry T) → first_of (machine_kind kd) base.capacity (Queues start) kept ≡ Some (call.flight c m)) where
+  -- a party that lacks no role for the call may begin it, on a machine that keeps these roles
+  as_party : {t : Trace T} {owner : ℕ → ℕ} {j : ℕ} (p : ℕ) → IsPassRun code kd base t → owner p ≡ j → call.by base.party p
+      → {roles : Roles} → t.world.kept ≡ registries.Queues roles → lacks_role roles p start ≡ false
+      → Starts code (machine_kind kd) call base c m t owner j
+  as_party {t} p run mine by kept_is lacks =
+      record {
+        party = p;
+        mine = mine;
+        by = by;
+        first = rw named (first_is t.world.kept);
+        may = rw named (rows kd (first_is t.world.kept));
+      }
+    where
+      -- what the machine keeps refuses no begin of the call
+      kept_free : first_row (kept_rows start t.world.kept p) ≡ None
+      kept_free = subst (λ k. first_row (kept_rows start k p) ≡ None) (sym kept_is) (rw lacks refl)
 
-        -- nothing that is tested of the begin refuses it, on any kind of queue
-        rows : (k : QueueKind) → first_of (machine_kind k) base.capacity (Queues start) t.world.kept ≡ Some (call.flight c m)
-            → first_row (rows_as (machine_kind k) base.capacity t.world.kept p (Queues start)) ≡ None
-        rows IndexQueue first_is = rw first_is kept_free
-        rows queues.Overflow first_is = rw first_is kept_free
-        rows queues.Queue first_is = rw first_is kept_free
+      -- nothing that is tested of the begin refuses it, on any kind of queue
+      rows : (k : QueueKind) → first_of (machine_kind k) base.capacity (Queues start) t.world.kept ≡ Some (call.flight c m)
+          → first_row (rows_as (machine_kind k) base.capacity t.world.kept p (Queues start)) ≡ None
+      rows IndexQueue first_is = rw first_is kept_free
+      rows queues.Overflow first_is = rw first_is kept_free
+      rows queues.Queue first_is = rw first_is kept_free
 
-  module _ {C M E : Type 0} (call : Calling T C M E) (start : QueueStart T) (c : C) (m : M) (named : call.start ≡ Queues start)
-      (first_is : (kept : Registry T) → first_of (machine_kind kd) base.capacity (Queues start) kept ≡ Some (call.flight c m)) where
-    -- a call that needs no role begins as that of the party that the pass was last, or of
-    -- the pass's own number
-    pub plain_starts : ((o : Option ℕ) (p : ℕ) → IfSome o (λ q. q ≡ p) → call.by o p) → ((roles : Roles) (p : ℕ) → lacks_role roles p start ≡ false)
-        → (t : Trace T) (owner : ℕ → ℕ) (j : ℕ) → IsPassRun t → owner j ≡ j → IfSome base.party (λ p. owner p ≡ j)
-        → MadeByParties t owner j → Starts code (machine_kind kd) call base c m t owner j
-    plain_starts by_last free t owner j run self party sums = go base.party refl party
-      where
-        -- the machine keeps who holds the roles
-        kept : (roles : Roles) × (t.world.kept ≡ registries.Queues roles)
-        kept = kept_there t run
+  -- a call that needs no role begins as that of the party that the pass was last, or of
+  -- the pass's own number
+  pub plain_begins : ((o : Option ℕ) (p : ℕ) → IfSome o (λ q. q ≡ p) → call.by o p) → ((roles : Roles) (p : ℕ) → lacks_role roles p start ≡ false)
+      → (t : Trace T) (owner : ℕ → ℕ) (j : ℕ) → IsPassRun code kd base t → owner j ≡ j → IfSome base.party (λ p. owner p ≡ j)
+      → MadeByParties code kd base t owner j → Starts code (machine_kind kd) call base c m t owner j
+  plain_begins by_last free t owner j run self party sums = go base.party refl party
+    where
+      -- the machine keeps who holds the roles
+      kept : (roles : Roles) × (t.world.kept ≡ registries.Queues roles)
+      kept = kept_there code kd base t run
 
-        -- whether the pass was a party last or not, the call begins, as that party or as the one
-        -- of the pass's own number
-        go : (o : Option ℕ) → base.party ≡ o → IfSome o (λ p. owner p ≡ j) → Starts code (machine_kind kd) call base c m t owner j
-        go None party_is if_some =
-            as_party call start c m named first_is t owner j j run self
-            (by_last base.party j (subst (λ (z : Option ℕ). IfSome z (λ q. q ≡ j)) (sym party_is) tt)) kept.0 kept.1
-            (free kept.0 j)
-        go (Some p) party_is if_some =
-            as_party call start c m named first_is t owner j p run if_some
-            (by_last base.party p (subst (λ (z : Option ℕ). IfSome z (λ q. q ≡ p)) (sym party_is) refl)) kept.0 kept.1
-            (free kept.0 p)
+      -- whether the pass was a party last or not, the call begins, as that party or as the one
+      -- of the pass's own number
+      go : (o : Option ℕ) → base.party ≡ o → IfSome o (λ p. owner p ≡ j) → Starts code (machine_kind kd) call base c m t owner j
+      go None party_is if_some =
+          as_party j run self (by_last base.party j (subst (λ (z : Option ℕ). IfSome z (λ q. q ≡ j)) (sym party_is) tt)) kept.1 (free kept.0 j)
+      go (Some p) party_is if_some =
+          as_party p run if_some (by_last base.party p (subst (λ (z : Option ℕ). IfSome z (λ q. q ≡ p)) (sym party_is) refl)) kept.1 (free kept.0 p)
 
-    -- a call that needs a role begins as that of the pass's party which holds the role
-    pub role_starts : (role : Role) → ((o : Option ℕ) (p : ℕ) → call.by o p)
-        → ((roles : Roles) (p : ℕ) → holder role roles ≡ Some p → lacks_role roles p start ≡ false)
-        → HasRole role base.made
-        → (t : Trace T) (owner : ℕ → ℕ) (j : ℕ) → IsPassRun t → owner j ≡ j → IfSome base.party (λ p. owner p ≡ j)
-        → MadeByParties t owner j → Starts code (machine_kind kd) call base c m t owner j
-    role_starts role by_any free has t owner j run self party sums =
-        let queue = queue_goes_on t run in
-        let kept = kept_there t run in
-        let by_this_party = role_by owner j role t.events base.made queue.roles sums has in
-        let keeps : KeepsHolders (registries.Queues kept.0) t.events = subst (λ k. KeepsHolders k t.events) kept.1 queue.holders in
-        as_party call start c m named first_is t owner j by_this_party.0 run by_this_party.1 (by_any base.party by_this_party.0) kept.0 kept.1
-        (free kept.0 by_this_party.0 (held_there role kept.0 t.events keeps ∙ by_this_party.2))
+  -- a call that needs a role begins as that of the pass's party which holds the role
+  pub role_begins : (role : Role) → ((o : Option ℕ) (p : ℕ) → call.by o p)
+      → ((roles : Roles) (p : ℕ) → holder role roles ≡ Some p → lacks_role roles p start ≡ false)
+      → HasRole role base.made
+      → (t : Trace T) (owner : ℕ → ℕ) (j : ℕ) → IsPassRun code kd base t → owner j ≡ j → IfSome base.party (λ p. owner p ≡ j)
+      → MadeByParties code kd base t owner j → Starts code (machine_kind kd) call base c m t owner j
+  role_begins role by_any free has t owner j run self party sums =
+      let queue = queue_goes_on code kd base t run in
+      let kept = kept_there code kd base t run in
+      let by_this_party = role_by owner j role t.events base.made queue.roles sums has in
+      let keeps : KeepsHolders (registries.Queues kept.0) t.events = subst (λ k. KeepsHolders k t.events) kept.1 queue.holders in
+      as_party by_this_party.0 run by_this_party.1 (by_any base.party by_this_party.0) kept.1
+      (free kept.0 by_this_party.0 (held_there role kept.0 t.events keeps ∙ by_this_party.2))
+
+-- the same holds with the call and its first stage as explicit arguments
+module _ {T : Type 0} (code : Coding T) (kd : QueueKind) (base : View T) {C M E : Type 0} (call : Calling T C M E) (start : QueueStart T) (c : C) (m : M)
+    (named : call.start ≡ Queues start)
+    (first_is : (kept : Registry T) → first_of (machine_kind kd) base.capacity (Queues start) kept ≡ Some (call.flight c m)) where
+  pub plain_starts : ((o : Option ℕ) (p : ℕ) → IfSome o (λ q. q ≡ p) → call.by o p) → ((roles : Roles) (p : ℕ) → lacks_role roles p start ≡ false)
+      → (t : Trace T) (owner : ℕ → ℕ) (j : ℕ) → IsPassRun code kd base t → owner j ≡ j → IfSome base.party (λ p. owner p ≡ j)
+      → MadeByParties code kd base t owner j → Starts code (machine_kind kd) call base c m t owner j
+  plain_starts = plain_begins kd start named first_is
+
+  pub role_starts : (role : Role) → ((o : Option ℕ) (p : ℕ) → call.by o p)
+      → ((roles : Roles) (p : ℕ) → holder role roles ≡ Some p → lacks_role roles p start ≡ false)
+      → HasRole role base.made
+      → (t : Trace T) (owner : ℕ → ℕ) (j : ℕ) → IsPassRun code kd base t → owner j ≡ j → IfSome base.party (λ p. owner p ≡ j)
+      → MadeByParties code kd base t owner j → Starts code (machine_kind kd) call base c m t owner j
+  role_starts = role_begins kd start named first_is
 
 -- the machines of index queues
 abbrev pub index_queue_machines : {T : Type 0} → Coding T → LoneMachines T

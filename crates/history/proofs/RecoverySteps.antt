@@ -72,8 +72,20 @@ abbrev pub Keeps : {T : Type 0} → RecoverStage → T → T → Type 0
 Keeps (recovers.ChecksCount index count) value now = now ≡ value
 Keeps stage value now = Unit {0}
 
-module _ {T R : Type 0} (code : Coding T) (some : 0 < code.size) (words_in : R → List ℕ) (capacity : ℕ)
-    (c : Recovering T R) (same : c.capacity ≡ capacity) (p : ℕ) (given : DeadOwner) where
+-- A recovery at a stage, as a party makes it for a dead owner on a container, with the words of its room.
+pub record RecoveryCase (T R : Type 0) : Type 0 where
+  pub code : Coding T
+  pub some : 0 < code.size
+  pub words_in : R → List ℕ
+  pub capacity : ℕ  -- of the container
+  pub c : Recovering T R
+  pub same : c.capacity ≡ capacity
+  pub p : ℕ  -- the party
+  pub given : DeadOwner
+
+module _ {T R : Type 0} (case : RecoveryCase T R) where
+  open case use {code, some, words_in, capacity, c, same, p, given}
+
   -- whether the recovery may lock
   abbrev pub mode : ReleaseMode
   mode = given.mode
@@ -112,7 +124,7 @@ module _ {T R : Type 0} (code : Coding T) (some : 0 < code.size) (words_in : R �
   clothed es visits es_is = es_is ∙ sym (append-nil (written visits))
 
   -- what holds of a step after which all is equal holds of this one
-  so_then : (now : T) (r s : After (Recovering T R) ReleaseState) (xs ys : Visits) (es fs : List (Event T)) → r ≡ s → xs ≡ ys → es ≡ fs
+  so_then : (now : T) {r s : After (Recovering T R) ReleaseState} {xs ys : Visits} {es fs : List (Event T)} → r ≡ s → xs ≡ ys → es ≡ fs
       → RecoverGoes now ys fs s → RecoverGoes now xs es r
   so_then = grind arith
 
@@ -184,33 +196,33 @@ module _ {T R : Type 0} (code : Coding T) (some : 0 < code.size) (words_in : R �
       (if is_even count then goes_to c (recovers.Raises index raises.LoadsCounter) else goes_to c (recovers.Hides index count))
   freed_here now index count low (HasAsked value) before es odd es_is =
       let visits : Visits = (index, HasFreed (Some value) false false) ∷ before in
-      so_then now (if is_even count then goes_to c (recovers.Raises index raises.LoadsCounter) else goes_to c (recovers.Hides index count))
-      (goes_to c (recovers.Hides index count)) visits visits es es (rw odd refl) refl refl
+      so_then now {r = if is_even count then goes_to c (recovers.Raises index raises.LoadsCounter) else goes_to c (recovers.Hides index count)}
+      {s = goes_to c (recovers.Hides index count)} {xs = visits} {ys = visits} {es = es} {fs = es} (rw odd refl) refl refl
       ((same, low), ((value, before, refl), clothed es visits es_is))
   freed_here now index count low (HasFound None) before es even es_is =
       let visits : Visits = (index, HasFreed None false false) ∷ before in
-      so_then now (if is_even count then goes_to c (recovers.Raises index raises.LoadsCounter) else goes_to c (recovers.Hides index count))
-      (goes_to c (recovers.Raises index raises.LoadsCounter)) visits visits es es (rw even refl) refl refl
+      so_then now {r = if is_even count then goes_to c (recovers.Raises index raises.LoadsCounter) else goes_to c (recovers.Hides index count)}
+      {s = goes_to c (recovers.Raises index raises.LoadsCounter)} {xs = visits} {ys = visits} {es = es} {fs = es} (rw even refl) refl refl
       ((same, low), ((None, false, before, refl, λ e. refl), clothed es visits es_is))
   freed_here now index count low (HasFound (Some value)) before es never es_is = absurd never
   freed_here now index count low (HasFreed found hid lock) before es never es_is = absurd never
 
   -- after each step a recovery goes on or ends, and has written what its visits tell
-  pub recovers_so : (value now : T) (stage : RecoverStage) (k : ℕ) (visits : Visits) (es : List (Event T)) → Keeps stage value now
-      → RecoverIn code.size capacity mode stage → VisitsAt stage value visits → es ≡ written visits ++ told_yet p given.owner stage
+  pub recovers_so : (value now : T) (stage : RecoverStage) (k : ℕ) (visits : Visits) {es : List (Event T)} → Keeps stage value now
+      → RecoverIn code.size capacity mode stage → VisitsAt stage value visits × (es ≡ written visits ++ told_yet p given.owner stage)
       → StepLeads value now stage k visits es
   -- at its first loads a recovery writes nothing, or what it sees under the number of an element
-  recovers_so value now recovers.LoadsCounter k visits es keeps recover_in visits_at es_is = grind (arith, quiet, by_test, locked, comes_to, bare)
-  recovers_so value now (recovers.LoadsCell index) k visits es keeps recover_in visits_at es_is = grind (arith, quiet, by_test, next_to, bare)
-  recovers_so value now (recovers.LoadsCount index) k visits es keeps recover_in visits_at es_is = grind (arith, append-nil, sees, bare)
-  recovers_so value now (recovers.LoadsWord index count place) k visits es keeps recover_in visits_at es_is = grind (arith, quiet, by_test, nat_tests)
-  recovers_so value now (recovers.ChecksCount index count) k visits es keeps recover_in visits_at es_is =
+  recovers_so value now recovers.LoadsCounter k visits {es} keeps recover_in (visits_at, es_is) = grind (arith, quiet, by_test, locked, comes_to, bare)
+  recovers_so value now (recovers.LoadsCell index) k visits {es} keeps recover_in (visits_at, es_is) = grind (arith, quiet, by_test, next_to, bare)
+  recovers_so value now (recovers.LoadsCount index) k visits {es} keeps recover_in (visits_at, es_is) = grind (arith, append-nil, sees, bare)
+  recovers_so value now (recovers.LoadsWord index count place) k visits {es} keeps recover_in (visits_at, es_is) = grind (arith, quiet, by_test, nat_tests)
+  recovers_so value now (recovers.ChecksCount index count) k visits {es} keeps recover_in (visits_at, es_is) =
       grind (arith, by_bool, so_then, goes_to, clothed, bare, append-nil, sees)
-  recovers_so value now (recovers.Asks index count) k visits es keeps recover_in visits_at es_is =
+  recovers_so value now (recovers.Asks index count) k visits {es} keeps recover_in (visits_at, es_is) =
       grind (arith, by_bool, so_then, append-nil, next_to, bare, goes_to, told_odd)
   -- it empties the cell of the index: with the owner still there the index is freed, else the recovery goes
   -- on behind it
-  recovers_so value now (recovers.EmptiesCell index count) k visits es keeps recover_in visits_at es_is =
+  recovers_so value now (recovers.EmptiesCell index count) k visits {es} keeps recover_in (visits_at, es_is) =
       let came = visits_at.0 in
       let before = visits_at.1 in
       let visits_told : es ≡ written ((index, told came) ∷ before) = es_is
@@ -219,27 +231,28 @@ module _ {T R : Type 0} (code : Coding T) (some : 0 < code.size) (words_in : R �
       ∙ ap (λ zs. written before ++ zs) (told_then index count came visits_at.3))) in
       -- the cell had the owner: the index is freed, and its value is hidden next, where one stood there
       by_bool (k == given.owner)
-      (λ e. so_then now (recover_takes code.size c (recovers.EmptiesCell index count) given k)
-      (if is_even count then goes_to c (recovers.Raises index raises.LoadsCounter) else goes_to c (recovers.Hides index count))
-      (visits_after given.owner (recovers.EmptiesCell index count) k value visits) ((index, freed came) ∷ before)
-      (es ++ wrote value (recovers.EmptiesCell index count) k) (es ++ FreedOf p index given.owner ∷ [])
+      (λ e. so_then now {r = recover_takes code.size c (recovers.EmptiesCell index count) given k}
+      {s = if is_even count then goes_to c (recovers.Raises index raises.LoadsCounter) else goes_to c (recovers.Hides index count)}
+      {xs = visits_after given.owner (recovers.EmptiesCell index count) k value visits} {ys = (index, freed came) ∷ before}
+      {es = es ++ wrote value (recovers.EmptiesCell index count) k} {fs = es ++ FreedOf p index given.owner ∷ []}
       (rw e refl) (rw e (ap (with_last freed) visits_at.2)) (rw e refl)
       (freed_here now index count recover_in came before (es ++ FreedOf p index given.owner ∷ []) visits_at.3
       (further index (told came) (freed came) before es (FreedOf p index given.owner ∷ []) visits_told (freed_then index count came visits_at.3))))
       -- the cell had another number: the answer yes is told, and nothing more is written of the index
-      (λ e. so_then now (recover_takes code.size c (recovers.EmptiesCell index count) given k) (recover_comes_to c (index + 1))
-      (visits_after given.owner (recovers.EmptiesCell index count) k value visits) ((index, told came) ∷ before)
-      (es ++ wrote value (recovers.EmptiesCell index count) k) es
+      (λ e. so_then now {r = recover_takes code.size c (recovers.EmptiesCell index count) given k} {s = recover_comes_to c (index + 1)}
+      {xs = visits_after given.owner (recovers.EmptiesCell index count) k value visits} {ys = (index, told came) ∷ before}
+      {es = es ++ wrote value (recovers.EmptiesCell index count) k} {fs = es}
       (rw e refl) (rw e (ap (with_last told) visits_at.2)) (rw e (append-nil es))
       (next_to now index recover_in ((index, told came) ∷ before) es visits_told))
   -- it hides the value, unless the element's number has changed since
-  recovers_so value now (recovers.Hides index count) k visits es keeps recover_in visits_at es_is =
+  recovers_so value now (recovers.Hides index count) k visits {es} keeps recover_in (visits_at, es_is) =
       let gone = visits_at.0 in
       let before = visits_at.1 in
       let first : Came T = HasFreed (Some gone) false false in
       let next : Came T = HasFreed (Some gone) (k == count) false in
-      so_then now (goes_to c (recovers.Raises index raises.LoadsCounter)) (goes_to c (recovers.Raises index raises.LoadsCounter))
-      (with_last (hides (k == count)) visits) ((index, next) ∷ before) (es ++ (hidden p index count k ++ [])) (es ++ (hidden p index count k ++ [])) refl
+      so_then now {r = goes_to c (recovers.Raises index raises.LoadsCounter)} {s = goes_to c (recovers.Raises index raises.LoadsCounter)}
+      {xs = with_last (hides (k == count)) visits} {ys = (index, next) ∷ before}
+      {es = es ++ (hidden p index count k ++ [])} {fs = es ++ (hidden p index count k ++ [])} refl
       (ap (with_last (hides (k == count))) visits_at.2) refl (
         (same, recover_in),
         (
@@ -249,31 +262,32 @@ module _ {T R : Type 0} (code : Coding T) (some : 0 < code.size) (words_in : R �
         ),
       )
   -- a raise and a count of the lock write nothing
-  recovers_so value now (recovers.Raises index raise) k visits es keeps recover_in visits_at es_is = grind (arith, quiet, raised)
-  recovers_so value now (recovers.Locks index (locks.Counts count)) k visits es keeps recover_in visits_at es_is = grind (arith, quiet, counted, lock_on)
+  recovers_so value now (recovers.Raises index raise) k visits {es} keeps recover_in (visits_at, es_is) = grind (arith, quiet, raised)
+  recovers_so value now (recovers.Locks index (locks.Counts count)) k visits {es} keeps recover_in (visits_at, es_is) = grind (arith, quiet, counted, lock_on)
   -- with the exchange of the counter the last visit has locked the container, unless the
   -- counter has changed since
-  recovers_so value now (recovers.Locks index (locks.ExchangesCounter counter)) k visits es keeps recover_in visits_at es_is =
+  recovers_so value now (recovers.Locks index (locks.ExchangesCounter counter)) k visits {es} keeps recover_in (visits_at, es_is) =
       let found = visits_at.0 in
       let hid = visits_at.1 in
       let before = visits_at.2 in
       let visits_then : Visits = (index, HasFreed found hid true) ∷ before in
       by_bool (k == counter)
-      (λ e. so_then now (recover_takes code.size c (recovers.Locks index (locks.ExchangesCounter counter)) given k) (recover_comes_to c (index + 1))
-      (visits_after given.owner (recovers.Locks index (locks.ExchangesCounter counter)) k value visits) visits_then
-      (es ++ wrote value (recovers.Locks index (locks.ExchangesCounter counter)) k) (es ++ Locked p ∷ [])
+      (λ e. so_then now {r = recover_takes code.size c (recovers.Locks index (locks.ExchangesCounter counter)) given k} {s = recover_comes_to c (index + 1)}
+      {xs = visits_after given.owner (recovers.Locks index (locks.ExchangesCounter counter)) k value visits} {ys = visits_then}
+      {es = es ++ wrote value (recovers.Locks index (locks.ExchangesCounter counter)) k} {fs = es ++ Locked p ∷ []}
       (rw e refl) (rw e (ap (with_last came_locked) visits_at.3)) (rw e refl)
       (next_to now index recover_in.1 visits_then (es ++ Locked p ∷ [])
       (further index (HasFreed found hid false) (HasFreed found hid true) before es (Locked p ∷ [])
       (bare es visits es_is ∙ ap written visits_at.3) (locked_then index found hid))))
-      (λ e. so_then now (recover_takes code.size c (recovers.Locks index (locks.ExchangesCounter counter)) given k) (recover_locked c index (GoOn first_lock))
-      (visits_after given.owner (recovers.Locks index (locks.ExchangesCounter counter)) k value visits) visits
-      (es ++ wrote value (recovers.Locks index (locks.ExchangesCounter counter)) k) es
+      (λ e. so_then now {r = recover_takes code.size c (recovers.Locks index (locks.ExchangesCounter counter)) given k}
+      {s = recover_locked c index (GoOn first_lock)}
+      {xs = visits_after given.owner (recovers.Locks index (locks.ExchangesCounter counter)) k value visits} {ys = visits}
+      {es = es ++ wrote value (recovers.Locks index (locks.ExchangesCounter counter)) k} {fs = es}
       (rw e refl) (rw e refl) (rw e (append-nil es)) ((same, (recover_in.0, recover_in.1, tt)), (visits_at, es_is)))
   -- at the end a recovery has written what its visits tell
-  recovers_so value now recovers.LoadsCounterAgain k visits es keeps recover_in visits_at es_is =
+  recovers_so value now recovers.LoadsCounterAgain k visits {es} keeps recover_in (visits_at, es_is) =
       quiet now visits es (recover_takes code.size c recovers.LoadsCounterAgain given k) ((same, tt), (tt, es_is))
-  recovers_so value now (recovers.AddsChange state) k visits es keeps recover_in visits_at es_is = append-nil es ∙ bare es visits es_is
+  recovers_so value now (recovers.AddsChange state) k visits {es} keeps recover_in (visits_at, es_is) = append-nil es ∙ bare es visits es_is
 
   -- at each stage there are visits that a recovery may have there
   pub some_visits : (stage : RecoverStage) (value : T) → (visits : Visits) × VisitsAt stage value visits

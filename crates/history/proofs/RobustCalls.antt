@@ -90,7 +90,7 @@ module _ {T : Type 0} (code : Coding T) (owner : ℕ) where
         standing = (refl, tt);
         some = any;
         first = rw named refl;
-        starts = robust_starts code v (takes_owned owner) (Acquire owner) (first_acquire v.capacity) m refl (λ o p h. h) (λ kept. rw named refl)
+        starts = robust_starts (Acquire owner) refl (λ o p h. h) (λ kept. rw named refl)
             (λ dead none. rw (none owner) refl);
         wrote = λ p new. refl;
       })
@@ -157,7 +157,7 @@ module _ {T : Type 0} (code : Coding T) (given : GiveBack) where
         standing = (refl, low, tt);
         some = any;
         first = rw named refl;
-        starts = robust_starts code v (gives_owned given) (Release given.index given.owner given.mode) (first_release v.capacity) m refl (λ o p h. h)
+        starts = robust_starts (Release given.index given.owner given.mode) refl (λ o p h. h)
             (λ kept. rw named refl) (λ dead none. rw (past, none given.owner) refl);
         wrote = λ p new. refl;
       })

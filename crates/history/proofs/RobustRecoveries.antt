@@ -30,7 +30,7 @@ use Rattle.history.specs.Robust.{RecoverIn, Came, HasAsked, WasTold, HasFreed, H
 use Rattle.history.specs.Robust.{came_to, HasCome, VisitsAt, visits_locked, visits_taken, visits_after, wrote_by}
 use Rattle.history.specs.Robust.{wrote_now, recovers_owned}
 use Rattle.history.specs.Stages.{opened, IsFirst, IsUnderWay, Ends, AtAsked}
-use Rattle.history.proofs.CallsIn.{AsksFor, Driven, KeepsSo}
+use Rattle.history.proofs.CallsIn.{AsksFor, Driven, KeepsSo, each_tells, last_tells}
 use Rattle.history.proofs.Decisions.{IsAskingOf, keeps_asked}
 use Rattle.history.proofs.Drives.{goes, acts_alone, lone_machines}
 use Rattle.history.proofs.RobustParts.{LockOn, lock_on}
@@ -218,7 +218,7 @@ module _ {T : Type 0} (code : Coding T) (mode : ReleaseMode) where
   as_recovered visits (Done e) = refl
 
   -- after a step the recovery stands, and has written, as the laws of a call ask
-  goes_so : (capacity p : ℕ) (c : Recovering) (n : ℕ) (es : List (Event T)) (visits : List Visit) (r : After Recovering ReleaseState)
+  goes_so : {capacity : ℕ} (p : ℕ) (c : Recovering) (n : ℕ) {es : List (Event T)} (visits : List Visit) {r : After Recovering ReleaseState}
       → (h : (recovers_owned {T = T} mode).stands capacity c) → VisitsAt capacity mode c.stage visits → es ≡ wrote_by p visits ++ wrote_now p c.stage
       → after c n ≡ r → RecoverGoes capacity c h.0 p mode (es ++ recover_effects p c.stage n) (visits_after c visits n) r
   goes_so = grind (arith, recovers_so)
@@ -241,7 +241,7 @@ module _ {T : Type 0} (code : Coding T) (mode : ReleaseMode) where
   stands_so : (capacity : ℕ) (c d : Recovering) (n : ℕ) → (recovers_owned {T = T} mode).stands capacity c → after c n ≡ GoOn d
       → (recovers_owned {T = T} mode).stands capacity d
   stands_so capacity c d n h leads =
-      (let some = some_visits capacity c.stage in (goes_so capacity 0 c n (wrote_by 0 some.0 ++ wrote_now 0 c.stage) some.0 (GoOn d) h some.1 refl leads).0)
+      (let some = some_visits capacity c.stage in (goes_so 0 c n some.0 h some.1 refl leads).0)
 
   -- the driver's recovery, if the flight is one of a recovery of a robust set
   abbrev recovery_of : Recovering → Flight T → Recovering
@@ -285,9 +285,11 @@ module _ {T : Type 0} (code : Coding T) (mode : ReleaseMode) where
                     finds = λ c m n small t. tt;
                     leaves = λ c a n t e. absurd (cc);
                     -- what a step writes, and what the last step writes, is what the visits tell
-                    tells = λ capacity p from c d m n es h wrote e new. (
-                        let so = goes_so capacity p c n es m (GoOn d) h (wrote new).0 (wrote new).1 e in (so.1, so.2));
-                    tells_all = λ capacity p from c end m n es h skip wrote e still new. goes_so capacity p c n es m (Done end) h (wrote new).0 (wrote new).1 e;
+                    tells = each_tells robust_effects driven (λ step d leads new. (
+                        let wrote = step.wrote new in
+                        let so = goes_so step.p step.c step.n step.m step.stands wrote.0 wrote.1 leads in (so.1, so.2)));
+                    tells_all = last_tells robust_effects driven (λ step end skip leads new. (
+                        let wrote = step.wrote new in goes_so step.p step.c step.n step.m step.stands wrote.0 wrote.1 leads));
                   };
               never = λ c n. refl;
               -- its stage can be told from its flight, and an answer tells no lists of visits apart
@@ -368,18 +370,18 @@ module _ {T : Type 0} (code : Coding T) (mode : ReleaseMode) where
   going_same = grind arith
 
   -- a view has one list of visits of a recovery, about to begin or under way
-  same_there : (base other v : View T) (c : Recovering) (m k : List Visit) → base.going ≡ None → other.going ≡ None → RecoveryStands base v c m
+  same_there : {base other v : View T} {c : Recovering} {m k : List Visit} → base.going ≡ None → other.going ≡ None → RecoveryStands base v c m
       → RecoveryStands other v c k
       → m ≡ k
-  same_there base other v c m k idle too (inl (inl a)) (inl (inl b)) = none_first a ∙ sym (none_first b)
-  same_there base other v c m k idle too (inl (inl a)) (inl (inr b)) = clash base v _ a.is idle b.going
-  same_there base other v c m k idle too (inl (inl a)) (inr b) = clash base v _ a.is idle b.before.going
-  same_there base other v c m k idle too (inl (inr a)) (inl (inl b)) = clash other v _ b.is too a.going
-  same_there base other v c m k idle too (inl (inr a)) (inl (inr b)) = under_same idle too a b
-  same_there base other v c m k idle too (inl (inr a)) (inr b) = grind (arith, not_both, number_of, going_same)
-  same_there base other v c m k idle too (inr a) (inl (inl b)) = clash other v _ b.is too a.before.going
-  same_there base other v c m k idle too (inr a) (inl (inr b)) = grind (arith, not_both, number_of, going_same)
-  same_there base other v c m k idle too (inr a) (inr b) =
+  same_there {base} {other} {v} {c} {m} {k} idle too (inl (inl a)) (inl (inl b)) = none_first a ∙ sym (none_first b)
+  same_there {base} {other} {v} {c} {m} {k} idle too (inl (inl a)) (inl (inr b)) = clash base v _ a.is idle b.going
+  same_there {base} {other} {v} {c} {m} {k} idle too (inl (inl a)) (inr b) = clash base v _ a.is idle b.before.going
+  same_there {base} {other} {v} {c} {m} {k} idle too (inl (inr a)) (inl (inl b)) = clash other v _ b.is too a.going
+  same_there {base} {other} {v} {c} {m} {k} idle too (inl (inr a)) (inl (inr b)) = under_same idle too a b
+  same_there {base} {other} {v} {c} {m} {k} idle too (inl (inr a)) (inr b) = grind (arith, not_both, number_of, going_same)
+  same_there {base} {other} {v} {c} {m} {k} idle too (inr a) (inl (inl b)) = clash other v _ b.is too a.before.going
+  same_there {base} {other} {v} {c} {m} {k} idle too (inr a) (inl (inr b)) = grind (arith, not_both, number_of, going_same)
+  same_there {base} {other} {v} {c} {m} {k} idle too (inr a) (inr b) =
       let same = going_same v b.asking a.asking b.room a.room b.before.going a.before.going in
       let rooms = under_same idle too a.before
       (subst (λ (z : Recovering). IsUnderWay code kinds.Robust (recovers_owned mode) other v z b.room) same b.before) in
@@ -405,25 +407,27 @@ module _ {T : Type 0} (code : Coding T) (mode : ReleaseMode) where
       → v.capacity ≡ key → base.going ≡ None → RecoveryStands base v c m
       → Owes (λ (z : View T). z.asked) (IsMachine code kinds.Robust key) words slots id (Tells c) (recover_want c) (v, [])
   recover_tells base v c m key words slots id wide known idle recovery_stands =
-      go (recover_want c) (recover_keeps base v c m key words slots id wide known recovery_stands)
+      let keeps_here = recover_keeps base v c m key words slots id in
+      go (recover_want c) (keeps_here wide known recovery_stands)
     where
       -- what a step tells of one list of visits it tells of each, since there is only one
       all : (n : ℕ) (w : View T) → ToldOfVisits c m v n w → Tells c v n w
       all n w told_so = (
         told_so.0,
         λ other visits too there. (
-            let same = same_there base other v c m visits idle too recovery_stands there in
+            let same = same_there idle too recovery_stands there in
             subst (λ vs. NextKnown (λ (z : View T). z.capacity) RecoveryStands RecoveryEnded other (after c n) (visits_after c vs n) w) same
             (told_so.1 other (subst (RecoveryStands other v c) (sym same) there))),
       )
 
-      -- whatever the recovery wants next, what it is told as `ToldSo` says it is told as `Tells` says
+      -- whatever the recovery wants next, a step of which `ToldOfVisits` holds is one of which `Tells` holds
       go : (w : Want (Unit {0})) → Owes (λ (z : View T). z.asked) (IsMachine code kinds.Robust key) words slots id (ToldOfVisits c m) w (v, [])
           → Owes (λ (z : View T). z.asked) (IsMachine code kinds.Robust key) words slots id (Tells c) w (v, [])
       go (wants.Ask a) owes = (
         owes.0,
-        λ s r long there small. (let told_there = owes.1 s r long there small in
-            (told_there.0, told_there.1, told_there.2, told_there.3, (all _ told_there.0 told_there.4.0, told_there.4.1, told_there.4.2))),
+        λ s r long there small. (
+            let (w, act, valid, holds, (told, counts, carried)) = owes.1 s r long there small in
+            (w, act, valid, holds, (all _ w told, counts, carried))),
       )
       go (wants.Question q) owes = all 0 v owes
       go wants.Nothing owes = all 0 v owes

@@ -92,6 +92,10 @@ module _ {T : Type 0} (code : Coding T) (capacity : ℕ) where
       let there = stands_there (family_by Word world_now.coding world_now.capacity) t is_sound p here.x here.since flight here.found here.doing in
       let done : List SetAct = set_acts_of p is_sound.state.events in
       let mine : FlightAt world_now.capacity done here.x.start flight = there.at in
+      -- what the laws of the set say of its calls on this machine
+      let beside = beside_of world_now.words world_now.kept world_now.latest p in
+      let writes_here = writes_there world_now.coding world_now.words beside world_now.capacity p in
+      let goes_here = goes_there world_now.coding world_now.words beside world_now.capacity p in
       record {
         -- nothing refuses the step, and its effects are of this party
         may = no_rows t robust world_now.capacity done here.x.start flight mine;
@@ -100,15 +104,11 @@ module _ {T : Type 0} (code : Coding T) (capacity : ℕ) where
         writes = λ x n found. (
             let same : here.x ≡ x = (let both : Some here.x ≡ Some x = sym here.found ∙ found in cc) in
             subst (λ (z : Party T). (step_in world_now p z flight n).wrote ≡ robust_effects p flight n) same
-            (writes_there world_now.coding world_now.words
-            (beside_of world_now.words world_now.kept world_now.latest p) world_now.capacity p n done world_now.kept
-            is_sound.state here.x.start flight is_sound.fit.kept mine));
+            (writes_here n done world_now.kept is_sound.state here.x.start flight is_sound.fit.kept mine));
         goes = λ x n found. (
             let same : here.x ≡ x = (let both : Some here.x ≡ Some x = sym here.found ∙ found in cc) in
             subst (λ (z : Party T). (step_in world_now p z flight n).after ≡ after_of world_now.coding flight n) same
-            (goes_there world_now.coding world_now.words
-            (beside_of world_now.words world_now.kept world_now.latest p) world_now.capacity p n done world_now.kept
-            is_sound.state here.x.start flight is_sound.fit.kept mine));
+            (goes_here n done world_now.kept is_sound.state here.x.start flight is_sound.fit.kept mine));
       }
 
   -- robust index sets keep the laws of a kind: what their steps write, and where they lead
@@ -149,21 +149,22 @@ module _ {T : Type 0} (code : Coding T) (base : View T) where
             (all_live code base.capacity t is_on) owner,
       )
 
+module _ {T : Type 0} {code : Coding T} {base : View T} where
   -- each call that the set has may, as the party that the pass was last
-  module _ {C M E : Type 0} (call : Calling T C M E) (start : RobustStart) (c : C) (m : M) (named : call.start ≡ Robust start)
+  module _ {C M E : Type 0} {call : Calling T C M E} (start : RobustStart) {c : C} {m : M} (named : call.start ≡ Robust start)
       (by_last : (o : Option ℕ) (p : ℕ) → IfSome o (λ q. q ≡ p) → call.by o p)
       (first_is : (kept : Registry T) → first_of kinds.Robust base.capacity (Robust start) kept ≡ Some (call.flight c m))
       (free : (dead : List ℕ) → ((owner : ℕ) → has_died owner dead ≡ false) → first_row (call_rows base.capacity dead start) ≡ None) where
     -- a call begins for a party of the pass, which the machine finds without a call under way
-    pub robust_starts : (t : Trace T) (owner : ℕ → ℕ) (j : ℕ) → IsPassRun t → owner j ≡ j → IfSome base.party (λ p. owner p ≡ j)
+    pub robust_starts : (t : Trace T) (owner : ℕ → ℕ) (j : ℕ) → IsPassRun code base t → owner j ≡ j → IfSome base.party (λ p. owner p ≡ j)
         → ((f : Event T → ℕ) → sum_by f base.made ≡ sum_by (owned owner j f) t.events)
         → Starts code kinds.Robust call base c m t owner j
     robust_starts t owner j run self party sums =
-        starts_by_last code kinds.Robust call base c m t owner j by_last self party first_here may
+        starts_by_last by_last self party first_here may
       where
         -- in an open run the machine keeps nobody as dead
         kept : (dead : List ℕ) × (t.world.kept ≡ registries.Owners dead) × ((owner : ℕ) → has_died owner dead ≡ false)
-        kept = kept_there t run
+        kept = kept_there code base t run
 
         -- the model has this call
         is_some : is_none (first_of kinds.Robust base.capacity (Robust start) t.world.kept) ≡ false

@@ -36,7 +36,7 @@ module _ {T : Type 0} (owner : ℕ → ℕ) (j : ℕ) where
   pub role_by : (role : Role) (all made : List (Event T)) → Each GrantsRight all
       → ((f : Event T → ℕ) → sum_by f made ≡ sum_by (owned owner j f) all) → HasRole role made
       → (p : ℕ) × (owner p ≡ j) × (fold (role_after role) None all ≡ Some p)
-  role_by role all made each sums has = held_by_one (takes role) (gives role) (role_after role) owner j all made (all_move role all each) sums has
+  role_by role all made each sums has = held_by_one (takes role) (gives role) (role_after role) owner j made (all_move role all each) sums has
 
 -- a pass has given back each acquire of the role that it made, or has the role once
 pub role_once : {T : Type 0} (role : Role) (v : View T) → Each GrantsRight v.seen → IsOfParties v

@@ -89,7 +89,7 @@ module _ {T : Type 0} {K : SetOutline T} (laws : (code : Coding T) (c : ℕ) →
       effects_own p (effects_of p flight old) ((laws code c).effects p old wrote start flight flight_at)
   own_there c p old wrote start flight flight_at = absurd flight_at
 
-  -- each step of a call under way leads where the set's table says
+  -- No row refuses a step of a call under way. It leads where the set's table says, and its effects are those of the call and of its party.
   goes_on : (t : Trace T) → IsSetRun t → (p : ℕ) (start : Start T) (flight : Flight T)
       → call_in t.world p ≡ Some (start, flight) → CallGoesOn code K.kind capacity words set_effects t p flight
   goes_on t set p start flight call_is =
@@ -155,7 +155,7 @@ module _ {T : Type 0} {K : SetOutline T} (laws : (code : Coding T) (c : ℕ) →
       → ((f : Event T → ℕ) → sum_by f base.made ≡ sum_by (owned owner j f) t.events)
       → Starts code K.kind call base c m t owner j
   set_starts {C} {M} {E} {call = call} {base = base} {c = c} {m = m} size by first may t owner j run self party sums =
-      starts_by_last code K.kind call base c m t owner j by self party first_here may_here
+      starts_by_last by self party first_here may_here
     where
       -- the machine keeps nothing besides its words
       kept : t.world.kept ≡ (opening_of K.kind).kept capacity

@@ -10,20 +10,22 @@ use lib.ListN.{get_elem?}
 use Rattle.atomic_table.specs.Table.{State}
 use Rattle.atomic_table.specs.Table as table
 use Rattle.steps.specs.declared.ask.After.TheVariants.{Done}
+use Rattle.steps.specs.declared.ask.Want.TheVariants as wants
 use Rattle.threaded.specs.Driver.{Told}
 use Rattle.history.specs.declared.view.View.{View}
 use Rattle.history.specs.Known.{events_by}
 use Rattle.history.specs.History.{IsRun, IsMachine, Continues, Fits, IsLate, call_in, refusal_as, HasAsked, steps_of_run}
-use Rattle.history.specs.Settled.{IsResting, Settles, SettledFrom, AtWaiting, AtRested, EndsSettled, EndsRested}
+use Rattle.history.specs.Settled.{IsResting, Settles, SettledFrom, AtWaiting, EndsSettled}
 use Rattle.history.proofs.Known.{by_more, within}
 use Rattle.history.proofs.AllSeen.{known_whole}
 use Rattle.history.proofs.Reached.{MayDecide, decide_as}
 use Rattle.history.proofs.Calls.{stands, flight_is}
-use Rattle.history.proofs.Turns.{Machines, Between, Answering, at_first, heard, own_heard, decided, decided_at, decided_took, made_between, turning_at}
+use Rattle.history.proofs.Turns.{Machines, Between, at_first, made_between, turning_at}
+use Rattle.history.proofs.Answering.{Answering, heard, own_heard, decided, decided_at, decided_took}
 use Rattle.history.proofs.Asked.{Gains, gains_has, asked_at}
 use Rattle.history.proofs.Passes.{set_same}
 use Rattle.history.proofs.OneRun.{continues_all}
-use Rattle.history.proofs.Steps.{view_after, settle}
+use Rattle.history.proofs.Steps.{view_after, settle_so}
 use Rattle.history.proofs.CallsIn.{AsksFor, no_rest, same_rest, none_after}
 
 -- a number is at most one more
@@ -79,7 +81,7 @@ module _ {T : Type 0} (hearing : Hearing T) where
     -- the machine stands at the table's words, and the seat has gained nothing yet
     between : Between code kind key r.owner s id h.party [] r.trace
     between =
-        at_first code kind key s id h.party r [] mine (here.self h.some)
+        at_first id h.party r [] mine (here.self h.some)
         (λ q of_id ne. here.idle q of_id
         (λ e. (let both : ◌≡◌ {A = Option ℕ} (Some h.party) (Some q) = sym h.mine ∙ e in let same : h.party ≡ q = cc in ne (sym same))))
         (λ x there f. (
@@ -131,7 +133,7 @@ module _ {T : Type 0} (hearing : Hearing T) where
 
     -- the view of the seat once the machine has been handed the answer no, which ends its call
     abbrev pub view_settled : View T
-    view_settled = view_after code kind key id h.party between_then.one.turns v.asked v.aside v gained_then u_then
+    view_settled = view_after h.party between_then.one.turns v.asked v.aside v gained_then u_then
 
     -- the table with the seat's view after the answer
     abbrev pub table_settled : State (Unit {0}) (View T)
@@ -156,7 +158,7 @@ module _ {T : Type 0} (hearing : Hearing T) where
 
     -- the table with this view is a machine
     pub machine_settled : IsMachine code kind key table_settled
-    machine_settled = settle code kind key id h.party r.owner v.asked v.aside s.words s v gained_then u_then at h.some between_then gains_settled
+    machine_settled = settle_so s at h.some between_then gains_settled
 
     -- an answer is no look of a state, so the state of the party stays
     state_stays : view_settled.state ≡ v.state
@@ -230,8 +232,8 @@ module _ {T : Type 0} (hearing : Hearing T) where
           history = record { trace = u_then; run = run_then; is = refl };
           ran =
               subst (λ n. Continues code kind n v view_settled) (sym known)
-              (continues_all code kind key id between_then.one at between_then.run refl refl refl has_settled);
-          all = λ all f. made_between code kind key r.owner id h.party gained_then u_then s between_then v at all f;
+              (continues_all id between_then.one at between_then.run refl refl refl has_settled);
+          all = made_between between_then v at;
           parties = record { owner = r.owner; seat = id; sums = λ f. sum_by-append f v.made gained_then ∙ between_then.made_own v at f };
         }
 
@@ -254,15 +256,27 @@ module _ {T : Type 0} (hearing : Hearing T) where
 
   -- ---- a call begins after one that rests
 
-  -- Stage and Over say where the call stands and how it has ended, Begins where it may begin; none
-  -- stands there already, as apart says
-  module _ {C M E : Type 0} (want : C → Want (Unit {0})) (after : C → ℕ → After C E) (kept : C → M → ℕ → M)
-      (Stage : View T → View T → C → M → Type 0) (Over : View T → E → M → View T → Type 0)
-      (may : C → Type 0) (keeps : KeepsWhere code kind size_of may Stage Over want after kept)
-      (Begins : View T → C → M → Type 0) (asks : (v : View T) (c : C) (m : M) → Begins v c m → AsksFor (size_of v.capacity) (want c))
-      (stays : (v w : View T) (c : C) (m : M) → Settles code kind v w → Begins v c m → Begins w c m)
-      (first : (v : View T) (c : C) (m : M) → Begins v c m → v.going ≡ None → v.other ≡ [] → 0 < v.share.part → Stage v v c m)
-      (apart : (base v : View T) (c : C) (m : M) → IsResting code v → Begins v c m → Stage base v c m → ⊥) where
+  -- A call of the driver that may begin on a pass whose last call rests: what it wants, and how it goes on.
+  pub record NextCall (C M E : Type 0) : Type 1 where
+    pub want : C → Want (Unit {0})
+    pub after : C → ℕ → After C E
+    pub kept : C → M → ℕ → M
+    -- where it stands and how it has ended, and the stages at which its steps keep the rule
+    pub Stage : View T → View T → C → M → Type 0
+    pub Over : View T → E → M → View T → Type 0
+    pub may : C → Type 0
+    pub keeps : KeepsWhere code kind size_of may Stage Over want after kept
+    -- where it may begin: at a word of the structure, also in the view in which the last call has ended
+    pub Begins : View T → C → M → Type 0
+    pub asks : (v : View T) (c : C) (m : M) → Begins v c m → AsksFor (size_of v.capacity) (want c)
+    pub stays : (v w : View T) (c : C) (m : M) → Settles code kind v w → Begins v c m → Begins w c m
+    -- there it is at its first stage, at which it is on no pass whose call rests
+    pub first : (v : View T) (c : C) (m : M) → Begins v c m → v.going ≡ None → v.other ≡ [] → 0 < v.share.part → Stage v v c m
+    pub apart : (base v : View T) (c : C) (m : M) → IsResting code v → Begins v c m → Stage base v c m → ⊥
+
+  module _ {C M E : Type 0} (next_call : NextCall C M E) where
+    open next_call use {want, after, kept, Stage, Over, may, keeps, Begins, asks, stays, first, apart}
+
     -- the call waits to begin, or is at `Stage`, counted from the view in which the last one had ended
     abbrev StandsRested : View T → View T → C → M → Type 0
     StandsRested base v c m = AtWaiting code kind Begins Stage base v c m
@@ -285,12 +299,29 @@ module _ {T : Type 0} (hearing : Hearing T) where
         → NextKnown (λ (z : View T). z.capacity) Stage Over from a m w → NextKnown (λ (z : View T). z.capacity) StandsRested OverRested base a m w
     onward = grind arith
 
-    -- a call that is under way already keeps the rule by its own step, counted from the view
-    -- from which it began
+    -- what a step tells of a call that is under way already, counted from the view from which it began, it tells
+    -- where the last call may rest: the call does not wait to begin
+    told_begun : (base₀ v : View T) (c : C) (m : M) → Stage base₀ v c m → (n : ℕ) (w : View T) → ToldStage c m v n w → ToldRested c m v n w
+    told_begun base₀ v c m stage n w told = (told.0, λ base rested. go base rested)
+      where
+        go : (base : View T) → StandsRested base v c m → NextKnown (λ (z : View T). z.capacity) StandsRested OverRested base (after c n) (kept c m n) w
+        go base (inl begun) = onward base begun.from begun.settled (after c n) (kept c m n) w (told.1 begun.from begun.stage)
+        go base (inr waits) =
+            let resting = subst (λ z. IsResting code z) (sym waits.is) waits.resting in
+            absurd (apart base₀ v c m resting (subst (λ (z : View T). Begins z c m) (sym waits.is) waits.first) stage)
+
+    -- so such a call keeps the rule by its own step
     begun_keeps : (base₀ v : View T) (c : C) (m : M) (key words slots id : ℕ) → Stage base₀ v c m → (w : Want (Unit {0}))
         → Owes (λ (z : View T). z.asked) (IsMachine code kind key) words slots id (ToldStage c m) w (v, [])
         → Owes (λ (z : View T). z.asked) (IsMachine code kind key) words slots id (ToldRested c m) w (v, [])
-    begun_keeps = grind arith
+    begun_keeps base₀ v c m key words slots id stage (wants.Ask a) owes = (
+      owes.0,
+      λ s r long at small. (
+          let (w, act, valid, holds, (told, counts, carried)) = owes.1 s r long at small in
+          (w, act, valid, holds, (told_begun base₀ v c m stage _ w told, counts, carried))),
+    )
+    begun_keeps base₀ v c m key words slots id stage (wants.Question q) owes = told_begun base₀ v c m stage 0 v owes
+    begun_keeps base₀ v c m key words slots id stage wants.Nothing owes = told_begun base₀ v c m stage 0 v owes
 
     -- who has still to begin
     module _ {v : View T} {c : C} {m : M} (key words slots id : ℕ) (wide : words ≡ size_of key + 1) (known : v.capacity ≡ key) (h : IsResting code v)
@@ -309,7 +340,8 @@ module _ {T : Type 0} (hearing : Hearing T) where
 
       -- the call is at its first stage in the view in which the last one had ended
       first_then : (rests : Rests v key id) → Stage (settled rests) (settled rests) c m
-      first_then rests = (let x = settles rests in first (settled rests) c m (stays v (settled rests) c m x begins) x.idle x.fresh h.some)
+      first_then rests =
+          let ended = settles rests in first (settled rests) c m (stays v (settled rests) c m ended begins) ended.idle ended.fresh h.some
 
       -- what its first step tells of that view, it tells of the view in which the last call rested
       told_first : (rests : Rests v key id) (n : ℕ) (w : View T) → ToldStage c m (settled rests) n w → ToldRested c m v n w
@@ -318,7 +350,7 @@ module _ {T : Type 0} (hearing : Hearing T) where
           -- what a step tells of the view in which the last call had ended, it tells of the view before that,
           -- in each drive
           go : (base : View T) → StandsRested base v c m → NextKnown (λ (z : View T). z.capacity) StandsRested OverRested base (after c n) (kept c m n) w
-          go base (inl x) = absurd (apart x.from v c m h begins x.stage)
+          go base (inl begun) = absurd (apart begun.from v c m h begins begun.stage)
           go base (inr waits) =
               onward base (settled rests) (inr (subst (λ z. Settles code kind z (settled rests)) waits.is (settles rests)))
               (after c n) (kept c m n) w (told.1 (settled rests) (first_then rests))
@@ -328,8 +360,9 @@ module _ {T : Type 0} (hearing : Hearing T) where
       owed : (rests : Rests v key id)
           → OwesAsk (λ (z : View T). z.asked) (IsMachine code kind key) words slots id (ToldStage c m) ask.word ask.op (settled rests, [])
       owed rests =
+          let keeps_there = keeps (settled rests) (settled rests) c m key words slots id in
           subst (λ w. Owes (λ (z : View T). z.asked) (IsMachine code kind key) words slots id (ToldStage c m) w (settled rests, []))
-          word.2 (keeps (settled rests) (settled rests) c m key words slots id ok wide known (first_then rests))
+          word.2 (keeps_there ok wide known (first_then rests))
 
       -- the word is one of the table's
       below : ask.word < words
@@ -342,27 +375,28 @@ module _ {T : Type 0} (hearing : Hearing T) where
         below,
         λ s r long at small. (
             let rests : Rests v key id = record { s = s; r = r; at = at; known = known; h = h } in
-            let vh = settled rests in
-            let x = (owed rests).1 (table_settled rests) (machine_settled rests) long
-            (set_here s.views id vh (within s.views id v at)) small in (
-              x.0,
-              x.1,
-              x.2,
+            let first_step = (owed rests).1 (table_settled rests) (machine_settled rests) in
+            let (w, act, valid, holds, (told, counts, carried)) = first_step long (set_here s.views id (settled rests) (within s.views id v at)) small in (
+              w,
+              act,
+              valid,
               subst (λ vs. IsMachine code kind key
                   (record {
                     words = slice_set s.words ask.word (written ask.op (slice_index s.words ask.word));
-                    homes = table.homes_after s.homes [] x.1;
+                    homes = table.homes_after s.homes [] act;
                     views = vs;
                   }))
-                  (set-set s.views id vh x.0) x.3,
-              (told_first rests _ x.0 x.4.0, x.4.1, x.4.2),
+                  (set-set s.views id (settled rests) w) holds,
+              (told_first rests _ w told, counts, carried),
             )),
       )
 
     -- each step of a call that comes after one that rests keeps the rule
     pub keeps_waiting_where : KeepsWhere code kind size_of may StandsRested OverRested want after kept
-    keeps_waiting_where base₀ v c m key words slots id ok wide known (inl x) =
-        begun_keeps x.from v c m key words slots id x.stage (want c) (keeps x.from v c m key words slots id ok wide known x.stage)
+    keeps_waiting_where base₀ v c m key words slots id ok wide known (inl begun) =
+        let keeps_there = keeps begun.from v c m key words slots id in
+        let stays_kept = begun_keeps begun.from v c m key words slots id in
+        stays_kept begun.stage (want c) (keeps_there ok wide known begun.stage)
     keeps_waiting_where base₀ v c m key words slots id ok wide known (inr waits) =
         let resting = subst (λ z. IsResting code z) (sym waits.is) waits.resting in
         let begins = subst (λ (z : View T). Begins z c m) (sym waits.is) waits.first in
@@ -370,58 +404,7 @@ module _ {T : Type 0} (hearing : Hearing T) where
         (sym (word key words slots id wide known resting begins ok).2)
         (first_keeps key words slots id wide known resting begins ok)
 
-    -- the call may begin on a pass with no call under way
-    pub begins_idle : (v : View T) (c : C) (m : M) → Begins v c m → v.going ≡ None → v.other ≡ [] → 0 < v.share.part → StandsRested v v c m
-    begins_idle = grind arith
-
-    -- the call may begin on a pass whose last call rests, since `Begins` holds of that pass
-    pub begins_rested : (v : View T) (c : C) (m : M) → Begins v c m → IsResting code v → StandsRested v v c m
-    begins_rested v c m begins resting = grind (arith, inr)
-
-  -- of a call whose steps keep the rule at every stage, and which may begin in a view that has
-  -- settled where it might before
-  module _ {C M E : Type 0} (want : C → Want (Unit {0})) (after : C → ℕ → After C E) (kept : C → M → ℕ → M)
-      (Stage : View T → View T → C → M → Type 0) (Over : View T → E → M → View T → Type 0)
-      (keeps : KeepsRule (λ (z : View T). z.asked) (λ (z : View T). z.capacity) Stage Over (λ key. size_of key + 1)
-      (λ key. key) (λ key. IsMachine code kind key) want after kept)
-      (Begins : View T → C → M → Type 0) (asks : (v : View T) (c : C) (m : M) → Begins v c m → AsksFor (size_of v.capacity) (want c))
-      (stays : (v w : View T) (c : C) (m : M) → Settles code kind v w → Begins v c m → Begins w c m)
-      (first : (v : View T) (c : C) (m : M) → Begins v c m → v.going ≡ None → v.other ≡ [] → 0 < v.share.part → Stage v v c m)
-      (apart : (base v : View T) (c : C) (m : M) → IsResting code v → Begins v c m → Stage base v c m → ⊥) where
-    -- a call that begins after one that rests keeps the rule
-    pub keeps_waiting : KeepsRule (λ (z : View T). z.asked) (λ (z : View T). z.capacity)
-        (AtWaiting code kind Begins Stage) (EndsSettled code kind Over) (λ key. size_of key + 1)
-        (λ key. key) (λ key. IsMachine code kind key) want after kept
-    keeps_waiting base₀ v c m key words slots id wide known at₀ =
-        keeps_waiting_where want after kept Stage Over (λ c. Unit {0})
-        (λ base v c m key words slots id ok wide known at. keeps base v c m key words slots id wide known at)
-        Begins asks stays first apart base₀ v c m key words slots id tt wide known at₀
-
-  -- a call whose begin hangs on the capacity keeps the rule after one that rests
-  module _ {C M E : Type 0} (want : C → Want (Unit {0})) (after : C → ℕ → After C E) (kept : C → M → ℕ → M)
-      (Stage : View T → View T → C → M → Type 0) (Over : View T → E → M → View T → Type 0)
-      (keeps : KeepsRule (λ (z : View T). z.asked) (λ (z : View T). z.capacity) Stage Over (λ key. size_of key + 1)
-      (λ key. key) (λ key. IsMachine code kind key) want after kept)
-      (Begins : ℕ → C → M → Type 0) (asks : (capacity : ℕ) (c : C) (m : M) → Begins capacity c m → AsksFor (size_of capacity) (want c))
-      (first : (v : View T) (c : C) (m : M) → Begins v.capacity c m → v.going ≡ None → v.other ≡ [] → 0 < v.share.part → Stage v v c m)
-      (apart : (base v : View T) (c : C) (m : M) → IsResting code v → Begins v.capacity c m → Stage base v c m → ⊥) where
-    -- a call keeps the rule whether the one before it rests or has ended
-    pub keeps_rested : KeepsRule (λ (z : View T). z.asked) (λ (z : View T). z.capacity) (AtRested code kind Begins Stage Over)
-        (EndsRested code kind Begins Stage Over) (λ key. size_of key + 1)
-        (λ key. key) (λ key. IsMachine code kind key) want after kept
-    keeps_rested =
-        keeps_waiting want after kept Stage Over keeps (λ v. Begins v.capacity) (λ v. asks v.capacity)
-        (λ v w c m settled begins. subst (λ n. Begins n c m) (sym settled.capacity) begins) first apart
-
-  -- of a call whose steps keep the rule where they may, and whose begin hangs on the capacity alone
-  module _ {C M E : Type 0} (want : C → Want (Unit {0})) (after : C → ℕ → After C E) (kept : C → M → ℕ → M)
-      (Stage : View T → View T → C → M → Type 0) (Over : View T → E → M → View T → Type 0)
-      (may : C → Type 0) (keeps : KeepsWhere code kind size_of may Stage Over want after kept)
-      (Begins : ℕ → C → M → Type 0) (asks : (capacity : ℕ) (c : C) (m : M) → Begins capacity c m → AsksFor (size_of capacity) (want c))
-      (first : (v : View T) (c : C) (m : M) → Begins v.capacity c m → v.going ≡ None → v.other ≡ [] → 0 < v.share.part → Stage v v c m)
-      (apart : (base v : View T) (c : C) (m : M) → IsResting code v → Begins v.capacity c m → Stage base v c m → ⊥) where
-    -- a call keeps the rule, at the stages of which `may` holds, whether the one before it rests or has ended
-    pub keeps_rested_where : KeepsWhere code kind size_of may (AtRested code kind Begins Stage Over) (EndsRested code kind Begins Stage Over) want after kept
-    keeps_rested_where =
-        keeps_waiting_where want after kept Stage Over may keeps (λ v. Begins v.capacity) (λ v. asks v.capacity)
-        (λ v w c m settled begins. subst (λ n. Begins n c m) (sym settled.capacity) begins) first apart
+    -- where its steps keep the rule at every stage, so do they on a pass whose last call rests
+    pub keeps_waiting : ((c : C) → may c) → KeepsRule (λ (z : View T). z.asked) (λ (z : View T). z.capacity)
+        StandsRested OverRested (λ key. size_of key + 1) (λ key. key) (λ key. IsMachine code kind key) want after kept
+    keeps_waiting every base v c m key words slots id = keeps_waiting_where base v c m key words slots id (every c)

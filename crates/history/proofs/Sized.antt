@@ -9,6 +9,7 @@ use Rattle.history.specs.declared.view.View.{View}
 use Rattle.history.specs.History.{IsMachine}
 use Rattle.history.specs.Stages.{Calling, At, Ends}
 
+-- a call of the driver is one call of the model for each capacity of a structure
 module _ {T C M E : Type 0} (code : Coding T) (kind : Kind) (size_of : ℕ → ℕ) (want : C → Want (Unit {0}))
     (after : C → ℕ → After C E) (kept : C → M → ℕ → M) (call : ℕ → Calling T C M E) where
   -- the call for the capacity of the pass is about to begin, or under way
@@ -41,7 +42,9 @@ module _ {T C M E : Type 0} (code : Coding T) (kind : Kind) (size_of : ℕ → �
       (λ key. size_of key + 1) (λ key. key) (λ key. IsMachine code kind key) want after kept)
       → KeepsRule (λ (z : View T). z.asked) (λ (z : View T). z.capacity) AtSized EndsSized (λ key. size_of key + 1) (λ key. key)
       (λ key. IsMachine code kind key) want after kept
-  keeps_sized keeps_for base v c m key words slots id wide known at₀ = go (want c) (keeps_for base.capacity base v c m key words slots id wide known at₀)
+  keeps_sized keeps_for base v c m key words slots id wide known at₀ =
+      let keeps_here = keeps_for base.capacity base v c m key words slots id in
+      go (want c) (keeps_here wide known at₀)
     where
       -- the capacity stays
       same : v.capacity ≡ base.capacity
@@ -56,14 +59,9 @@ module _ {T C M E : Type 0} (code : Coding T) (kind : Kind) (size_of : ℕ → �
           (Told (λ (z : View T). z.capacity) AtSized EndsSized after kept c m) w (v, [])
       go (wants.Ask a) owes = (
         owes.0,
-        λ s r long at small.
-            (let told_there = owes.1 s r long at small in (
-              told_there.0,
-              told_there.1,
-              told_there.2,
-              told_there.3,
-              (told_sized base c m v _ told_there.0 same told_there.4.0, told_there.4.1, told_there.4.2),
-            )),
+        λ s r long at small. (
+            let (w, act, valid, holds, (told, counts, carried)) = owes.1 s r long at small in
+            (w, act, valid, holds, (told_sized base c m v _ w same told, counts, carried))),
       )
       go (wants.Question q) h = told_sized base c m v 0 v same h
       go wants.Nothing h = told_sized base c m v 0 v same h

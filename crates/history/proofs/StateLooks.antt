@@ -1,12 +1,12 @@
 -- A look of a state of a container (`get_state`, `update_state`) is a call of the model whose steps depend on
 -- the state that the machine keeps for its party; each step keeps the rule of the table.
 use Rattle.history.proofs.Names.{◌≡◌, inl, inr, ℕ, zero, suc, ◌+◌, ◌<◌, Bool, true, false, Some, None, IfSome}
-use Rattle.history.proofs.Names.{List, [], ◌++◌, slice_index, slice_set, append-nil, refl, sym, ap, subst, ◌∙◌, arith}
-use Rattle.history.proofs.Names.{written, first_look, look_want, look_after, look_kept, Numbers, Showing}
+use Rattle.history.proofs.Names.{List, [], ◌++◌, slice_index, append-nil, refl, sym, ap, subst, ◌∙◌, arith}
+use Rattle.history.proofs.Names.{first_look, look_want, look_after, look_kept, Numbers, Showing}
 use Rattle.history.proofs.Names.{shown_at, Ask, After, GoOn, Want, LookStage, ContainerState, Event, Container}
-use Rattle.history.proofs.Names.{Flight, Registry, LookOf, Next, Coding, IsCoding, kept_after_begin}
+use Rattle.history.proofs.Names.{Flight, Registry, LookOf, Coding, IsCoding, kept_after_begin}
 use Rattle.history.proofs.Names.{step_of, beside_of, first_call, settled_if, state_in, is_looking, WasCopied}
-use Rattle.history.proofs.Names.{names_owner, look_effects, after_turn, flight_in, found_put_same, answered, Owes}
+use Rattle.history.proofs.Names.{names_owner, look_effects, flight_in, found_put_same, answered, Owes}
 use Rattle.history.proofs.Names.{NextKnown, KeepsRule}
 use mathlib.Core.Option.{some}
 use Rattle.atomic_table.specs.Table.{State}
@@ -23,21 +23,20 @@ use Rattle.model.specs.Families.Container.States.{fresh}
 use Rattle.threaded.specs.Driver.{Told}
 use Rattle.history.specs.declared.view.View.{View}
 use Rattle.history.specs.ContainerFind.{HasCopied}
-use Rattle.history.specs.ContainerLooks.{look_start, state_of_look, HasState, LookedAt, ShowsCopied, looking, BeginsWith, StateLooks, StateLooked}
+use Rattle.history.specs.ContainerLooks.{look_start, state_of_look, HasState, LookedAt, HasLookedAll, ShowsCopied, looking, BeginsWith, StateLooks, StateLooked}
 use Rattle.history.specs.History.{IsMachine}
 use Rattle.history.specs.Known.{events_by}
-use Rattle.history.specs.Stages.{Calling, At, StepsOnly}
+use Rattle.history.specs.Stages.{Calling, At, Ends, StepsOnly}
 use Rattle.history.proofs.Calls.{stands, no_flight}
 use Rattle.history.proofs.CallsIn.{AsksFor, goes}
-use Rattle.history.proofs.CallTurns.{Stepping, then_trace, then_gained}
+use Rattle.history.proofs.CallTurns.{Stepping, then_trace, settled_then}
 use Rattle.history.proofs.KindLaws.{Machines}
-use Rattle.history.proofs.CallReady.{same_capacity, some_share, still_stands, Ready, ready, Seat}
-use Rattle.history.proofs.CallTurns.{next_between, comes_now, kept_now, view_then, gains_then, asked_then, goes_then, ends_then}
-use Rattle.history.proofs.ContainerLooks.{look_words, look_found, LookGoes, looks_so, look_goes_so, look_keeps_so, look_writes_so}
+use Rattle.history.proofs.CallReady.{same_capacity, still_stands, Ready, seat_at, Seat}
+use Rattle.history.proofs.CallTurns.{next_between, comes_now, kept_now, view_then, asked_then, goes_then, ends_so}
+use Rattle.history.proofs.ContainerLooks.{look_words, look_found, LookCase, LookStep, LookGoes, looks_so, look_goes_so, look_keeps_so, look_writes_so}
 use Rattle.history.proofs.Containers.{container_effects, effects_of_party, container_words, container_machines, kept_there}
 use Rattle.history.proofs.Containers.{container_first, container_starts, is_open_container}
 use Rattle.history.proofs.Known.{by_mine}
-use Rattle.history.proofs.Steps.{settle}
 
 module _ {T : Type 0} (code : Coding T) (law : IsCoding code) (which : LookOf) (cells : ℕ) (seen : Numbers) where
   abbrev call : Calling T (Looking T) (Showing T) Bool
@@ -75,7 +74,7 @@ module _ {T : Type 0} (code : Coding T) (law : IsCoding code) (which : LookOf) (
   -- ---- the state with which a look begins
 
   -- as the look begins, the machine keeps for its party the state with which it begins
-  begins_with : (w : LookOf) (p : ℕ) (base : View T) (m : Showing T) (k : Registry T) (dead : List ℕ) (states : List (ℕ × ContainerState T))
+  begins_with : (w : LookOf) (p : ℕ) (base : View T) (m : Showing T) {k : Registry T} {dead : List ℕ} {states : List (ℕ × ContainerState T)}
       → k ≡ registries.Container dead states → (base.party ≡ Some p → state_in k p ≡ base.state) → IfSome base.party (λ q. q ≡ p)
       → BeginsWith code which cells seen w base m
       → HasState (kept_after_begin code cells (Container (look_start w)) p k) p (state_of_look cells seen m)
@@ -94,13 +93,18 @@ module _ {T : Type 0} (code : Coding T) (law : IsCoding code) (which : LookOf) (
   abbrev value_read : Showing T → T
   value_read m = value_in code.value_of code.size m.copy
 
+  -- the look at a stage, as party p makes it on a container of this capacity
+  abbrev look_of : {capacity : ℕ} (p : ℕ) (c : Looking T) → c.capacity ≡ capacity → LookCase T
+  look_of {capacity} p c same =
+      record { size = code.size; some = has_words; which = which; capacity = capacity; cells = cells; seen = seen; c = c; same = same; p = p }
+
   -- after a step the look stands within the container, and has written copies from the
   -- indices that it has passed
-  goes_so : (capacity p : ℕ) (c : Looking T) (m : Showing T) (n : ℕ) (es : List (Event T)) (a : After (Looking T) Bool) → (h : call.stands capacity c)
-      → LookedAt p c.stage es → after c n ≡ a → LookGoes code.size has_words which capacity cells seen c h.0 p (es ++ look_effects p (value_read m) c.stage n) a
-  goes_so capacity p c m n es a h looked_at leads =
-      subst (LookGoes code.size has_words which capacity cells seen c h.0 p (es ++ look_effects p (value_read m) c.stage n)) leads
-      (looks_so code.size has_words which capacity cells seen c h.0 p (value_read m) c.stage n es h.1 looked_at)
+  goes_so : {capacity : ℕ} (p : ℕ) (c : Looking T) (m : Showing T) (n : ℕ) (es : List (Event T)) {a : After (Looking T) Bool} → (h : call.stands capacity c)
+      → LookedAt p c.stage es → after c n ≡ a → LookGoes (look_of p c h.0) (es ++ look_effects p (value_read m) c.stage n) a
+  goes_so p c m n es h looked_at leads =
+      subst (LookGoes (look_of p c h.0) (es ++ look_effects p (value_read m) c.stage n)) leads
+      (looks_so (look_of p c h.0) (value_read m) c.stage n es h.1 looked_at)
 
   -- ---- a step
 
@@ -140,9 +144,13 @@ module _ {T : Type 0} (code : Coding T) (law : IsCoding code) (which : LookOf) (
     abbrev view_now : View T
     view_now = view_then machines call step
 
+    -- the step, on a machine that keeps the look's state
+    abbrev look_step : LookStep T
+    look_step = record { which = which; cells = cells; seen = seen; p = y.p; c = c; m = m; n = n; kept = y.u.world.kept; has = has }
+
     -- the machine's look goes to the stage to which the driver's goes
     comes : comes_now machines call step ≡ goes call (after c n) now
-    comes = look_goes_so code which cells seen y.p c m n y.u.world.kept has
+    comes = look_goes_so code look_step
 
     -- the state that the step leaves
     abbrev left : ContainerState T
@@ -157,7 +165,7 @@ module _ {T : Type 0} (code : Coding T) (law : IsCoding code) (which : LookOf) (
         ap (λ k. state_in k y.p) (kept_now machines call step)
         ∙ subst (λ z. HasState (step_of z w.words beside y.p here.x.start its_flight n w.kept).kept y.p left) (sym y.between.run.coded)
         (subst (λ st. HasState (step_of code w.words beside y.p st its_flight n w.kept).kept y.p left) (sym here.named)
-        (look_keeps_so code which cells seen y.p w.words beside (look_start which) c m n w.kept has))
+        (look_keeps_so code look_step w.words beside (look_start which)))
 
     -- the state that the look leaves shows what the room shows
     left_shows : (a : After (Looking T) Bool) → (settled_if a (state_of_look cells seen now)).shown ≡ now
@@ -179,7 +187,7 @@ module _ {T : Type 0} (code : Coding T) (law : IsCoding code) (which : LookOf) (
     -- the effects of the step are all the look's own
     its_own : (es late : List (Event T)) → late ≡ []
         → (es ++ late) ++ events_by y.p (container_effects y.u.world y.p its_flight n) ≡ es ++ look_effects y.p (value_read m) c.stage n
-    its_own = grind (arith, append-nil, by_mine, effects_of_party, look_writes_so)
+    its_own = grind (arith, append-nil, by_mine, effects_of_party, look_writes_so code look_step)
 
     -- each operation was a step of the look
     steps_so : (base : View T) → At code kinds.Container call base v c m → StepsOnly base view_now
@@ -191,15 +199,19 @@ module _ {T : Type 0} (code : Coding T) (law : IsCoding code) (which : LookOf) (
     -- the step leads to another stage: the look is under way there, with the state that the step leaves
     known_then base stage (GoOn d) leads =
         let there = plain base v c m stage in
-        let standing = still_stands code kinds.Container call base v c m there in (
+        let standing = still_stands there in
+        let before = y.prior base there in (
           stage.0,
           inr (
-            goes_then machines call step there (comes ∙ ap (λ a. goes call a now) leads)
-                (goes_so base.capacity y.p c m n [] (GoOn d) standing (none_looked y.p c.stage) leads).0
-                (λ k. refl)
-                (λ es late h waits met new. subst (λ zs. LookedAt y.p d.stage zs) (sym (its_own es late waits))
-                (goes_so base.capacity y.p c m n es (GoOn d) standing (h new) leads).1)
-                (steps_so base there) refl,
+            goes_then machines call step there (record {
+              leads = comes ∙ ap (λ a. goes call a now) leads;
+              stands = (goes_so y.p c m n [] standing (none_looked y.p c.stage) leads).0;
+              past = λ k. refl;
+              tells = λ new. subst (λ zs. LookedAt y.p d.stage zs) (sym (its_own before.wrote before.late before.waits))
+                  (goes_so y.p c m n before.wrote standing (before.tells new) leads).1;
+              steps = steps_so base there;
+              word = refl;
+            }),
             state_then ∙ ap (λ a. Some (settled_if a (state_of_look cells seen now))) leads,
           ),
         )
@@ -207,14 +219,14 @@ module _ {T : Type 0} (code : Coding T) (law : IsCoding code) (which : LookOf) (
     -- state shows was copied
     known_then base stage (Done changed) leads =
         let there = plain base v c m stage in
-        let standing = still_stands code kinds.Container call base v c m there in
-        let ends =
-        ends_then machines call step
-        base there changed now (comes ∙ ap (λ a. goes call a now) leads)
-        (λ es late h waits met new. subst (λ zs. call.wrote_all base.capacity y.p None changed now zs) (sym (its_own es late waits))
-        (λ none. goes_so base.capacity y.p c m n es (Done changed) standing (h new) leads) refl)
-        (inl (steps_so base there))
-        in (ends, state_then ∙ ap (λ a. Some (settled_if a (state_of_look cells seen now))) leads, shows_copied ends.idle)
+        let standing = still_stands there in
+        let before = y.prior base there in
+        let ends : Ends code kinds.Container call base changed now view_now =
+        ends_so machines call step there (comes ∙ ap (λ a. goes call a now) leads)
+        (λ new. subst (λ zs. HasLookedAll base.capacity y.p changed zs) (sym (its_own before.wrote before.late before.waits))
+        (goes_so y.p c m n before.wrote standing (before.tells new) leads))
+        (inl (steps_so base there)) in
+        (ends, state_then ∙ ap (λ a. Some (settled_if a (state_of_look cells seen now))) leads, shows_copied ends.idle)
 
     -- what the step tells: where the look stands or how it has ended, in each drive
     told : Told (λ (z : View T). z.capacity) LookStands LookEnded after kept c m v (answered ask.op n) view_now
@@ -228,9 +240,9 @@ module _ {T : Type 0} (code : Coding T) (law : IsCoding code) (which : LookOf) (
       (λ key. IsMachine code kinds.Container key) want after kept
   state_looks_keep base₀ v c m key words slots id wide known at₀ =
       let there₀ = plain base₀ v c m at₀ in
-      let standing = still_stands code kinds.Container call base₀ v c m there₀ in
+      let standing = still_stands there₀ in
       let same : base₀.capacity ≡ key =
-      sym (same_capacity code kinds.Container call base₀ v c m there₀) ∙ known
+      sym (same_capacity there₀) ∙ known
       in
       let asked : AsksFor (container_words code key) (want c) = asks_so standing same in
       let ask = asked.0 in
@@ -243,27 +255,9 @@ module _ {T : Type 0} (code : Coding T) (law : IsCoding code) (which : LookOf) (
         below,
         -- the step is one of the machine, on which the look's party has the state with which it began
         λ s r long at small. (
-            let y = ready machines call s v key id c m r at known base₀ there₀ in
-            let asking : Asking =
-            record {
-              seat = record { s = s; v = v; key = key; id = id; c = c; m = m; at = at; known = known; y = y };
-              ask = ask;
-              low = low;
-              wants_it = asked.2;
-              has = has_so s y at₀ same;
-            } in (
-              view_now asking,
-              table.keeps,
-              tt,
-              settle code kinds.Container key id y.p y.owner (v.asked + 1) (v.aside + 0)
-                  (slice_set s.words ask.word (written ask.op (slice_index s.words ask.word))) s v
-                  (then_gained machines call (step asking))
-                  (after_turn y.u (Next y.p)) at
-                  (some_share code kinds.Container call base₀ v c m there₀)
-                  (next_between machines call (step asking))
-                  (gains_then machines call (step asking)),
-              (told asking, refl, refl),
-            )),
+            let seat = seat_at machines call (record { s = s; v = v; key = key; id = id; c = c; m = m; r = r; at = at; known = known }) there₀ in
+            let asking : Asking = record { seat = seat; ask = ask; low = low; wants_it = asked.2; has = has_so s seat.y at₀ same } in
+            (view_now asking, table.keeps, tt, settled_then machines call (step asking) there₀, (told asking, refl, refl))),
       )
     where
       -- at each stage the look asks for a word of the container
@@ -280,7 +274,7 @@ module _ {T : Type 0} (code : Coding T) (law : IsCoding code) (which : LookOf) (
           let cells_are : cells ≡ key = sym size ∙ same in
           subst (λ z. HasState z y.p (state_of_look cells seen m))
           (sym (b.kept ∙ ap (λ z. kept_after_begin code z call.start y.p b.t.world.kept) (sym cells_are)))
-          (begins_with which y.p base₀ m b.t.world.kept k.0 k.1 k.2
+          (begins_with which y.p base₀ m k.2
           (subst (λ (z : View T). z.party ≡ Some y.p → state_in b.t.world.kept y.p ≡ z.state) h.0.is b.stated)
           (y.by base₀ (inl h.0)) h.1)
       has_so s y (size, inr h) same = y.held h.0.going ∙ h.1

@@ -64,9 +64,30 @@ module _ {T : Type 0} (code : Coding T) (law : IsCoding code) (which : LookOf) (
   -- each step of a look keeps the rule, also if the last call of the pass rests
   pub state_rests_keep : Keeps code (RestedLooks code which cells seen) (RestedLooked code which cells seen) want after kept
   state_rests_keep =
-      keeps_waiting (container_hears code) want after kept LookStands LookEnded
-      (state_looks_keep code law which cells seen) LookBegins asks stays first
-      (λ base v c m h begins stage. apart_at base v c m h (plain code law which cells seen base v c m stage))
+      keeps_waiting (container_hears code)
+      (record {
+        want = want;
+        after = after;
+        kept = kept;
+        Stage = LookStands;
+        Over = LookEnded;
+        may = λ c. Unit {0};
+        keeps = λ base v c m key words slots id ok. looks_keep base v c m key words slots id;
+        Begins = LookBegins;
+        asks = asks;
+        stays = stays;
+        first = first;
+        apart = λ base v c m h begins stage. apart_at base v c m h (is_call base v c m stage);
+      })
+      (λ c. tt)
+    where
+      -- each step of a look keeps the rule where no call rests
+      looks_keep : Keeps code LookStands LookEnded want after kept
+      looks_keep = state_looks_keep code law which cells seen
+
+      -- a look at a stage is a call at that stage
+      is_call : (base v : View T) (c : Looking T) (m : Showing T) → LookStands base v c m → At code kinds.Container (looking code which cells seen) base v c m
+      is_call = plain code law which cells seen
 
   -- a look may begin on a pass with no call under way
   pub state_rests_idle : (v : View T) (c : Looking T) (m : Showing T) → LookBegins v c m → v.going ≡ None → v.other ≡ [] → 0 < v.share.part

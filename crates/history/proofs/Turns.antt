@@ -1,11 +1,11 @@
--- What a begin, a step, and an answer to a question of a call make of a reached machine, where a table stands
--- at the machine's words (`Between`).
-use Rattle.history.proofs.Names.{Bool, false, ◌≡◌, ◌≢◌, ℕ, ◌+◌, ◌<◌, ◌≤◌, Option, Some, None, IfSome, List, [], ◌∷◌}
+-- What a begin and a step of a call make of a reached machine, where a table stands at the machine's words
+-- (`Between`).
+use Rattle.history.proofs.Names.{false, ◌≡◌, ◌≢◌, ℕ, ◌+◌, ◌<◌, ◌≤◌, Option, Some, None, IfSome, List, [], ◌∷◌}
 use Rattle.history.proofs.Names.{◌++◌, length, slice_index, refl, sym, ap, subst, ◌∙◌, arith, sum_by}
 use Rattle.history.proofs.Names.{sum_by-append, written, Ask, After, Want, Answer, Event, Begun, Start, Flight}
-use Rattle.history.proofs.Names.{Kind, Turn, Begin, Next, Decide, Coding, first_of, kept_after_begin}
+use Rattle.history.proofs.Names.{Kind, Turn, Begin, Next, Coding, first_of, kept_after_begin}
 use Rattle.history.proofs.Names.{want_of, goes_of, ask_of, is_look_of, party_of, ask_in}
-use Rattle.history.proofs.Names.{call_refusal, first_row, answer_in, after_turn, events_of, words_after, number_of}
+use Rattle.history.proofs.Names.{call_refusal, first_row, answer_in, after_turn, events_of, words_after}
 use Rattle.history.proofs.Names.{step_in, ending_of, old_of, World, Trace, flight_in, whose, turn_making, IsFreshCall}
 use Rattle.history.proofs.Names.{Shares, IsAll}
 use mathlib.Core.Option.{some}
@@ -28,10 +28,10 @@ use Rattle.history.proofs.Reached.{next_as, reached_as_more, fresh_as_more}
 use Rattle.history.proofs.StillFits.{still_fits}
 use Rattle.history.proofs.OneRun.{one_more}
 use Rattle.history.proofs.Calls.{look_begin, look_next, stands, flight_is}
-use Rattle.history.proofs.Calls.{next_other, begin_other, decision_other, begin_own, next_kept}
-use Rattle.history.proofs.Calls.{steps_next_other, steps_begin_other, steps_decision_other}
-use Rattle.history.proofs.Calls.{steps_begin_own, steps_next_own, steps_decision_own, started_next_own, others_begin_own, others_next_own}
-use Rattle.history.proofs.Calls.{call_then, moved, heard_going, heard_events, get_left, set_left, Moved}
+use Rattle.history.proofs.Calls.{next_other, begin_other, begin_own, next_kept}
+use Rattle.history.proofs.Calls.{steps_next_other, steps_begin_other}
+use Rattle.history.proofs.Calls.{steps_begin_own, steps_next_own, started_next_own, others_begin_own, others_next_own}
+use Rattle.history.proofs.Calls.{call_then, moved, get_left, set_left, Moved}
 pub use Rattle.history.proofs.KindLaws.{all_someone, StepsOn, KeptLaws, MachineLaws, kept_laws, goes_on_alike, CallGoesOn, KindLaws, machine_laws}
 pub use Rattle.history.proofs.KindLaws.{Machines, SteadyMachines, LoneMachines, kept_machines, steady_machines}
 
@@ -46,7 +46,7 @@ at_ask words None = 0
 at_ask words (Some ask) = slice_index words ask.word
 
 module _ {T : Type 0} where
-  ending_of_own : (p : ℕ) (start : Start T) (o : Option (Answer T)) → AreOf p (ending_of p start o)
+  pub ending_of_own : (p : ℕ) (start : Start T) (o : Option (Answer T)) → AreOf p (ending_of p start o)
   ending_of_own p start None = tt
   ending_of_own p start (Some answer) = (refl, tt)
 
@@ -81,31 +81,6 @@ module _ {T : Type 0} where
       -- the table has one run, which leads to this machine
       pub one : OneRun code kind capacity s.views u
 
-    -- at first the seat has gained just what it had still to see, and the machine is that of the table
-    abbrev pub at_first : (s : State (Unit {0}) (View T)) (id p : ℕ) (m : IsMachine code kind capacity s) (gained : List (Event T))
-        → m.owner p ≡ id → m.owner id ≡ id → ((q : ℕ) → m.owner q ≡ id → q ≢ p → call_in m.trace.world q ≡ None)
-        → ((v : View T) → get_elem? s.views id ≡ some v → (f : Event T → ℕ)
-        → sum_by f v.made + sum_by f gained ≡ sum_by (owned m.owner id f) m.trace.events)
-        → Between m.owner s id p gained m.trace
-    at_first s id p m gained mine self idle made_own =
-        record {
-          run = m.run;
-          words = m.words;
-          others = λ j v ne at. m.seats j v at;
-          mine = mine;
-          self = self;
-          idle = idle;
-          made_own = made_own;
-          inside = m.inside;
-          fresh = m.fresh;
-          further = λ j ne past. m.further j past;
-          made_none = λ j ne past. m.made_none j past;
-          shares = m.known.shares;
-          someone = m.known.someone;
-          spent = m.known.spent;
-          one = m.one;
-        }
-
     -- a turn that takes n steps adds n to the steps of a run
     pub more_steps : (turns : List (Turn T)) (u : Trace T) (turn : Turn T) (n : ℕ) → u ≡ run_of code kind capacity turns → turn_steps u.world turn ≡ n
         → steps_of_run code kind capacity (turns ++ turn ∷ []) ≡ steps_of_run code kind capacity turns + n
@@ -113,16 +88,42 @@ module _ {T : Type 0} where
         steps_more (opening code kind capacity 0) turns turn
         ∙ ap (λ k. steps_of_run code kind capacity turns + k) (ap (λ (t : Trace T). turn_steps t.world turn) (sym u_is) ∙ one)
 
-    -- a pass with the whole share has made all events of the machine, with those that it gained
-    pub made_between : (owner : ℕ → ℕ) (id p : ℕ) (gained : List (Event T)) (u : Trace T) (s : State (Unit {0}) (View T))
-        → Between owner s id p gained u → (v : View T) → get_elem? s.views id ≡ some v → IsAll v.share
-        → (f : Event T → ℕ) → sum_by f u.events ≡ sum_by f (v.made ++ gained)
-    made_between = grind (arith, owned_whole, sum_by-append)
-
     -- a turn that is not refused, and finds neither the last position nor the last version, leads from a run to a run
     pub run_more : (t : Trace T) (turn : Turn T) → refusal_as kind t.world turn ≡ None → IsFreshTurn t turn → IsRun code kind capacity t
         → IsRun code kind capacity (after_turn t turn)
     run_more = grind (arith, turn_making, reached_as_more, fresh_as_more)
+
+-- at first the seat has gained just what it had still to see, and the machine is that of the table
+abbrev pub at_first : {T : Type 0} {code : Coding T} {kind : Kind} {capacity : ℕ} {s : State (Unit {0}) (View T)} (id p : ℕ)
+    (m : IsMachine code kind capacity s) (gained : List (Event T))
+    → m.owner p ≡ id → m.owner id ≡ id → ((q : ℕ) → m.owner q ≡ id → q ≢ p → call_in m.trace.world q ≡ None)
+    → ((v : View T) → get_elem? s.views id ≡ some v → (f : Event T → ℕ)
+    → sum_by f v.made + sum_by f gained ≡ sum_by (owned m.owner id f) m.trace.events)
+    → Between code kind capacity m.owner s id p gained m.trace
+at_first id p m gained mine self idle made_own =
+    record {
+      run = m.run;
+      words = m.words;
+      others = λ j v ne at. m.seats j v at;
+      mine = mine;
+      self = self;
+      idle = idle;
+      made_own = made_own;
+      inside = m.inside;
+      fresh = m.fresh;
+      further = λ j ne past. m.further j past;
+      made_none = λ j ne past. m.made_none j past;
+      shares = m.known.shares;
+      someone = m.known.someone;
+      spent = m.known.spent;
+      one = m.one;
+    }
+
+-- a pass with the whole share has made all events of the machine, with those that it gained
+pub made_between : {T : Type 0} {code : Coding T} {kind : Kind} {capacity : ℕ} {owner : ℕ → ℕ} {id p : ℕ} {gained : List (Event T)} {u : Trace T}
+    {s : State (Unit {0}) (View T)} → Between code kind capacity owner s id p gained u
+    → (v : View T) → get_elem? s.views id ≡ some v → IsAll v.share → (f : Event T → ℕ) → sum_by f u.events ≡ sum_by f (v.made ++ gained)
+made_between = grind (arith, owned_whole, sum_by-append)
 
 -- a party of a seat that is to take the next turn of a machine
 pub record Turning (T : Type 0) : Type 0 where
@@ -168,34 +169,41 @@ module _ {T : Type 0} (turning : Turning T) where
   open turning use {code, kind, capacity, words, effects, laws, owner, s, id, p, gained, u, b}
 
   -- a party of another seat is not this party
-  not_mine : (j q : ℕ) → j ≢ id → owner q ≡ j → q ≢ p
+  pub not_mine : (j q : ℕ) → j ≢ id → owner q ≡ j → q ≢ p
   not_mine j q ne own e = ne (sym own ∙ (ap owner e ∙ b.mine))
 
-  -- A turn that is not refused, leaves these words, writes events of parties alone, and changes nothing of
-  -- another party's call but for what may come late: after it the machine stands at the table's words again.
-  turned : (words' : List ℕ) (turn : Turn T) → refusal_as kind u.world turn ≡ None → IsFreshTurn u turn
-      → words' ≡ (after_turn u turn).world.words ++ 0 ∷ [] → sum_by (λ e. of_none (whose e)) (events_of u.world turn) ≡ 0
-      → ((q : ℕ) → q ≢ p → IsLate kind (call_in u.world q) (events_by q (events_of u.world turn)))
-      → ((j : ℕ) → j ≢ p → call_in (after_turn u turn).world j ≡ call_in u.world j)
-      → ((q : ℕ) → q ≢ p → is_look_of u.world q turn ≡ false)
-      → ((q : ℕ) → q ≢ p → steps_in (after_turn u turn).world q ≡ steps_in u.world q)
+  -- A turn that is not refused and leaves these words. It writes events of parties alone, and of another party's
+  -- call it changes nothing but what may come late.
+  pub record Leaving (words' : List ℕ) (turn : Turn T) : Type 0 where
+    pub free : refusal_as kind u.world turn ≡ None
+    pub fresh_turn : IsFreshTurn u turn
+    pub same : words' ≡ (after_turn u turn).world.words ++ 0 ∷ []
+    pub someone : sum_by (λ e. of_none (whose e)) (events_of u.world turn) ≡ 0
+    pub beside : (q : ℕ) → q ≢ p → IsLate kind (call_in u.world q) (events_by q (events_of u.world turn))
+    pub apart : (j : ℕ) → j ≢ p → call_in (after_turn u turn).world j ≡ call_in u.world j
+    pub no_look : (q : ℕ) → q ≢ p → is_look_of u.world q turn ≡ false
+    pub still : (q : ℕ) → q ≢ p → steps_in (after_turn u turn).world q ≡ steps_in u.world q
+
+  -- after such a turn the machine stands at the table's words again, and the seat has gained the party's events of it
+  unfoldable pub turned : {words' : List ℕ} {turn : Turn T} → Leaving words' turn
       → Between code kind capacity owner (record { words = words'; homes = s.homes; views = s.views }) id p
       (gained ++ events_by p (events_of u.world turn)) (after_turn u turn)
-  turned words' turn free fresh_turn same someone beside apart no_look still =
+  turned {words'} {turn} leaving =
       let es = events_of u.world turn in
-      let run = run_more code kind capacity u turn free fresh_turn b.run in
+      let run = run_more code kind capacity u turn leaving.free leaving.fresh_turn b.run in
       record {
         run = run;
-        words = same;
+        words = leaving.same;
         -- each other seat still fits the machine, for whose parties the turn changed nothing
         others =
-            λ j v ne at. still_fits kind (after_turn u turn) es (b.others j v ne at) b.run.of_kind
-            run.of_kind refl (λ q of_j. beside q (not_mine j q ne of_j)) (λ q of_j. apart q (not_mine j q ne of_j))
-            (λ q of_j. laws.states u turn b.run run free q (no_look q (not_mine j q ne of_j)))
-            (λ q of_j. still q (not_mine j q ne of_j));
+            λ j v ne at. (
+            let fits = still_fits kind (after_turn u turn) es (b.others j v ne at) b.run.of_kind run.of_kind refl in
+            fits (λ q of_j. leaving.beside q (not_mine j q ne of_j)) (λ q of_j. leaving.apart q (not_mine j q ne of_j))
+            (λ q of_j. laws.states u turn b.run run leaving.free q (leaving.no_look q (not_mine j q ne of_j)))
+            (λ q of_j. leaving.still q (not_mine j q ne of_j)));
         mine = b.mine;
         self = b.self;
-        idle = λ q of_id ne. apart q ne ∙ b.idle q of_id ne;
+        idle = λ q of_id ne. leaving.apart q ne ∙ b.idle q of_id ne;
         -- what the seat made, with what it gained and the party's events of the turn, are its parties' events
         made_own = λ v at f. (
             omega (
@@ -203,17 +211,17 @@ module _ {T : Type 0} (turning : Turning T) where
               b.made_own v at f,
               sum_by-append f gained (events_by p es),
               sum_by-append (owned owner id f) u.events es,
-              owned_one owner id p f es b.mine (λ q of_id ne. none_of es beside q ne (b.idle q of_id ne)),
+              owned_one owner id p f es b.mine (λ q of_id ne. none_of es leaving.beside q ne (b.idle q of_id ne)),
             ));
         inside = b.inside;
         fresh = b.fresh;
-        further = λ j ne past. apart j ne ∙ b.further j ne past;
-        made_none = λ j ne past. by_same j u.events es (none_of es beside j ne (b.further j ne past)) ∙ b.made_none j ne past;
+        further = λ j ne past. leaving.apart j ne ∙ b.further j ne past;
+        made_none = λ j ne past. by_same j u.events es (none_of es leaving.beside j ne (b.further j ne past)) ∙ b.made_none j ne past;
         shares = b.shares;
         someone = (
             omega (arith, b.someone, sum_by-append (λ e. of_none (whose e)) u.events es));
         spent = b.spent;
-        one = one_more code kind capacity s.views u turn free fresh_turn b.one;
+        one = one_more code kind capacity s.views u turn leaving.free leaving.fresh_turn b.one;
       }
     where
       -- an event that may be late for another party's call is none of a party with no call under way
@@ -245,12 +253,17 @@ module _ {T : Type 0} (beginning : Beginning T) where
 
   -- after the begin the machine stands at the table's words, and the seat has gained the events of the begin
   begins : Between code kind capacity owner s id p (gained ++ events_by p (Begun p start ∷ [])) (after_turn u (Begin p start))
-  begins = turned turning s.words (Begin p start) begins_free tt
-      (b.words ∙ ap (λ ws. ws ++ 0 ∷ []) (sym (writes_one_word u.world (Begin p start)))) refl
-      (λ q ne. subst (λ zs. IsLate kind (call_in u.world q) zs) (sym (by_other p q (Begun p start ∷ []) ne (refl, tt)))
-      (none_late kind (call_in u.world q))) (λ j ne. begin_other u.world p j start ne (first_of u.world.kind u.world.capacity start u.world.kept))
-      (λ q ne. look_begin u.world p q start ne)
-      (λ q ne. steps_begin_other u.world p q start ne (first_of u.world.kind u.world.capacity start u.world.kept))
+  begins = turned turning (record {
+    free = begins_free;
+    fresh_turn = tt;
+    same = b.words ∙ ap (λ ws. ws ++ 0 ∷ []) (sym (writes_one_word u.world (Begin p start)));
+    someone = refl;
+    beside = λ q ne. subst (λ zs. IsLate kind (call_in u.world q) zs) (sym (by_other p q (Begun p start ∷ []) ne (refl, tt)))
+        (none_late kind (call_in u.world q));
+    apart = λ j ne. begin_other u.world p j start ne (first_of u.world.kind u.world.capacity start u.world.kept);
+    no_look = λ q ne. look_begin u.world p q start ne;
+    still = λ q ne. steps_begin_other u.world p q start ne (first_of u.world.kind u.world.capacity start u.world.kept);
+  })
 
   -- the call that began has taken no step yet
   pub begun_steps : steps_in (after_turn u (Begin p start)).world p ≡ 0
@@ -407,9 +420,16 @@ module _ {T : Type 0} (going : Going T) where
   -- party's events of the step
   pub gone : Between code kind capacity owner (record { words = words_after s.words ask; homes = s.homes; views = s.views }) id p
       (gained ++ events_by p (events_of u.world (Next p))) (after_turn u (Next p))
-  gone = turned turning (words_after s.words ask) (Next p) (next_as kind u.world p goes_free) fresh_now words_then someone beside
-      (λ j ne. next_other u.world p j ne (party_of p u.world.latest)) (λ q ne. look_next u.world p q ne)
-      (λ q ne. steps_next_other u.world p q ne (party_of p u.world.latest))
+  gone = turned turning (record {
+    free = next_as kind u.world p goes_free;
+    fresh_turn = fresh_now;
+    same = words_then;
+    someone = someone;
+    beside = beside;
+    apart = λ j ne. next_other u.world p j ne (party_of p u.world.latest);
+    no_look = λ q ne. look_next u.world p q ne;
+    still = λ q ne. steps_next_other u.world p q ne (party_of p u.world.latest);
+  })
 
   -- the run takes one step more where the call asks for a word, and none else
   pub gone_took : steps_of_run code kind capacity gone.one.turns ≡ steps_of_run code kind capacity b.one.turns + step_count ask
@@ -429,71 +449,3 @@ module _ {T : Type 0} (going : Going T) where
   gone_steps =
       steps_next_own (stands u.world p start flight at)
       ∙ ap (λ o. steps_in u.world p + step_count o) asked_of
-
--- ---- a call is handed an answer to its question, and goes on without a word, or ends
-
--- a party whose call under way stands at a question, and is to be handed the answer `said`, which the machine
--- does not refuse
-pub record Answering (T : Type 0) : Type 0 where
-  pub turning : Turning T
-  pub start : Start T
-  pub flight : Flight T
-  pub next : After (Flight T) (Answer T)
-  pub said : Bool
-  -- the call stands at this flight, the answer is not refused, and with it the call goes on,
-  -- or ends, as `next` says
-  pub at : call_in turning.u.world turning.p ≡ Some (start, flight)
-  pub free : refusal_as turning.kind turning.u.world (Decide turning.p said) ≡ None
-  pub comes : goes_of turning.code turning.p flight (number_of said) turning.u.world.kept ≡ next
-
-module _ {T : Type 0} (answering : Answering T) where
-  open answering use {turning, turning.{code, kind, capacity, words, effects, laws, owner, s, id, p, gained, u, b}, start, flight, next, said, at, free, comes}
-
-  -- what the laws of the kind say of the answer to this call
-  steps_so : StepsOn code kind capacity words effects u p flight
-  steps_so = laws.steps_on u b.run p start flight at
-
-  abbrev hears : List (Event T)
-  hears = effects u.world p flight (number_of said)
-
-  abbrev ends_so : List (Event T)
-  ends_so = ending_of p start (answer_in next)
-
-  comes_here : goes_of u.world.coding p flight (number_of said) u.world.kept ≡ next
-  comes_here = grind arith
-
-  pub heard : events_of u.world (Decide p said) ≡ hears ++ ends_so
-  heard = grind (arith, heard_events, stands, steps_so, ending_of, answer_in, comes_here)
-
-  -- of the events of the answer those of its own party are the effects of the call, and its end where the
-  -- answer ends it
-  pub own_heard : events_by p (events_of u.world (Decide p said)) ≡ events_by p hears ++ ends_so
-  own_heard = grind (arith, heard, by_more, by_mine, ending_of_own)
-
-  heard_someone : sum_by (λ e. of_none (whose e)) (events_of u.world (Decide p said)) ≡ 0
-  heard_someone = grind (arith, sum_by, of_none, whose, events_of, heard, sum_by-append, steps_so, number_of, all_someone)
-
-  heard_beside : (q : ℕ) → q ≢ p → IsLate kind (call_in u.world q) (events_by q (events_of u.world (Decide p said)))
-  heard_beside = grind (arith, call_in, events_by, heard, by_same, by_other, ending_of_own, answer_in, steps_so, number_of)
-
-  -- after the answer the machine stands at the table's words, and the seat has gained the
-  -- party's events of it
-  pub decided : Between code kind capacity owner s id p (gained ++ events_by p (events_of u.world (Decide p said))) (after_turn u (Decide p said))
-  decided =
-      turned turning s.words (Decide p said) free tt (b.words ∙ ap (λ ws. ws ++ 0 ∷ []) (sym (writes_one_word u.world (Decide p said))))
-      heard_someone heard_beside (λ j ne. decision_other u.world p j said ne (party_of p u.world.latest)) (λ q ne. refl)
-      (λ q ne. steps_decision_other u.world p q said ne (party_of p u.world.latest))
-
-  -- an answer is no step, so the run takes no step more
-  pub decided_took : steps_of_run code kind capacity decided.one.turns ≡ steps_of_run code kind capacity b.one.turns + 0
-  unfolding decided turned
-  decided_took = more_steps code kind capacity b.one.turns u (Decide p said) 0 b.one.is refl
-
-  pub decided_steps : steps_in (after_turn u (Decide p said)).world p ≡ steps_in u.world p + 0
-  decided_steps = steps_decision_own said (stands u.world p start flight at)
-
-  -- after the answer the party's call stands where the answer leads it, or has ended
-  pub decided_at : call_in (after_turn u (Decide p said)).world p ≡ call_then start next
-  decided_at =
-      heard_going u.world p start flight (effects u.world p flight) (stands u.world p start flight at) steps_so.goes steps_so.writes said
-      ∙ ap (call_then start) comes_here

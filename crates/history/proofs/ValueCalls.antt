@@ -97,8 +97,7 @@ module _ {T : Type 0} (code : Coding T) where
         some = any;
         first = refl;
         starts =
-            producer_starts code x releases_producer ReleaseProducer (record { word = producer_word }) m refl
-            (λ kept. refl) (λ o p. tt) (λ holder p is. holds_it holder p is) has;
+            producer_starts ReleaseProducer refl (λ kept. refl) (λ o p. tt) (λ holder p is. holds_it holder p is) has;
         wrote = λ p. refl;
       })
 
@@ -220,12 +219,13 @@ module _ {T : Type 0} (code : Coding T) (law : IsCoding code) (value : T) where
         standing = tt;
         some = any;
         first = refl;
-        starts = producer_starts code x storing (Store value) first_store m refl (λ kept. refl) (λ o p. tt) (λ holder p is. holds_it holder p is) has;
+        starts = producer_starts (Store value) refl (λ kept. refl) (λ o p. tt) (λ holder p is. holds_it holder p is) has;
         wrote = λ p. refl;
       })
 
 -- ---- loads
 
+-- R is the room of a value's words: `words_in` are its words, and `with_word` puts one of them
 module _ {T R : Type 0} (code : Coding T) (law : IsCoding code) (words_in : R → List ℕ) (with_word : R → ℕ → ℕ → R)
     (put_in : (x : R) (at word : ℕ) → words_in (with_word x at word) ≡ slice_set (words_in x) at word) where
   -- a load, as a call of the model
@@ -327,7 +327,7 @@ module _ {T R : Type 0} (code : Coding T) (law : IsCoding code) (words_in : R �
         standing = tt;
         some = any;
         first = named;
-        starts = plain_starts code x loading Load first_load m refl (λ kept. named) (λ o p h. h) (λ holder p. refl);
+        starts = plain_starts Load refl (λ kept. named) (λ o p h. h) (λ holder p. refl);
         wrote = λ p. refl;
       })
     where

@@ -41,7 +41,8 @@ module _ {T : Type 0} (code : Coding T) (capacity : ℕ) where
       subst (λ z. Each ByProducer z.events) (sym run.fresh.is)
       (each_event (fresh_laws world_now.coding world_now.capacity) ByProducer
       (λ before p start. tt) (λ before p start answer. tt) (λ before owner. tt)
-      (λ t s p n x flight since found doing handed. step_right world_now.coding world_now.capacity s p n x flight since found doing)
+      (λ t s p n x flight since found doing handed. (
+      let right = step_right world_now.coding world_now.capacity s in right p n x flight since found doing))
       run.fresh.turns run.fresh.fresh sound (Each-nil ByProducer))
 
   -- in each history of a single value only the holder of the producer's role stores

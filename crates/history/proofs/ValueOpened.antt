@@ -2,7 +2,7 @@
 -- version says (`value_opens`).
 use Rattle.history.proofs.Names.{◌≡◌, ℕ, zero, suc, ◌+◌, ◌-◌, ◌*◌, ◌%◌, ◌^◌, ◌<◌, ◌≤◌, ◌==◌, nat_lt, true, false}
 use Rattle.history.proofs.Names.{Option, Some, None, List, [], ◌∷◌, ◌++◌, length, drop, set, get_or, replicate}
-use Rattle.history.proofs.Names.{slice_set, refl, sym, ap, subst, ◌∙◌, append_assoc, arith, sum_by, nat_tests}
+use Rattle.history.proofs.Names.{slice_set, refl, sym, ap, subst, ◌∙◌, append_assoc, arith, nat_tests}
 use Rattle.history.proofs.Names.{length-replicate, sum_by-append, first_store, at_store, Truth, Event, Begun, Acted}
 use Rattle.history.proofs.Names.{Finished, Start, Flight, Turn, Begin, Next, Coding, IsCoding, producer_word, World, cell_within}
 use Rattle.std.proofs.Common.{take}
@@ -21,11 +21,9 @@ use Rattle.laws_value.proofs.Core as core
 use Rattle.laws_value.proofs.Stores.{asked_place}
 use Rattle.history.specs.declared.view.View.{View}
 use Rattle.history.specs.History.{IsMachine, Knows}
-use Rattle.history.specs.Known.{owned}
 use Rattle.history.specs.Value.{takes_producer, gives_producer, HasProducer, acquires_producer, releases_producer, stores_value}
 use Rattle.history.specs.ValueOpened.{first_stores, stored_once, stored_times, opened, store_turns, stored_turns, opened_turns, opened_view, opened_cells}
 use Rattle.history.proofs.Alone as alone
-use Rattle.history.proofs.Alone.{same_seat}
 use Rattle.history.proofs.Calls.{set_left}
 use Rattle.history.proofs.QueueCalls.{holds_it}
 use Rattle.history.proofs.Rooms.{replicate_both}
@@ -82,12 +80,12 @@ two_length : (p size : ℕ) (xs ys : List ℕ) → length xs ≡ size → length
 two_length = grind (arith, length-append)
 
 -- a word set in the cell of number p is set in its words, and the other cell stays
-two_set : (p size : ℕ) (xs ys : List ℕ) (at n : ℕ) → p < 2 → length xs ≡ size → length ys ≡ size → at < size
+two_set : (p : ℕ) {size : ℕ} (xs ys : List ℕ) (at n : ℕ) → p < 2 → length xs ≡ size → length ys ≡ size → at < size
     → set (two p xs ys) (size * p + at) n ≡ two p (set xs at n) ys
-two_set zero size xs ys at n low first_length_is second_length_is below = grind (arith, set, set_left)
-two_set (suc zero) size xs ys at n low first_length_is second_length_is below = let same : size * 1 + at ≡ length ys + at = omega arith in
+two_set zero {size} xs ys at n low first_length_is second_length_is below = grind (arith, set, set_left)
+two_set (suc zero) {size} xs ys at n low first_length_is second_length_is below = let same : size * 1 + at ≡ length ys + at = omega arith in
     ap (λ k. set (ys ++ xs) k n) same ∙ set_right ys xs at n
-two_set (suc (suc p)) size xs ys at n low first_length_is second_length_is below = absurd (omega arith)
+two_set (suc (suc p)) {size} xs ys at n low first_length_is second_length_is below = absurd (omega arith)
 
 -- ---- the calls of the one party
 
@@ -123,11 +121,6 @@ module _ {T : Type 0} (code : Coding T) (law : IsCoding code) (value : T) where
   -- the view of the only pass, with these turns and events
   abbrev maker : List (Turn T) → List (Event T) → View T
   maker = alone.maker machine
-
-  -- by every measure, the events so far are those of the only seat's parties
-  sums : {words : List ℕ} {ts : List (Turn T)} {es : List (Event T)} → (h : Here words ts es None)
-      → (f : Event T → ℕ) → sum_by f es ≡ sum_by (owned same_seat 0 f) h.u.events
-  sums {words} {ts} {es} h = alone.sums machine words ts es None h
 
   -- the words of a single value: the version, the role's word, and the two cells
   abbrev words_at : ℕ → ℕ → List ℕ → List ℕ
@@ -172,30 +165,30 @@ module _ {T : Type 0} (code : Coding T) (law : IsCoding code) (value : T) where
         let within = cell_within code.size v at below in
         core.set_at v 0 (cells at ++ 0 ∷ []) (word_at cell at) (code.size * (v % 2) + at) (get_or ws at 0) (asked_place code.size v at law.few below)
         ∙ ap (λ zs. v ∷ 0 ∷ zs) (set_left (cells at) (0 ∷ []) (code.size * (v % 2) + at) (get_or ws at 0) (omega arith)
-        ∙ ap (λ zs. zs ++ 0 ∷ []) (two_set (v % 2) code.size (mix at ws x) y at (get_or ws at 0) half (mixed ∙ x_long) y_long below
+        ∙ ap (λ zs. zs ++ 0 ∷ []) (two_set (v % 2) (mix at ws x) y at (get_or ws at 0) half (mixed ∙ x_long) y_long below
         ∙ ap (λ zs. two (v % 2) zs y) (mix_step at ws x (omega arith) (omega arith))))
 
     -- each word of the cell is one of the table's
     word_low : (at : ℕ) → at < code.size → word_at cell at < 2 + code.size * 2
     word_low = grind arith
 
+    -- the store of word `at` asks for its place in the cell
+    abbrev stores_word : (at : ℕ) → at < code.size → alone.AsksHere machine (now at) (storing at)
+    stores_word at below = record { a = record { word = word_at cell at; op = ops.Store (get_or ws at 0) }; low = word_low at below; asks = refl; finds = tt }
+
     -- after a word that is not the last one the store stands at the next word
     next : {ts : List (Turn T)} {es : List (Event T)} (at : ℕ) → at + 1 < code.size → Here (now at) ts es (Some (name, storing at))
         → Here (now (suc at)) (ts ++ Next 0 ∷ []) es (Some (name, storing (at + 1)))
     next {ts} {es} at more here =
         let tests_below : nat_lt (at + 1) code.size ≡ true = grind (arith, nat_tests) in
-        alone.goes_on machine (now at) ts es name (storing at) here
-        (record { word = word_at cell at; op = ops.Store (get_or ws at 0) }) (word_low at (omega arith)) refl tt
-        (now (suc at)) (storing (at + 1)) (put at (omega arith)) (rw tests_below refl) (rw tests_below refl)
+        alone.goes_on_at machine here (stores_word at (omega arith)) (put at (omega arith)) (rw tests_below refl) (rw tests_below refl)
 
     -- after the last word the store stands at the version
     last : {ts : List (Turn T)} {es : List (Event T)} (at : ℕ) → at + 1 ≡ code.size → Here (now at) ts es (Some (name, storing at))
         → Here (now (suc at)) (ts ++ Next 0 ∷ []) es (Some (name, flight_at stores.AddsVersion))
     last {ts} {es} at all here =
         let not_below : nat_lt (at + 1) code.size ≡ false = grind (arith, nat_tests) in
-        alone.goes_on machine (now at) ts es name (storing at) here
-        (record { word = word_at cell at; op = ops.Store (get_or ws at 0) }) (word_low at (omega arith)) refl tt
-        (now (suc at)) (flight_at stores.AddsVersion) (put at (omega arith)) (rw not_below refl) (rw not_below refl)
+        alone.goes_on_at machine here (stores_word at (omega arith)) (put at (omega arith)) (rw not_below refl) (rw not_below refl)
 
     -- the store goes through the words of its cell, one turn for each, and then stands at the version
     fills : {ts : List (Turn T)} {es : List (Event T)} (rest at : ℕ) → at + suc rest ≡ code.size
@@ -221,24 +214,19 @@ module _ {T : Type 0} (code : Coding T) (law : IsCoding code) (value : T) where
         let filling : List (Turn T) = replicate (suc (code.size - 1)) (Next 0) in
         let ended : List (Event T) = Acted 0 name (Truth true) ∷ Finished 0 name (Truth true) ∷ [] in
         -- the store begins, by the party that has the producer's role
-        let begun_so = alone.begins machine (stores_value code value) first_store tt (now 0) ts es here
-        (producer_starts code (maker ts es) (stores_value code value) (Store value) first_store tt refl (λ kept. refl)
-        (λ o p. tt) (λ holder p is. holds_it holder p is) has here.u same_seat 0 here.between.run refl refl
-        (sums here)) in
+        let begun_so = alone.begins_any machine (stores_value code value) first_store tt {words = now 0} here
+        (producer_starts (Store value) refl (λ kept. refl) (λ o p. tt) (λ holder p is. holds_it holder p is) has) in
         -- it loads the version, which is not the last one
-        let b =
-        alone.goes_on machine (now 0) ts1 xs name
-        (flight_at stores.LoadsVersion) begun_so (record { word = 0; op = ops.Load }) (omega arith) refl small
-        (now 0) (storing 0) refl (rw not_last refl) (rw not_last refl) in
+        let b : Here (now 0) ts2 xs (Some (name, storing 0)) =
+        alone.goes_on_at machine begun_so (record { a = record { word = 0; op = ops.Load }; low = omega arith; asks = refl; finds = small })
+        refl (rw not_last refl) (rw not_last refl) in
         -- it stores the words of the value
         let c = fills (code.size - 1) 0 (omega (arith, law.some)) b in
         let one : (v + 1) % 2 ^ 64 ≡ v + 1 = omega arith in
         -- it adds 1 to the version, and ends with true
-        let d =
-        alone.ends machine (now code.size) (ts2 ++ filling) xs name
-        (flight_at stores.AddsVersion) c (record { word = 0; op = ops.Add 1 }) (omega arith) refl tt
-        (words_at (v + 1) 0 (cells code.size)) (Truth true) (Acted 0 name (Truth true) ∷ [])
-        (ap (λ n. words_at n 0 (cells code.size)) one) refl refl (refl, tt) in
+        let d : Here (words_at (v + 1) 0 (cells code.size)) ((ts2 ++ filling) ++ Next 0 ∷ []) (xs ++ ended) None =
+        alone.ends_at machine c (record { a = record { word = 0; op = ops.Add 1 }; low = omega arith; asks = refl; finds = tt })
+        {answer = Truth true} {own = Acted 0 name (Truth true) ∷ []} (ap (λ n. words_at n 0 (cells code.size)) one) refl refl (refl, tt) in
         let whole : mix code.size ws x ≡ ws = mix_all code.size ws x (law.sized value) x_long in
         let order : ((ts2 ++ filling) ++ Next 0 ∷ []) ≡ ts ++ store_turns value code.size =
         append_assoc ts2 filling (Next 0 ∷ [])
@@ -274,20 +262,15 @@ module _ {T : Type 0} (code : Coding T) (law : IsCoding code) (value : T) where
   taken =
       let all : code.size + code.size ≡ code.size * 2 = omega arith in
       let cells : replicate (code.size * 2) 0 ≡ zeros ++ zeros = sym (replicate_both code.size code.size 0 ∙ ap (λ n. replicate n 0) all) in
-      let start = Atomic AcquireProducer in
       let stands_here : Here (words_at 1 1 (zeros ++ zeros)) [] [] None =
       subst (λ zs. Here (words_at 1 1 zs) [] [] None) cells
       (alone.opens_here machine law refl) in
       let begun_so =
-      alone.begins machine acquires_producer
-      (record { word = producer_word }) tt (words_at 1 1 (zeros ++ zeros)) [] [] stands_here
-      (plain_starts code (maker [] []) acquires_producer AcquireProducer (record { word = producer_word }) tt refl
-      (λ kept. refl) (λ o p is. is) (λ holder p. refl) stands_here.u same_seat 0 stands_here.between.run refl refl
-      (sums stands_here)) in
-      alone.ends machine (words_at 1 1 (zeros ++ zeros))
-      (Begin 0 start ∷ []) (Begun 0 start ∷ []) start (acquires_producer.flight (record { word = producer_word }) tt) begun_so
-      (record { word = producer_word; op = ops.Exchange 1 0 }) (omega arith) refl tt (words_at 1 0 (zeros ++ zeros))
-      (Truth true) [] refl refl refl tt
+      alone.begins_any machine acquires_producer (record { word = producer_word }) tt stands_here
+      (plain_starts AcquireProducer refl (λ kept. refl) (λ o p is. is) (λ holder p. refl)) in
+      alone.ends_at machine begun_so
+      (record { a = record { word = producer_word; op = ops.Exchange 1 0 }; low = omega arith; asks = refl; finds = tt })
+      {answer = Truth true} {own = []} refl refl refl tt
 
   -- after the first store the version is 2, and the second cell has the value
   once : Here (words_at 2 0 (opened_cells code value 1)) (stored_turns value code.size 1) (stored_times value 1) None
@@ -315,19 +298,16 @@ module _ {T : Type 0} (code : Coding T) (law : IsCoding code) (value : T) where
   given : (n : ℕ) → n < 2 ^ 64 - 1 → Here (words_at (n + 1) 1 (opened_cells code value n)) (opened_turns value code.size n) (opened value n) None
   given n low =
       let start = Atomic ReleaseProducer in
-      let ws' = words_at (n + 1) 0 (opened_cells code value n) in
       let es = stored_times value n in
       let ts = stored_turns value code.size n in
-      let h = stored n low in
-      let begun_so = alone.begins machine releases_producer (record { word = producer_word }) tt ws' ts es h
-      (producer_starts code (maker ts es) releases_producer ReleaseProducer (record { word = producer_word }) tt refl
-      (λ kept. refl) (λ o p. tt) (λ holder p is. holds_it holder p is) (has_it n) h.u same_seat 0 h.between.run refl
-      refl (sums h)) in
-      let b =
-      alone.ends machine ws' (ts ++ Begin 0 start ∷ []) (es ++ Begun 0 start ∷ []) start
-      (releases_producer.flight (record { word = producer_word }) tt) begun_so
-      (record { word = producer_word; op = ops.Store 1 }) (omega arith) refl tt
-      (words_at (n + 1) 1 (opened_cells code value n)) answers.Done [] refl refl refl tt in
+      let before = stored n low in
+      let begun_so = alone.begins_any machine releases_producer (record { word = producer_word }) tt before
+      (producer_starts ReleaseProducer refl (λ kept. refl) (λ o p. tt) (λ holder p is. holds_it holder p is) (has_it n)) in
+      let b : Here (words_at (n + 1) 1 (opened_cells code value n)) ((ts ++ Begin 0 start ∷ []) ++ Next 0 ∷ [])
+      ((es ++ Begun 0 start ∷ []) ++ Finished 0 start answers.Done ∷ []) None =
+      alone.ends_at machine begun_so
+      (record { a = record { word = producer_word; op = ops.Store 1 }; low = omega arith; asks = refl; finds = tt })
+      {answer = answers.Done} {own = []} refl refl refl tt in
       subst (λ zs. Here (words_at (n + 1) 1 (opened_cells code value n)) zs (opened value n) None) (append_assoc ts (Begin 0 start ∷ []) (Next 0 ∷ []))
       (subst (λ zs. Here (words_at (n + 1) 1 (opened_cells code value n)) ((ts ++ Begin 0 start ∷ []) ++ Next 0 ∷ []) zs None)
       (append_assoc es (Begun 0 start ∷ []) (Finished 0 start answers.Done ∷ [])) b)

@@ -34,9 +34,9 @@ use Rattle.history.specs.Stages.{Calling, At}
 use Rattle.history.specs.ValueQueue.{IsWordOf, PushPlace, PopPlace, value_pop_wrote, pushes_value, value_there, pops_value}
 use Rattle.history.proofs.Drives.{goes, keeps, keeps_to_end}
 use Rattle.history.proofs.QueueCalls.{holds_it}
-use Rattle.history.proofs.Queues.{queue_effects, role_starts, queue_machines}
+use Rattle.history.proofs.Queues.{queue_effects, role_begins, queue_machines}
 use Rattle.history.proofs.Rooms.{room_set, room_read}
-use Rattle.history.proofs.CallsIn.{Driven, IsCallBy, KeepsEnds, KeepsOver}
+use Rattle.history.proofs.CallsIn.{Driven, IsCallBy, KeepsEnds, KeepsOver, each_tells, last_tells}
 use Rattle.laws_robust.proofs.Cases.{by_bool}
 
 -- a word of a cell is one of the table's words
@@ -125,13 +125,13 @@ module _ {T : Type 0} (code : Coding T) (law : IsCoding code) (v : T) where
         some = any;
         first = refl;
         starts =
-            role_starts code queues.Queue x pushing (Push v) (first_push x.capacity) m refl (λ kept. refl)
-            Producer (λ o p. tt) (λ roles p is. holds_it roles.producer p is) has;
+            role_begins queues.Queue (Push v) refl (λ kept. refl) Producer (λ o p. tt) (λ roles p is. holds_it roles.producer p is) has;
         wrote = λ p. refl;
       })
 
 -- ---- pops
 
+-- R is the room of a value's words: `words_in` are its words, and `with_word` puts one of them
 module _ {T R : Type 0} (code : Coding T) (law : IsCoding code) (words_in : R → List ℕ) (with_word : R → ℕ → ℕ → R)
     (put_in : (x : R) (at word : ℕ) → words_in (with_word x at word) ≡ slice_set (words_in x) at word) where
   -- a pop, as a call of the model
@@ -242,10 +242,12 @@ module _ {T R : Type 0} (code : Coding T) (law : IsCoding code) (words_in : R �
         past = λ capacity c d n k h e. refl;
         finds = λ c m n small t. tt;
         leaves = λ c a n t e. absurd (cc);
-        tells = λ capacity p from c d m n es h wrote e. ap (λ zs. zs ++ queue_effects code p (popping.flight c m) n) wrote ∙ pop_quiet p n c d m c.stage e;
-        tells_all =
-            λ capacity p from c b m n es h skip wrote e still. ap (λ zs. zs ++ queue_effects code p (popping.flight c m) n) wrote
-            ∙ pop_loud p n c m b c.stage e;
+        tells = each_tells (queue_effects code) pop_driven (λ step d leads.
+            ap (λ zs. zs ++ queue_effects code step.p (popping.flight step.c step.m) step.n) step.wrote
+            ∙ pop_quiet step.p step.n step.c d step.m step.c.stage leads);
+        tells_all = last_tells (queue_effects code) pop_driven (λ step b skip leads.
+            ap (λ zs. zs ++ queue_effects code step.p (popping.flight step.c step.m) step.n) step.wrote
+            ∙ pop_loud step.p step.n step.c step.m b step.c.stage leads);
       }
 
   -- each step of a pop keeps the rule of the table
@@ -266,8 +268,7 @@ module _ {T R : Type 0} (code : Coding T) (law : IsCoding code) (words_in : R �
         some = any;
         first = named;
         starts =
-            role_starts code queues.Queue x popping Pop (first_pop x.capacity) m refl (λ kept. named)
-            Consumer (λ o p. tt) (λ roles p is. holds_it roles.consumer p is) has;
+            role_begins queues.Queue Pop refl (λ kept. named) Consumer (λ o p. tt) (λ roles p is. holds_it roles.consumer p is) has;
         wrote = λ p. refl;
       })
     where

@@ -78,7 +78,8 @@ module _ {T : Type 0} (code : Coding T) (law : IsCoding code) where
     -- a call on lengths begins on a pass with no call under way
     pub value_len_first : (size : ℕ) (x : View T) (m : Unit {0}) → x.capacity ≡ size → x.going ≡ None → x.other ≡ []
         → 0 < x.share.part → At code kinds.Queue (counts_waiting which size) x x (first_len size) m
-    value_len_first size x m same idle alone any = len_first_on code queues.Queue x m idle alone any which size same
+    value_len_first size x m same idle alone any =
+        let first_on = len_first_on code queues.Queue x m idle alone any in first_on which size same
 
 -- ---- the table of a queue of values opens empty
 

@@ -91,10 +91,11 @@ module _ {T : Type 0} (code : Coding T) (capacity : ℕ) where
       let here = stands t.world p start flight call_is in
       let there = stands_there (family t.world.coding t.world.capacity) t is_sound p here.x here.since flight here.found here.doing in
       let waits = beside_of t.world.words t.world.kept t.world.latest p in
+      let facts_here = facts t.world.coding t.world.words waits t.world.capacity p in
       let fact = λ (x : Party T) (n : ℕ) (found : party_of p t.world.latest ≡ Some x).
       (let same : here.x ≡ x = (let both : Some here.x ≡ Some x = sym here.found ∙ found in cc) in
       subst (λ (st : Start T). StepFacts t.world.coding t.world.words waits p n st flight t.world.kept) (ap (λ (y : Party T). y.start) same)
-      (facts t.world.coding t.world.words waits t.world.capacity p n is_sound.state here.x.start flight t.world.kept is_sound.fit.kept there.at))
+      (facts_here n is_sound.state here.x.start flight t.world.kept is_sound.fit.kept there.at))
       in
       record {
         may = (fact here.x 0 here.found).may;
@@ -144,7 +145,7 @@ module _ {T : Type 0} (owner : ℕ → ℕ) (j : ℕ) where
   pub producer_by : (all made : List (Event T)) → Each GrantsRight all
       → ((f : Event T → ℕ) → sum_by f made ≡ sum_by (owned owner j f) all) → HasProducer made
       → (p : ℕ) × (owner p ≡ j) × (holder_of all ≡ Some p)
-  producer_by all made each sums has = held_by_one takes_producer gives_producer holder_after owner j all made (all_move all each) sums has
+  producer_by all made each sums has = held_by_one takes_producer gives_producer holder_after owner j made (all_move all each) sums has
 
 -- a pass has given back each acquire of the role that it made, or holds the role now
 pub producer_once : {T : Type 0} (v : View T) → Each GrantsRight v.seen → IsOfParties v
@@ -155,26 +156,28 @@ producer_once v each of_parties =
 
 -- ---- which party may begin a call
 
-module _ {T C M E : Type 0} (code : Coding T) (base : View T) (call : Calling T C M E) (start : AtomicStart T)
-    (c : C) (m : M) (is_named : call.start ≡ Atomic start)
-    (first_is : (kept : Registry T) → first_of kinds.Atomic base.capacity (Atomic start) kept ≡ Some (call.flight c m)) where
+-- by every measure, what the pass has made is what its parties wrote
+abbrev MadeByParties : {T : Type 0} → View T → Trace T → (ℕ → ℕ) → ℕ → Type 0
+MadeByParties {T} base t owner j = (f : Event T → ℕ) → sum_by f base.made ≡ sum_by (owned owner j f) t.events
+
+module _ {T : Type 0} (code : Coding T) (base : View T) where
   -- the machine is one of a run of a single value, of the pass's capacity
   abbrev IsPassRun : Trace T → Type 0
   IsPassRun t = IsRun code kinds.Atomic base.capacity t
-
-  -- by every measure, what the pass has made is what its parties wrote
-  abbrev MadeByParties : Trace T → (ℕ → ℕ) → ℕ → Type 0
-  MadeByParties t owner j = (f : Event T → ℕ) → sum_by f base.made ≡ sum_by (owned owner j f) t.events
 
   -- a machine of a single value keeps who holds the producer's role
   kept_there : (t : Trace T) → IsPassRun t → (holder : Option ℕ) × (t.world.kept ≡ registries.Atomic holder)
   kept_there t is_pass_run = let is_sound = value_sound code base.capacity is_pass_run in (is_sound.state.holder, is_sound.fit.kept)
 
+-- a call of the driver at its first stage, on a pass with the view base, is a call `start` of the model on a single value
+module _ {T C M E : Type 0} {code : Coding T} {base : View T} {call : Calling T C M E} (start : AtomicStart T)
+    {c : C} {m : M} (is_named : call.start ≡ Atomic start)
+    (first_is : (kept : Registry T) → first_of kinds.Atomic base.capacity (Atomic start) kept ≡ Some (call.flight c m)) where
   -- the call may begin as that of party p, whom the machine finds without a call under way
-  as_party : {t : Trace T} {owner : ℕ → ℕ} {j : ℕ} (p : ℕ) → IsPassRun t → owner p ≡ j → call.by base.party p
-      → (holder : Option ℕ) → t.world.kept ≡ registries.Atomic holder → lacks_role holder p start ≡ false
+  as_party : {t : Trace T} {owner : ℕ → ℕ} {j : ℕ} (p : ℕ) → IsPassRun code base t → owner p ≡ j → call.by base.party p
+      → {holder : Option ℕ} → t.world.kept ≡ registries.Atomic holder → lacks_role holder p start ≡ false
       → Starts code kinds.Atomic call base c m t owner j
-  as_party {t} p run mine by holder kept_is lacks =
+  as_party {t} p run mine by kept_is lacks =
       let free : first_row (kept_rows start t.world.kept p) ≡ None = subst (λ k. first_row (kept_rows start k p) ≡ None) (sym kept_is) (rw lacks refl) in
       record {
         party = p;
@@ -186,36 +189,36 @@ module _ {T C M E : Type 0} (code : Coding T) (base : View T) (call : Calling T 
 
   -- a call that needs no role begins as that of the party that the pass was last, or of the pass's own number
   pub plain_starts : ((o : Option ℕ) (p : ℕ) → IfSome o (λ q. q ≡ p) → call.by o p) → ((holder : Option ℕ) (p : ℕ) → lacks_role holder p start ≡ false)
-      → (t : Trace T) (owner : ℕ → ℕ) (j : ℕ) → IsPassRun t → owner j ≡ j → IfSome base.party (λ p. owner p ≡ j)
-      → MadeByParties t owner j → Starts code kinds.Atomic call base c m t owner j
+      → (t : Trace T) (owner : ℕ → ℕ) (j : ℕ) → IsPassRun code base t → owner j ≡ j → IfSome base.party (λ p. owner p ≡ j)
+      → MadeByParties base t owner j → Starts code kinds.Atomic call base c m t owner j
   plain_starts by_last free t owner j run self party sums = go base.party refl party
     where
       -- the machine keeps who holds the producer's role
       kept : (holder : Option ℕ) × (t.world.kept ≡ registries.Atomic holder)
-      kept = kept_there t run
+      kept = kept_there code base t run
 
       -- whether the pass was a party last or not, the call begins, as that party or as the one of the pass's own number
       go : (o : Option ℕ) → base.party ≡ o → IfSome o (λ p. owner p ≡ j) → Starts code kinds.Atomic call base c m t owner j
       go None party_is if_some =
           as_party j run self
-          (by_last base.party j (subst (λ (z : Option ℕ). IfSome z (λ q. q ≡ j)) (sym party_is) tt)) kept.0 kept.1
+          (by_last base.party j (subst (λ (z : Option ℕ). IfSome z (λ q. q ≡ j)) (sym party_is) tt)) kept.1
           (free kept.0 j)
       go (Some p) party_is if_some =
           as_party p run if_some
-          (by_last base.party p (subst (λ (z : Option ℕ). IfSome z (λ q. q ≡ p)) (sym party_is) refl)) kept.0 kept.1
+          (by_last base.party p (subst (λ (z : Option ℕ). IfSome z (λ q. q ≡ p)) (sym party_is) refl)) kept.1
           (free kept.0 p)
 
   -- a call that needs the producer's role begins as that of the pass's party which holds the role
   pub producer_starts : ((o : Option ℕ) (p : ℕ) → call.by o p)
       → ((holder : Option ℕ) (p : ℕ) → holder ≡ Some p → lacks_role holder p start ≡ false) → HasProducer base.made
-      → (t : Trace T) (owner : ℕ → ℕ) (j : ℕ) → IsPassRun t → owner j ≡ j → IfSome base.party (λ p. owner p ≡ j)
-      → MadeByParties t owner j → Starts code kinds.Atomic call base c m t owner j
+      → (t : Trace T) (owner : ℕ → ℕ) (j : ℕ) → IsPassRun code base t → owner j ≡ j → IfSome base.party (λ p. owner p ≡ j)
+      → MadeByParties base t owner j → Starts code kinds.Atomic call base c m t owner j
   producer_starts by_any free has t owner j run self party sums =
       let value = value_goes_on code base.capacity t run in
-      let kept = kept_there t run in
+      let kept = kept_there code base t run in
       let by_this_party = producer_by owner j t.events base.made value.roles sums has in
       let keeps : KeepsHolder (registries.Atomic kept.0) t.events = subst (λ k. KeepsHolder k t.events) kept.1 value.holder in
-      as_party by_this_party.0 run by_this_party.1 (by_any base.party by_this_party.0) kept.0 kept.1
+      as_party by_this_party.0 run by_this_party.1 (by_any base.party by_this_party.0) kept.1
       (free kept.0 by_this_party.0 (keeps ∙ by_this_party.2))
 
 -- the machines of single values

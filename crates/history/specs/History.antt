@@ -53,7 +53,7 @@ module _ {T : Type 0} where
   call_of None = None
   call_of (Some x) = call_at x.start x.doing
 
-  -- the party's call under way, with its name
+  -- the call under way of the party of this number: its start, and where it stands
   abbrev pub call_in : World T → ℕ → Option (Start T × Flight T)
   call_in w p = call_of (party_of p w.latest)
 

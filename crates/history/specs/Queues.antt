@@ -168,7 +168,7 @@ module _ {T : Type 0} where
         wrote_all = λ capacity p from b m es. es ≡ [];
       }
 
-  -- A release of this role, by the party that holds it. It writes nothing between its begin and its end.
+  -- A release of this role. (The machine refuses a party that does not hold it.) It writes nothing between its begin and its end.
   abbrev pub gives_role : Role → Calling T ReleaseRole (Unit {0}) (Unit {0})
   gives_role role =
       record {

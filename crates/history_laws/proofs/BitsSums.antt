@@ -25,6 +25,7 @@ changes before (Set p bit) finds = omega arith
 changes before (Cleared p bit) finds = omega arith
 changes before e finds = tt
 
+-- A history of a bit set is that of a machine, so that the laws of the machine hold of its events.
 module _ {T : Type 0} (code : Coding T) (capacity : ℕ) (events : List (Event T)) (h : IsHistory code kinds.Bits capacity events) where
   -- the machine of the history is one of a bit set, with its laws
   machine : IsBitSet h.trace

@@ -219,6 +219,7 @@ module _ {T : Type 0} (code : Coding T) (c : ℕ) where
   any_step p flight answer dead states =
       as_step flights.Container (λ kept. registries.Container kept.0 kept.1) (calls.step code p flight answer dead states)
 
+  -- Word `n` is a counter. A step of the call `flight` of party `p` raises it by no more than the events that it writes allow.
   module _ (n : ℕ) (words : List ℕ) (p : ℕ) (dead : List ℕ) (states : List (ℕ × ContainerState T)) (flight : ContainerFlight T) where
     -- the step writes at least the effects of the container's call
     writes : (old : ℕ) → rises (calls.effects code p (state_of p states) flight old) ≤ rises (any_step p flight old dead states).wrote
@@ -306,6 +307,7 @@ module _ {T : Type 0} (code : Coding T) (c : ℕ) (t : Trace T) (s : Sound code 
   owners : t.world.kept ≡ Kept
   owners = s.fit.kept
 
+  -- A call of party `p` is under way. The laws of the container say where it stands, so its steps raise the counter by no more than that.
   module _ (p : ℕ) (x : Party T) (flight : Flight T) (since : ℕ) (found : party_of p t.world.latest ≡ Some x) (doing : x.doing ≡ Going flight since) where
     -- the call stands as the container's laws say
     at : FlightAt c code.size (set_acts_of p s.state.events) (acts_of p s.state.events) x.start flight

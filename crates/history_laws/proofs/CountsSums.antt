@@ -18,6 +18,7 @@ takes_all before (TakenOut p place number) finds =
     (omega arith, finds.2)
 takes_all before e finds = tt
 
+-- A history of a counting bit set is that of a machine, so that the laws of the machine hold of its events.
 module _ {T : Type 0} (code : Coding T) (capacity : ℕ) (events : List (Event T)) (h : IsHistory code kinds.Counts capacity events) where
   -- the machine of the history is one of a counting bit set, with its laws
   machine : IsCountingOn h.trace

@@ -66,6 +66,7 @@ pub record Good (filled holder settled : Option ℕ) (right : Right) (claims : �
   -- right to it
   pub giving : (q o : ℕ) → claims q ≡ Giving o → Began q o → (filled ≡ Some o) × (right ≡ By q)
 
+-- The claims of all calls are right before a step (`g`), which leads from `claims` to `next`. Below it is shown that they are right after it.
 module _ (filled holder settled : Option ℕ) (right : Right) (claims next : ℕ → Claim) (Began After : ℕ → ℕ → Type 0)
     (g : Good filled holder settled right claims Began) where
   -- the call of party q claims nothing now, or what it claimed before

@@ -2,11 +2,11 @@
 -- earlier owner left there, stores the words of its value, places it and counts the change. Until it ends its
 -- party alone may write there. What a step has to show is said by `StepOf` and `Leads` of `Stages`.
 use Rattle.laws_container.proofs.Names.{◌≡◌, ◌≢◌, ◌⊎◌, ⊎_elim, inl, inr, ℕ, ◌+◌, ◌*◌, ◌%◌, ◌<◌, ◌≤◌, ◌==◌}
-use Rattle.laws_container.proofs.Names.{if◌then◌else◌, nat_lt, Bool, false, true, Option, Some, None, is_some, List}
+use Rattle.laws_container.proofs.Names.{if◌then◌else◌, nat_lt, false, true, Option, Some, None, is_some, List}
 use Rattle.laws_container.proofs.Names.{[], ◌∷◌, ◌++◌, get_or, set, refl, sym, ap, subst, ◌∙◌, append-nil, arith}
 use Rattle.laws_container.proofs.Names.{cases_eq, nat_tests, fold-append, Ask, After, GoOn, AddStage, Added}
 use Rattle.laws_container.proofs.Names.{first_add, at_add, change_word, count_word, element_word, is_even}
-use Rattle.laws_container.proofs.Names.{one_more, went_on, Answer, Index, Placed, Hidden, Finished, Container}
+use Rattle.laws_container.proofs.Names.{one_more, went_on, Answer, Event, Index, Placed, Hidden, Finished, Container}
 use Rattle.laws_container.proofs.Names.{ContainerStart, ContainerFlight, Party, added, Act, Places, Hides, places}
 use Rattle.laws_container.proofs.Names.{contents_after, contents_of, announced_after, announced_of, SetAct}
 use Rattle.laws_container.proofs.Names.{as_it_is, put, as_call, words_after, step_count}
@@ -21,16 +21,16 @@ use Rattle.laws_robust.proofs.Stages as set_stages
 use Rattle.laws_container.proofs.Adds.{Adding, acquire_step}
 use Rattle.laws_container.proofs.Contents.{store_writes}
 use Rattle.laws_container.proofs.Core.{count_at, count_set}
-use Rattle.laws_container.proofs.Invariant.{before, after, of_set, inv_of_set, view}
+use Rattle.laws_container.proofs.Invariant.{before, after, inv_of_set}
 use Rattle.laws_container.proofs.Knows.{AddOwns, Covers, Writes, HasPlaced, Stood, AddKnows, Knows}
 use Rattle.laws_container.proofs.Left.{left_after, left_of}
 use Rattle.laws_container.proofs.WellFormed.{IsWellFormedSoFar}
 use Rattle.laws_container.proofs.Sets.{leaves_behind, settles}
-use Rattle.laws_container.proofs.Stages.{IsUnderWay, all, done, sees_now, then_sees, StepOf, Leads, none_lengthens}
-use Rattle.laws_container.proofs.Stages.{party_then, since_then, changes_then, backs_then, acts_more, goes_on}
+use Rattle.laws_container.proofs.Stages.{sees_calmly, Call, IsUnderWay, all, done, sees_now, then_sees, StepOf, Leads, none_lengthens}
+use Rattle.laws_container.proofs.Stages.{party_then, backs_then, acts_more, goes_on}
 use Rattle.laws_container.proofs.Stages.{goes_calmly, ends, was_well_formed, was_well_formed_calmly}
 use Rattle.laws_container.proofs.CallProgress.{add_at, add_number, AddAt, IsGranted, MayHaveHidden}
-use Rattle.laws_container.proofs.Steps.{loads, stores_word, hides, places as places_it, misplaces, ends_counted}
+use Rattle.laws_container.proofs.Steps.{loads, StoresWord, stores_word, hides, places as places_it, misplaces, ends_counted}
 use Rattle.laws_container.proofs.Turns.{WellFormed, add_owes, count_in}
 use Rattle.laws_container.proofs.Writers.{IsWriter, one_writer}
 use Rattle.laws_container.proofs.Writing.{even_is, odd_is, adds_one, stores_to, adds_to_count, adds_to_change, hides_count}
@@ -69,6 +69,10 @@ module _ {T : Type 0} (adding : Adding T) (i : ℕ)
   abbrev IsAtStage : AddStage → Type 0
   IsAtStage stage = IsUnderWay scene (Add value owner) (add_at c value owner stage)
 
+  -- the add at this stage, as a call of the container
+  abbrev as_given : (stage : AddStage) → IsAtStage stage → Call T
+  as_given stage here = record { scene = scene; inv = inv; start = start; flight = at_stage stage; no_look = tt; here = here }
+
   -- the party after the step by which the add comes to stage `next`
   abbrev then_at : AddStage → Option Ask → Party T
   then_at next ask = party_then scene start ask false (GoOn (at_stage next))
@@ -85,8 +89,7 @@ module _ {T : Type 0} (adding : Adding T) (i : ℕ)
 
     -- the add owns its index after a step that writes nothing
     owns_calm : (ask : Option Ask) (y : Party T)
-        → AddOwns c owner i (view scene.terms (words_after ws ask) scene.states (put p y latest) events p (since_then scene ask)
-        (changes_then scene ask) (backs_then scene false))
+        → AddOwns c owner i (sees_calmly scene ask false scene.states y)
     owns_calm = grind (arith, below)
 
     -- the add owns its index after it has hidden what stood there
@@ -105,14 +108,17 @@ module _ {T : Type 0} (adding : Adding T) (i : ℕ)
         → add_owes next ≡ true → steps + step_count ask ≤ add_number c code.size next (backs_then scene false)
         → AddAt c code.size (all scene) (done scene) owner next
         → Knows code c (at_stage next)
-        (view scene.terms (words_after ws ask) scene.states (put p (then_at next ask) latest) events p
-        (since_then scene ask) (changes_then scene ask) (backs_then scene false))
+        (sees_calmly scene ask false scene.states (then_at next ask))
         → Leads scene start ask false scene.states [] (GoOn (at_stage next))
     calm_step stage next ask same here owe few stands known =
-        goes_calmly scene start (at_stage next) ask false scene.states here.span
-        (loads scene inv start (at_stage stage) tt here (then_at next ask) same
-        (was_well_formed scene start tt here.span (words_after ws ask) (then_at next ask) [] tt) (λ was. owe))
-        few (refl, refl, fits, stands) known
+        goes_calmly scene (at_stage next) ask false here.span (record {
+          does =
+              loads (as_given stage here) (then_at next ask) same
+              (was_well_formed scene start tt here.span (words_after ws ask) (then_at next ask) [] tt) (λ was. owe);
+          few = few;
+          stands = (refl, refl, fits, stands);
+          known = known;
+        })
 
     -- where the number of the element is even, an add that has stored no word knows that none of
     -- its value is written
@@ -120,8 +126,7 @@ module _ {T : Type 0} (adding : Adding T) (i : ℕ)
         → (WellFormed (before scene) → count_in code c (before scene) i % 2 ≡ 0)
         → (IsWellFormedSoFar scene.terms (put p y latest) events → WellFormed (before scene))
         → Writes code c owner i value 0
-        (view scene.terms (words_after ws ask) scene.states (put p y latest) events p (since_then scene ask)
-        (changes_then scene ask) (backs_then scene false))
+        (sees_calmly scene ask false scene.states y)
     first_word ask y same even well_formed = grind arith
 
     -- ---- the number is loaded
@@ -187,17 +192,22 @@ module _ {T : Type 0} (adding : Adding T) (i : ℕ)
           let well_formed = was_well_formed scene start tt here.span (words_after ws hide_it) party_after (Hidden p i ∷ []) (refl, tt) in
           let after : count_at c (words_after ws hide_it) i ≡ one_more now_at =
           ap (λ w. count_at c w i) new ∙ count_set c code.size ws i (one_more now_at) (omega arith) in
-          goes_on scene start (at_stage (adds.Stores i 0)) hide_it false scene.states (Hidden p i ∷ []) here.span (λ start w. refl)
-          (hides scene inv start (at_stage (adds.Hides i count)) tt here party_after (words_after ws hide_it)
-          i below new refl now_odd (λ holds q ne o theirs fresh. nobody_else holds q ne o theirs) well_formed)
-          ((granted.1, none), tt) (omega arith)
-          (refl, refl, fits, ((below, ap (λ (d : List SetAct). d ++ []) granted.1), inr (ap (λ d. d ++ Hides i ∷ []) none), omega arith)) (
-            owns_hidden hide_it party_after,
-            record {
-              few = omega arith;
-              has = λ holds lives. record { even = ap (λ n. n % 2) after ∙ omega arith; written = λ j js. absurd (omega arith) };
-            },
-          ))
+          goes_on scene (at_stage (adds.Stores i 0)) hide_it false here.span (record {
+            longer = λ start w. refl;
+            does =
+                hides (as_given (adds.Hides i count) here) party_after (record { below = below; new = new; owed = refl }) now_odd
+                (λ holds q ne o theirs fresh. nobody_else holds q ne o theirs) well_formed;
+            follows = ((granted.1, none), tt);
+            few = omega arith;
+            stands = (refl, refl, fits, ((below, ap (λ (d : List SetAct). d ++ []) granted.1), inr (ap (λ d. d ++ Hides i ∷ []) none), omega arith));
+            known = (
+              owns_hidden hide_it party_after,
+              record {
+                few = omega arith;
+                has = λ holds lives. record { even = ap (λ n. n % 2) after ∙ omega arith; written = λ j js. absurd (omega arith) };
+              },
+            );
+          }))
           -- the number is another one: another call has hidden what stood there, and the step changes nothing
           (λ t.
           let other : now_at ≢ count = grind (arith, nat_tests) in
@@ -225,22 +235,25 @@ module _ {T : Type 0} (adding : Adding T) (i : ℕ)
           → steps + 1 ≤ add_number c code.size next (backs_then scene false)
           → AddAt c code.size (all scene) (done scene) owner next
           → Knows code c (at_stage next)
-          (view scene.terms (words_after ws store_it) scene.states (put p (then_at next store_it) latest) events p
-          (since_then scene store_it) (changes_then scene store_it) (backs_then scene false))
+          (sees_calmly scene store_it false scene.states (then_at next store_it))
           → Leads scene start store_it false scene.states [] (GoOn (at_stage next))
       store_to next owe few stands known =
-          goes_calmly scene start (at_stage next) store_it false scene.states here.span
-          (stores_word scene inv start (at_stage (adds.Stores i at)) tt here (then_at next store_it) below ats owner
-          mine (λ holds. has_stored.has holds (acts.stays holds.kept))
-          refl
-          (was_well_formed scene start tt here.span (words_after ws store_it) (then_at next store_it) [] tt) (λ was. owe))
-          few (refl, refl, fits, stands) known
+          goes_calmly scene (at_stage next) store_it false here.span (record {
+            does =
+                stores_word (as_given (adds.Stores i at) here) (then_at next store_it) word_stored
+                (was_well_formed scene start tt here.span (words_after ws store_it) (then_at next store_it) [] tt) (λ was. owe);
+            few = few;
+            stands = (refl, refl, fits, stands);
+            known = known;
+          })
+        where
+          word_stored : StoresWord (as_given (adds.Stores i at) here) (then_at next store_it) (words_after ws store_it) i at value owner
+          word_stored = record { below = below; word = ats; mine = mine; writing = λ holds. has_stored.has holds (acts.stays holds.kept); new = refl }
 
       -- after the store of a word, one word more of the value is written
       one_more_word : (next : AddStage)
           → Writes code c owner i value (at + 1)
-          (view scene.terms (words_after ws store_it) scene.states (put p (then_at next store_it) latest) events p
-          (since_then scene store_it) (changes_then scene store_it) (backs_then scene false))
+          (sees_calmly scene store_it false scene.states (then_at next store_it))
       one_more_word next =
           record {
             few = omega arith;
@@ -269,9 +282,7 @@ module _ {T : Type 0} (adding : Adding T) (i : ℕ)
           store_to (adds.AddsCount i) refl (omega arith) (granted, hidden) (
             owns_calm store_it (then_at (adds.AddsCount i) store_it),
             subst (λ n. Writes code c owner i value n
-                (view scene.terms (words_after ws store_it) scene.states
-                (put p (then_at (adds.AddsCount i) store_it) latest) events p (since_then scene store_it)
-                (changes_then scene store_it) (backs_then scene false)))
+                (sees_calmly scene store_it false scene.states (then_at (adds.AddsCount i) store_it)))
                 is_last (one_more_word (adds.AddsCount i)),
           ))
 
@@ -302,20 +313,26 @@ module _ {T : Type 0} (adding : Adding T) (i : ℕ)
           (is_even count_now)
           -- the number is even: the step places the value
           (λ t.
-          let es = Placed p i value ∷ [] in
+          let es : List (Event T) = Placed p i value ∷ [] in
           let well_formed = was_well_formed scene start tt here.span (words_after ws add_it) y es (refl, tt) in
-          goes_on scene start (at_stage (adds.AddsChange i)) add_it false scene.states es here.span (λ start has_stored. refl)
-          (places_it scene inv start (at_stage (adds.AddsCount i)) tt here y (words_after ws add_it)
-          i below new refl value owner acts mine (λ holds. has_stored.has holds (acts.stays holds.kept)) well_formed)
-          ((refl, granted.1, hidden), tt) (omega arith)
-          (refl, refl, fits, (below, ap (λ (d : List SetAct). d ++ []) granted.1)) (
-            owns_placed add_it y,
-            (λ holds. ap (λ a. places a) (acts_more scene start here.span es (refl, tt) (λ start has_stored. refl)) ∙ placed_once (done scene) i value hidden),
-            (λ holds lives. (
-              fold-append (left_after i) true events es ∙ at_same i i false (left_of i events) refl,
-              ap is_some (fold-append (contents_after i) None events es ∙ at_same i i (Some value) (contents_of i events) refl),
-            )),
-          ))
+          goes_on scene (at_stage (adds.AddsChange i)) add_it false here.span (record {
+            longer = λ start has_stored. refl;
+            does =
+                places_it (as_given (adds.AddsCount i) here) y (record { below = below; new = new; owed = refl }) acts mine
+                (λ holds. has_stored.has holds (acts.stays holds.kept)) well_formed;
+            follows = ((refl, granted.1, hidden), tt);
+            few = omega arith;
+            stands = (refl, refl, fits, (below, ap (λ (d : List SetAct). d ++ []) granted.1));
+            known = (
+              owns_placed add_it y,
+              (λ holds. ap (λ a. places a) (acts_more scene start here.span es (refl, tt) (λ start has_stored. refl))
+                  ∙ placed_once (done scene) i value hidden),
+              (λ holds lives. (
+                fold-append (left_after i) true events es ∙ at_same i i false (left_of i events) refl,
+                ap is_some (fold-append (contents_after i) None events es ∙ at_same i i (Some value) (contents_of i events) refl),
+              )),
+            );
+          }))
           -- the number is odd: a well-formed run has no such step, so nothing is to be said of what stands
           (λ t.
           let well_formed = was_well_formed scene start tt here.span (words_after ws add_it) y [] tt in
@@ -324,15 +341,15 @@ module _ {T : Type 0} (adding : Adding T) (i : ℕ)
           let even = (has_stored.has (well_formed holds) (acts.stays holds.kept)).even in
           let odd = odd_is count_now t in
           absurd {A = ⊥} (omega arith) in
-          goes_calmly scene start (at_stage (adds.AddsChange i)) add_it false scene.states here.span
-          (misplaces scene inv start (at_stage (adds.AddsCount i)) tt here y (words_after ws add_it) i below new refl well_formed ill_formed)
-          (omega arith) (refl, refl, fits, granted) (
-            owns_calm add_it y,
-            (λ holds. absurd
-                (ill_formed (subst (λ es. IsWellFormedSoFar scene.terms (put p y latest) es) (sym (append-nil events)) holds))),
-            (λ holds lives. absurd
-                (ill_formed (subst (λ es. IsWellFormedSoFar scene.terms (put p y latest) es) (sym (append-nil events)) holds))),
-          ))
+          let never = λ (holds : IsWellFormedSoFar scene.terms (put p y latest) events).
+          ill_formed (subst (λ es. IsWellFormedSoFar scene.terms (put p y latest) es) (sym (append-nil events)) holds) in
+          goes_calmly scene (at_stage (adds.AddsChange i)) add_it false here.span (record {
+            does =
+                misplaces (as_given (adds.AddsCount i) here) y {i = i} (record { below = below; new = new; owed = refl }) well_formed ill_formed;
+            few = omega arith;
+            stands = (refl, refl, fits, granted);
+            known = (owns_calm add_it y, (λ holds. absurd (never holds)), (λ holds lives. absurd (never holds)));
+          }))
 
     -- ---- the change is counted, and the call ends
 
@@ -346,17 +363,26 @@ module _ {T : Type 0} (adding : Adding T) (i : ℕ)
       ends_step : StepOf scene start (at_stage (adds.AddsChange i))
       ends_step =
           let party_after = party_then scene start end_it false (Done (Index i)) in
-          let written = Finished p (Container start) (Index i) ∷ [] in
+          let written : List (Event T) = Finished p (Container start) (Index i) ∷ [] in
           let well_formed = was_well_formed scene start tt here.span (words_after ws end_it) party_after written (refl, tt) in
           let new = adds_to_change inv in
-          ends scene start (Index i) end_it false scene.states [] here.span none_lengthens
-          (ends_counted scene inv start (at_stage (adds.AddsChange i)) tt here party_after (Index i)
-          (settles (inv_of_set scene inv)
-          (leaves_behind (inv_of_set scene inv) (words_after ws end_it) (change_word c) _ (omega arith) new) value
-          (λ calm. owns.owns (calm_less scene.terms.by events written calm)
-          (lives_settled scene.terms.by p i owner value events acts.alive calm.1)))
-          tt well_formed (λ holds. placed (well_formed holds)) new says)
-          ((refl, granted.1), tt) (omega arith) (let paid = owns.paid in omega arith)
+          ends scene (Index i) end_it false here.span (record {
+            longer = none_lengthens;
+            does = ends_counted (as_given (adds.AddsChange i) here) party_after (record {
+              set_does =
+                  settles (inv_of_set scene inv)
+                  (leaves_behind (inv_of_set scene inv) (words_after ws end_it) (change_word c) _ (omega arith) new) value
+                  (λ calm. owns.owns (calm_less scene.terms.by events written calm)
+                  (lives_settled scene.terms.by p i owner value events acts.alive calm.1));
+              answers = tt;
+              placed = λ holds. placed (well_formed holds);
+              well_formed = well_formed;
+            })
+                new says;
+            follows = ((refl, granted.1), tt);
+            few = omega arith;
+            paid = let paid = owns.paid in omega arith;
+          })
         where
           -- an index that is announced once the add has ended has a value
           says : WellFormed (before scene) → (a : ℕ)

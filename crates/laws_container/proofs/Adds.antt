@@ -21,18 +21,17 @@ use Rattle.model.specs.declared.families.container.ContainerStart.TheVariants.{A
 use Rattle.model.specs.declared.families.container.calls.ContainerFlight.TheVariants as calls
 use Rattle.laws_robust.proofs.Core as set_core
 use Rattle.laws_robust.proofs.Effects as set_effects
-use Rattle.laws_robust.proofs.Held.{Caller, WhyNot, FewEnd, held_step}
+use Rattle.laws_robust.proofs.Held.{Acquiring, Caller, WhyNot, FewEnd, held_step}
 use Rattle.laws_robust.proofs.Invariant as set_invariant
 use Rattle.laws_robust.proofs.Knows as set_knows
 use Rattle.laws_robust.proofs.Stages as set_stages
 use Rattle.laws_container.proofs.Effects.{OwesStill}
-use Rattle.laws_container.proofs.Invariant.{Scene, Inv, ActsFor, before, after, of_set, inv_of_set}
+use Rattle.laws_container.proofs.Invariant.{Scene, Inv, ActsFor, of_set, inv_of_set}
 use Rattle.laws_container.proofs.SetSteps.{rest_set, wide_set, fills, grants}
-use Rattle.laws_container.proofs.Stages.{IsUnderWay, all, done, Leads, none_lengthens, StepOf, party_then, goes_on}
+use Rattle.laws_container.proofs.Stages.{Call, IsUnderWay, all, done, Leads, none_lengthens, StepOf, party_then, goes_on}
 use Rattle.laws_container.proofs.Stages.{goes_calmly, ends, owes_none, was_well_formed}
 use Rattle.laws_container.proofs.CallProgress.{add_at}
-use Rattle.laws_container.proofs.Steps.{loads, ends_calmly}
-use Rattle.laws_container.proofs.Turns.{WellFormed}
+use Rattle.laws_container.proofs.Steps.{loads, end_does, ends_calmly}
 
 -- an add by the party of the scene, for an owner that is not gone
 pub record Adding (T : Type 0) : Type 0 where
@@ -64,6 +63,10 @@ module _ {T : Type 0} (adding : Adding T) (stage : AcquireStage)
   abbrev goes_to : AddStage → ContainerFlight T
   goes_to next = add_at c value owner next
 
+  -- the acquire of the add, as the set has it
+  abbrev acquiring : Acquiring T
+  acquiring = record { scene = of_set scene; inv = inv_of_set scene inv; owner = owner; fits = fits; alive = acts.alive; extra = 0 }
+
   -- what a step of the acquire leads to, as a step of the add
   abbrev LeadsInAdd : Option Ask → Bool → List (Event T) → After set_calls.Acquire Acquired → Type 0
   LeadsInAdd ask back did a =
@@ -72,61 +75,78 @@ module _ {T : Type 0} (adding : Adding T) (stage : AcquireStage)
 
   -- the add has done nothing to elements
   module _ (none : done scene ≡ []) where
+    -- the add in its acquire, as a call of the container
+    abbrev call : Call T
+    call = record { scene = scene; inv = inv; start = start; flight = flight; no_look = tt; here = here }
+
     -- an add that acquires its index owes the changes no raise, and so none is missed
-    still : (words' : List ℕ) (y : Party T) (es : List (Event T))
-        (well_formed : WellFormed (after scene words' y es) → WellFormed (before scene))
-        → OwesStill scene inv words' y es well_formed
-    still words' y es well_formed = owes_none scene y here refl
+    still : (y : Party T) → OwesStill scene y
+    still y = owes_none scene y here refl
 
     -- an add whose acquire fails ends with that failure: the container is locked, or no index was free
     refuses : (failure : UniqueIndexSetAcquireFailure) (ask : Option Ask) (back : Bool)
-        → words_after ws ask ≡ ws → WhyNot (of_set scene) (inv_of_set scene inv) owner fits acts.alive 0 failure
+        → words_after ws ask ≡ ws → WhyNot acquiring failure
         → set_knows.IsPaid (set_stages.sees (of_set scene) ask back)
-        → FewEnd (of_set scene) (inv_of_set scene inv) owner fits acts.alive 0 ask back → LeadsInAdd ask back [] (Done (Err failure))
+        → FewEnd acquiring ask back → LeadsInAdd ask back [] (Done (Err failure))
     -- the container is locked
     refuses failures.IsLocked ask back same why paid few =
         let party_after = party_then scene start ask back (Done (NoPlace add_failures.IsLocked)) in
-        let written = Finished p (Container start) (NoPlace add_failures.IsLocked) ∷ [] in
+        let written : List (Event T) = Finished p (Container start) (NoPlace add_failures.IsLocked) ∷ [] in
         let well_formed = was_well_formed scene start tt here.span (words_after ws ask) party_after written (refl, tt) in
-        ends scene start (NoPlace add_failures.IsLocked) ask back scene.states [] here.span none_lengthens
-        (ends_calmly scene inv start flight tt here party_after (NoPlace add_failures.IsLocked)
-        (set_effects.quietly (of_set scene) (inv_of_set scene inv) (words_after ws ask) written
-        (set_effects.stays_same (of_set scene) (inv_of_set scene inv) (words_after ws ask) same).leaves
-        (quiet_end p (Container start) (NoPlace add_failures.IsLocked) (λ i o. refl) (λ i r. refl))
-        (refl, tt) (tt, tt) (tt, tt))
-        why.0 well_formed (λ holds. tt) same (λ i b. refl) (still (words_after ws ask) party_after written well_formed))
-        ((refl, why.1), tt) (omega arith) (omega arith)
+        ends scene (NoPlace add_failures.IsLocked) ask back here.span (record {
+          longer = none_lengthens;
+          does = ends_calmly call party_after (record {
+            set_does = end_does call party_after (set_effects.stays_same (of_set scene) (inv_of_set scene inv) (words_after ws ask) same).leaves
+                (quiet_end p (Container start) (NoPlace add_failures.IsLocked) (λ i o. refl) (λ i r. refl));
+            answers = why.0;
+            placed = λ holds. tt;
+            well_formed = well_formed;
+          })
+              same (λ i b. refl) (still party_after);
+          follows = ((refl, why.1), tt);
+          few = omega arith;
+          paid = omega arith;
+        })
     -- each index was filled, or the counter is at its end
     refuses failures.OutOfIndices ask back same why paid few =
         let party_after = party_then scene start ask back (Done (NoPlace add_failures.OutOfSpace)) in
-        let written = Finished p (Container start) (NoPlace add_failures.OutOfSpace) ∷ [] in
+        let written : List (Event T) = Finished p (Container start) (NoPlace add_failures.OutOfSpace) ∷ [] in
         let well_formed = was_well_formed scene start tt here.span (words_after ws ask) party_after written (refl, tt) in
-        ends scene start (NoPlace add_failures.OutOfSpace) ask back scene.states [] here.span none_lengthens
-        (ends_calmly scene inv start flight tt here party_after (NoPlace add_failures.OutOfSpace)
-        (set_effects.quietly (of_set scene) (inv_of_set scene inv) (words_after ws ask) written
-        (set_effects.stays_same (of_set scene) (inv_of_set scene inv) (words_after ws ask) same).leaves
-        (quiet_end p (Container start) (NoPlace add_failures.OutOfSpace)
-        (λ i o. refl) (λ i r. refl))
-        (refl, tt) (tt, tt) (tt, tt)) (
-          why.0,
-          ⊎_elim
-              (λ worn. inl (set_invariant.worn_on scene.terms.by ws (words_after ws ask) (λ end. ap set_core.counter_of same ∙ end) worn))
-              (λ all_filled. inr all_filled) why.1,
-        ) well_formed (λ holds. tt) same (λ i b. refl) (still (words_after ws ask) party_after written well_formed))
-        ((refl, why.2), tt) (omega arith) (omega arith)
+        ends scene (NoPlace add_failures.OutOfSpace) ask back here.span (record {
+          longer = none_lengthens;
+          does = ends_calmly call party_after (record {
+            set_does = end_does call party_after (set_effects.stays_same (of_set scene) (inv_of_set scene inv) (words_after ws ask) same).leaves
+                (quiet_end p (Container start) (NoPlace add_failures.OutOfSpace) (λ i o. refl) (λ i r. refl));
+            answers = (
+              why.0,
+              ⊎_elim
+                  (λ worn. inl (set_invariant.worn_on scene.terms.by ws (words_after ws ask) (λ end. ap set_core.counter_of same ∙ end) worn))
+                  (λ all_filled. inr all_filled) why.1,
+            );
+            placed = λ holds. tt;
+            well_formed = well_formed;
+          })
+              same (λ i b. refl) (still party_after);
+          follows = ((refl, why.2), tt);
+          few = omega arith;
+          paid = omega arith;
+        })
 
     -- what the acquire of the set leads to as part of an add: one field for each kind of step of the acquire,
     -- for its grant, and for its failures
-    caller : Caller (of_set scene) (inv_of_set scene inv) owner fits acts.alive 0 LeadsInAdd
+    caller : Caller acquiring LeadsInAdd
     caller =
         record {
           -- the acquire goes on in a step that leaves the words
           quiet = λ next ask back same at known few.
               let y = party_then scene start ask back (GoOn (goes_to (adds.Acquires next))) in
               let well_formed = was_well_formed scene start tt here.span (words_after ws ask) y [] tt in
-              goes_calmly scene start (goes_to (adds.Acquires next)) ask back scene.states here.span
-              (loads scene inv start flight tt here y same well_formed (still (words_after ws ask) y [] well_formed))
-              (omega arith) (refl, refl, fits, (at, none)) known;
+              goes_calmly scene (goes_to (adds.Acquires next)) ask back here.span (record {
+                does = loads call y same well_formed (still y);
+                few = omega arith;
+                stands = (refl, refl, fits, (at, none));
+                known = known;
+              });
           -- the acquire fills a cell
           filled = λ i ask new does below empty_all known few.
               let y =
@@ -134,14 +154,16 @@ module _ {T : Type 0} (adding : Adding T) (stage : AcquireStage)
               (GoOn (goes_to (adds.Acquires (acquires.Raises i raises.LoadsCounter)))) in
               let written = Filled p i owner ∷ [] in
               let well_formed = was_well_formed scene start tt here.span (words_after ws ask) y written (refl, tt) in
-              goes_on scene start (goes_to (adds.Acquires (acquires.Raises i raises.LoadsCounter)))
-              ask false scene.states written here.span (λ start w. refl)
-              (fills scene inv start flight tt here y (words_after ws ask)
-              (rest_set scene inv start flight tt here y (words_after ws ask) (cell_word i) owner (omega arith) new)
-              (wide_set scene inv start flight tt here y (words_after ws ask) (cell_word i) owner new) does
-              well_formed (still (words_after ws ask) y written well_formed))
-              ((refl, empty_all), tt) (omega arith)
-              (refl, refl, fits, ((below, ap (λ d. d ++ Fills i owner ∷ []) empty_all), ap (λ (d : List (Act T)). d ++ []) none)) known;
+              goes_on scene (goes_to (adds.Acquires (acquires.Raises i raises.LoadsCounter))) ask false here.span (record {
+                longer = λ start w. refl;
+                does =
+                    fills call y (rest_set scene (cell_word i) owner (omega arith) new) (wide_set scene (cell_word i) owner new) does
+                    well_formed (still y);
+                follows = ((refl, empty_all), tt);
+                few = omega arith;
+                stands = (refl, refl, fits, ((below, ap (λ d. d ++ Fills i owner ∷ []) empty_all), ap (λ (d : List (Act T)). d ++ []) none));
+                known = known;
+              });
           fails = refuses;
           -- the acquire is granted its index, and the add goes on to the number of the element
           grants = λ i ask back below filled mine raised paid few.
@@ -150,19 +172,20 @@ module _ {T : Type 0} (adding : Adding T) (stage : AcquireStage)
               let written = Granted p i owner ∷ [] in
               let well_formed = was_well_formed scene start tt here.span (words_after ws ask) y written (refl, tt) in
               let alone = grants_alone (of_set scene) (inv_of_set scene inv) (words_after ws ask) i owner mine acts.alive raised in
-              goes_on scene start (goes_to (adds.LoadsCount i)) ask back scene.states written here.span (λ start w. refl)
-              (grants scene inv start flight tt here y (words_after ws ask)
-              (λ n behind. stays.others n (omega arith)) stays.leaves.wide i owner alone well_formed
-              (still (words_after ws ask) y written well_formed))
-              ((refl, filled), tt) (omega arith)
-              (refl, refl, fits, ((below, ap (λ d. d ++ Grants i owner ∷ []) filled), ap (λ (d : List (Act T)). d ++ []) none))
-              (record {
-                paid = omega arith;
-                within = below;
-                owns =
-                    λ calm lives.
-                    let k = owns_then (of_set scene) (inv_of_set scene inv) (words_after ws ask) i owner mine acts.alive raised calm in
-                    record { by = k.0; held = k.1 };
+              goes_on scene (goes_to (adds.LoadsCount i)) ask back here.span (record {
+                longer = λ start w. refl;
+                does = grants call y (λ n behind. stays.others n (omega arith)) stays.leaves.wide alone well_formed (still y);
+                follows = ((refl, filled), tt);
+                few = omega arith;
+                stands = (refl, refl, fits, ((below, ap (λ d. d ++ Grants i owner ∷ []) filled), ap (λ (d : List (Act T)). d ++ []) none));
+                known = record {
+                  paid = omega arith;
+                  within = below;
+                  owns =
+                      λ calm lives.
+                      let k = owns_then (of_set scene) (inv_of_set scene inv) (words_after ws ask) i owner mine acts.alive raised calm in
+                      record { by = k.0; held = k.1 };
+                };
               });
         }
 
@@ -172,4 +195,4 @@ module _ {T : Type 0} (adding : Adding T) (stage : AcquireStage)
         → steps ≤ acquire_number c stage backs
         → StepOf scene (Add value owner) (add_at c value owner (adds.Acquires stage))
     acquire_step stands knows few_steps =
-        held_step (of_set scene) (inv_of_set scene inv) owner fits acts.alive 0 LeadsInAdd caller stage stands knows (omega arith)
+        held_step acquiring LeadsInAdd caller stage stands knows (omega arith)

@@ -14,7 +14,7 @@ use Rattle.laws_container.proofs.Moves.{CallSteps}
 use Rattle.laws_container.proofs.Opening.{opens}
 use Rattle.laws_container.proofs.RecoverClosing.{recover_step, recover_decided}
 use Rattle.laws_container.proofs.RemoveSteps.{remove_step}
-use Rattle.laws_container.proofs.ReplaceFound.{replace_step}
+use Rattle.laws_container.proofs.ReplaceAny.{replace_step}
 use Rattle.laws_container.proofs.Sound.{Shown}
 
 module _ {T : Type 0} where

@@ -7,26 +7,23 @@ use Rattle.laws_container.proofs.Names.{Event, Copied, Finished, Container, Cont
 use Rattle.laws_container.proofs.Names.{Decide, Coding, is_question, want, after, question_in, question_at, AllRight}
 use Rattle.laws_container.proofs.Names.{HasWritten, AsksOnce, IsAnswered, IsTold, YesTells, NoTells, QuestionsRight}
 use Rattle.laws_container.proofs.Names.{acts_of, state_of, effects, questions, IsIn, set_acts_of, read_in, answer_in}
-use Rattle.laws_container.proofs.Names.{number_of, ending_of, events_of, after_turn, Trace, both_ways}
+use Rattle.laws_container.proofs.Names.{number_of, ending_of, events_of, after_turn, both_ways}
 use Rattle.laws_container.proofs.Names.{raise_asks_none, lock_asks_none}
 use Rattle.steps.specs.declared.container.find.FindStage.TheVariants as finds
 use Rattle.steps.specs.declared.copied.Buffer as buffers
 use Rattle.model.specs.declared.families.Flight.TheVariants as flights
 use Rattle.model.specs.declared.families.container.ContainerStart.TheVariants as starts
 use Rattle.model.specs.declared.families.container.calls.ContainerFlight.TheVariants.{Find, Recover}
-use Rattle.model.proofs.Frame as frame
 use Rattle.laws_container.proofs.AskedLeft.{made}
 use Rattle.laws_container.proofs.AskedTurn.{IsCalmTurn, IsGoing, any_turn, decided}
 use Rattle.laws_container.proofs.AskedWrites.{goes_right}
-use Rattle.laws_container.proofs.Invariant.{family_by}
-use Rattle.laws_container.proofs.Sound.{MayGoOn, Shown}
+use Rattle.laws_container.proofs.Sound.{SoundRun}
 use Rattle.laws_container.proofs.Stages.{any_call}
 use Rattle.laws_container.proofs.CallProgress.{find_at, recover_at, At}
-use Rattle.laws_container.proofs.FindCoverage.{counts_up_to}
+use Rattle.laws_container.proofs.FindPromises.{counts_up_to}
 use Rattle.laws_container.specs.ConditionalPromises.{StoppedIf, FindsUpToIf}
 use Rattle.laws_container.proofs.Allowed.{IsAllowed}
 use Rattle.laws_container.proofs.WellFormed.{IsWellFormedSoFar}
-use Rattle.laws_container.proofs.Terms.{Terms}
 
 -- ---- a step after which a call asks about an element has copied it; and a decision is followed by no question
 
@@ -60,8 +57,9 @@ module _ {T : Type 0} (code : Coding T) (q : ℕ) where
 -- ---- a decision
 
 -- a turn that is not refused, from a sound machine
-module _ {T : Type 0} (shown : Shown T) (terms : Terms) (code : Coding T) (t : Trace T)
-    (sound : frame.Sound (family_by terms code t.world.capacity) t) (may : MayGoOn terms t) where
+module _ {T : Type 0} (run : SoundRun T) where
+  open run use {shown, terms, code, trace as t, sound, may}
+
   abbrev c : ℕ
   c = t.world.capacity
 
@@ -165,7 +163,7 @@ module _ {T : Type 0} (shown : Shown T) (terms : Terms) (code : Coding T) (t : T
             number = found;
             asked = asked;
             ends = ends;
-            counts = counts_up_to shown terms code t sound may (Decide p false) r well_formed so_far p owner found k (read_in code room) ends refl asked;
+            counts = counts_up_to run (record { turn = Decide p false; allowed = r; well_formed = well_formed; so_far = so_far }) p owner found ends refl asked;
           }
 
       -- a no to a find that waits ends it, with the count that the promise says
@@ -181,7 +179,7 @@ module _ {T : Type 0} (shown : Shown T) (terms : Terms) (code : Coding T) (t : T
 
     -- each find that a no ends in the turn has counted up to the index that it asked about
     pub finds_up_to : (well_formed : Type 0)
-        (so_far : well_formed → IsWellFormedSoFar terms (after_turn t turn).world.latest (after_turn t turn).events)
+        (so_far : well_formed → IsWellFormedSoFar run.terms (after_turn t turn).world.latest (after_turn t turn).events)
         → FindsUpToIf well_formed t turn (after_turn t turn)
     finds_up_to well_formed so_far p owner is here =
         let w = waiting p false (starts.Find owner) (by_turn p false is) here in
@@ -201,20 +199,20 @@ module _ {T : Type 0} (shown : Shown T) (terms : Terms) (code : Coding T) (t : T
     -- after a decision the party asks about nothing
     answered : IsAnswered turn (after_turn t turn)
     answered p said is =
-        let d = decided shown terms code c t sound may p said (by_turn p said is) in
+        let d = decided run p said (by_turn p said is) in
         subst (λ u. question_at (after_turn t u) p ≡ None) (sym is) (d.goes.asks ∙ waits_none code p d.goes.flight d.goes.answer d.due)
 
     -- a party that asks about an element after the turn has copied it in the turn, or asked about it before
     once : AsksOnce t (after_turn t turn)
     once p index value e ne =
         ⊎_elim
-        (λ (calm : IsCalmTurn shown terms code c t sound may turn). absurd (ne (calm.asks p index value e)))
-        (λ (going : IsGoing shown terms code c t sound may turn). ⊎_elim (λ is. here going is)
+        (λ (calm : IsCalmTurn run turn). absurd (ne (calm.asks p index value e)))
+        (λ (going : IsGoing run turn). ⊎_elim (λ is. here going is)
         (λ other. absurd (ne (sym (going.goes.others p other) ∙ e))) (cases_eq p going.party))
-        (any_turn shown terms code c t sound may turn r)
+        (any_turn run turn r)
       where
         -- a party whose call goes on to a question has written the copy that it asks about
-        here : (going : IsGoing shown terms code c t sound may turn) → p ≡ going.party → HasWritten (Copied p index value) t (after_turn t turn)
+        here : (going : IsGoing run turn) → p ≡ going.party → HasWritten (Copied p index value) t (after_turn t turn)
         here going is =
             let g = going.goes in
             let first =
@@ -240,9 +238,9 @@ module _ {T : Type 0} (shown : Shown T) (terms : Terms) (code : Coding T) (t : T
           wrote = events_of t.world turn;
           is = refl;
           right = ⊎_elim
-              (λ (calm : IsCalmTurn shown terms code c t sound may turn). calm.right)
-              (λ (going : IsGoing shown terms code c t sound may turn). goes_right shown terms code c t sound may turn going.party going.goes)
-              (any_turn shown terms code c t sound may turn r);
+              (λ (calm : IsCalmTurn run turn). calm.right)
+              (λ (going : IsGoing run turn). goes_right run turn going.party going.goes)
+              (any_turn run turn r);
         }
 
     -- what a turn tells of questions is as the promise says

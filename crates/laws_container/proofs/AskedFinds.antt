@@ -4,22 +4,18 @@ use Rattle.laws_container.proofs.Names.{◌≡◌, ℕ, ⊎_elim, Option, Some, 
 use Rattle.laws_container.proofs.Names.{append-nil, arith, append_cancel_left, FindStage, ContainerState, Answer}
 use Rattle.laws_container.proofs.Names.{Number, Event, Finished, Container, ContainerFlight, Turn, Coding, after}
 use Rattle.laws_container.proofs.Names.{acts_of, state_of, effects, questions, set_acts_of, answer_in, ending_of}
-use Rattle.laws_container.proofs.Names.{events_of, after_turn, Trace, no_more}
+use Rattle.laws_container.proofs.Names.{events_of, after_turn, no_more}
 use Rattle.steps.specs.declared.copied.Buffer as buffers
 use Rattle.model.specs.declared.families.container.ContainerStart.TheVariants as starts
-use Rattle.model.proofs.Frame as frame
 use Rattle.laws_container.proofs.AskedTurn.{GoesOn, IsCalmTurn, IsGoing, any_turn}
-use Rattle.laws_container.proofs.Invariant.{family_by}
 use Rattle.laws_container.proofs.LooksTell.{container_is, ends_last}
-use Rattle.laws_container.proofs.Sound.{MayGoOn, Shown}
+use Rattle.laws_container.proofs.Sound.{SoundRun}
 use Rattle.laws_container.proofs.Stages.{any_call}
 use Rattle.laws_container.proofs.CallProgress.{find_at, At}
-use Rattle.laws_container.proofs.FindCoverage.{counts_all}
+use Rattle.laws_container.proofs.FindPromises.{TurnIf, counts_all}
 use Rattle.laws_container.proofs.Written.{all_effects}
 use Rattle.laws_container.specs.ConditionalPromises.{CountsIf, FindsAllIf}
 use Rattle.laws_container.proofs.Allowed.{IsAllowed}
-use Rattle.laws_container.proofs.WellFormed.{IsWellFormedSoFar}
-use Rattle.laws_container.proofs.Terms.{Terms}
 
 -- ---- the step that ends a find
 
@@ -40,9 +36,9 @@ only_one x y [] split_so = refl
 only_one x y (z ∷ zs) split_so = let none : [] ≡ zs ++ y ∷ [] = cc in absurd (no_more zs y [] none)
 
 -- a find of `owner` by party `p` ends with `number` in this turn
-module _ {T : Type 0} (shown : Shown T) {terms : Terms} (code : Coding T) {t : Trace T}
-    (sound : frame.Sound (family_by terms code t.world.capacity) t) (may : MayGoOn terms t) (turn : Turn T)
-    (r : IsAllowed t.world turn) (p owner number : ℕ) where
+module _ {T : Type 0} (run : SoundRun T) (turn : Turn T) (r : IsAllowed run.trace.world turn) (p owner number : ℕ) where
+  open run use {code, trace as t, sound}
+
   abbrev c : ℕ
   c = t.world.capacity
 
@@ -59,12 +55,12 @@ module _ {T : Type 0} (shown : Shown T) {terms : Terms} (code : Coding T) {t : T
   ends_alone : (wrote : List (Event T)) → events_of t.world turn ≡ wrote ++ Finished p (Container (starts.Find owner)) (Number number) ∷ [] → wrote ≡ []
   ends_alone wrote split_so =
       ⊎_elim
-      (λ (calm : IsCalmTurn shown terms code c t sound may turn). absurd (calm.ends_none p (Container (starts.Find owner)) (Number number) wrote split_so))
-      (λ (going : IsGoing shown terms code c t sound may turn). by going.party going.goes)
-      (any_turn shown terms code c t sound may turn r)
+      (λ (calm : IsCalmTurn run turn). absurd (calm.ends_none p (Container (starts.Find owner)) (Number number) wrote split_so))
+      (λ (going : IsGoing run turn). by going.party going.goes)
+      (any_turn run turn r)
     where
       -- a turn in which a party's call goes on, and that ends a find, writes nothing before that end
-      by : (q : ℕ) → GoesOn shown terms code c t sound may turn q → wrote ≡ []
+      by : (q : ℕ) → GoesOn run turn q → wrote ≡ []
       by q goes_on =
           let state = state_of q sound.state.states in
           let did = effects code q state goes_on.flight goes_on.answer ++ questions q goes_on.flight goes_on.answer in
@@ -79,15 +75,15 @@ module _ {T : Type 0} (shown : Shown T) {terms : Terms} (code : Coding T) {t : T
           only_one (Finished q (Container goes_on.start) (Number number)) last wrote
           (sym (ap (λ es. es ++ ending_of q (Container goes_on.start) outcome) nothing ∙ ap (λ o. ending_of q (Container goes_on.start) o) end.done) ∙ whole)
 
-module _ {T : Type 0} (shown : Shown T) {terms : Terms} (code : Coding T) {t : Trace T}
-    (sound : frame.Sound (family_by terms code t.world.capacity) t) (may : MayGoOn terms t) (turn : Turn T)
-    (r : IsAllowed t.world turn)
-    (well_formed : Type 0) (so_far : well_formed → IsWellFormedSoFar terms (after_turn t turn).world.latest (after_turn t turn).events) where
+module _ {T : Type 0} (run : SoundRun T) (taken : TurnIf run) where
+  open run use {trace as t}
+  open taken use {turn, allowed as r, well_formed}
+
   -- each find that ends in a turn other than a no to its party has counted the whole container
   pub finds_all : FindsAllIf well_formed t turn (after_turn t turn)
   finds_all p owner number ends ne =
-      let none = ends_alone shown code sound may turn r p owner number ends.wrote (append_cancel_left t.events (events_of t.world turn) _ ends.is) in
+      let none = ends_alone run turn r p owner number ends.wrote (append_cancel_left t.events (events_of t.world turn) _ ends.is) in
       let alone = subst (λ w. (after_turn t turn).events ≡ t.events ++ (w ++ Finished p (Container (starts.Find owner)) (Number number) ∷ [])) none ends.is in
       subst (λ w. CountsIf well_formed p owner t.world.capacity number (t.events ++ w)) (sym none)
       (subst (λ es. CountsIf well_formed p owner t.world.capacity number es) (sym (append-nil t.events))
-      (counts_all shown terms code t sound may turn r well_formed so_far p owner number alone ne))
+      (counts_all run taken p owner number alone ne))

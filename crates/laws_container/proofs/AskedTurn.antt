@@ -14,19 +14,17 @@ use Rattle.laws_container.proofs.Names.{answer_in, old_of, number_of, doing_afte
 use Rattle.laws_container.proofs.Names.{after_begin, after_step, after_answer, after_next, after_decision, step_in}
 use Rattle.laws_container.proofs.Names.{events_of_step, events_of_answer, events_of_next}
 use Rattle.laws_container.proofs.Names.{events_of_decision, events_of, ending_of, ask_of_doing, after_turn, World}
-use Rattle.laws_container.proofs.Names.{Trace, flight_in, party_put_same, party_put_other, row_passed, StandsThere}
+use Rattle.laws_container.proofs.Names.{flight_in, party_put_same, party_put_other, row_passed, StandsThere}
 use Rattle.laws_container.proofs.Names.{stands_there}
 use Rattle.model.specs.declared.families.Flight.TheVariants as flights
 use Rattle.model.specs.declared.turn.Kind.TheVariants as kinds
-use Rattle.model.proofs.Frame as frame
 use Rattle.laws_container.proofs.AskedLeft.{call_in, made, question_left, question_first}
 use Rattle.laws_container.proofs.Invariant.{family_by, view, wrote_of}
 use Rattle.laws_container.proofs.Knows.{Knows}
 use Rattle.laws_container.proofs.LooksTell.{no_end}
-use Rattle.laws_container.proofs.Sound.{MayGoOn, Shown, kept_now, is_there, begins_own}
+use Rattle.laws_container.proofs.Sound.{SoundRun, kept_now, is_there, begins_own}
 use Rattle.laws_container.proofs.Stages.{any_call}
 use Rattle.laws_container.proofs.CallProgress.{At}
-use Rattle.laws_container.proofs.Terms.{Terms}
 use Rattle.laws_container.proofs.Allowed.{IsAllowed}
 
 -- ---- what a party asks about in a machine
@@ -55,9 +53,13 @@ module _ {T : Type 0} where
 
 -- ---- a call goes on
 
--- `c` is the capacity, `t` the run up to this turn, and `s` that it is sound
-module _ {T : Type 0} (shown : Shown T) (terms : Terms) (code : Coding T) (c : ℕ) (t : Trace T)
-    (sound : frame.Sound (family_by terms code c) t) (may : MayGoOn terms t) where
+-- the run is sound and may go on; the call of a party goes on in one of its turns
+module _ {T : Type 0} (run : SoundRun T) where
+  open run use {shown, terms, code, trace as t, sound, may}
+
+  abbrev c : ℕ
+  c = t.world.capacity
+
   -- the call of party `q` goes on in this turn, handed `answer`
   pub record GoesOn (turn : Turn T) (q : ℕ) : Type 0 where
     -- the call before the turn: what it asks about, its span, where it stands, and what it knows
@@ -312,8 +314,4 @@ module _ {T : Type 0} (shown : Shown T) (terms : Terms) (code : Coding T) (c : �
   any_turn (Decide q said) allowed = inr (record { party = q; goes = (decided q said allowed).goes })
   any_turn (Die o) allowed =
       inl
-      (record {
-        right = (tt, tt);
-        ends_none = λ p b answer wrote e. no_end (Died o) p b answer wrote (λ h. cc) e;
-        asks = λ p index value e. e;
-      })
+      (record { right = (tt, tt); ends_none = λ p b answer wrote e. no_end (Died o) p b answer wrote (λ h. cc) e; asks = λ p index value e. e })

@@ -5,14 +5,12 @@ use Rattle.laws_container.proofs.Names.{arith, AllByRecursion, ContainerState, A
 use Rattle.laws_container.proofs.Names.{ContainerStart, ContainerFlight, Turn, Decide, Coding, is_question, want}
 use Rattle.laws_container.proofs.Names.{question_at, WritesRight, acts_of, state_of, effects, questions, set_acts_of}
 use Rattle.laws_container.proofs.Names.{Open, span_of, ending_of, events_of, after_turn, Trace}
-use Rattle.model.proofs.Frame as frame
 use Rattle.laws_container.proofs.AskedLeft.{made}
 use Rattle.laws_container.proofs.AskedTurn.{GoesOn}
-use Rattle.laws_container.proofs.Invariant.{family_by, view, wrote_of}
+use Rattle.laws_container.proofs.Invariant.{view, wrote_of}
 use Rattle.laws_container.proofs.Knows.{View, Knows}
-use Rattle.laws_container.proofs.Sound.{MayGoOn, Shown as Proved}
+use Rattle.laws_container.proofs.Sound.{SoundRun}
 use Rattle.laws_container.proofs.CallProgress.{At}
-use Rattle.laws_container.proofs.Terms.{Terms}
 
 -- party `q` takes a turn of the run `t`, at the capacity `c`
 module _ {T : Type 0} (code : Coding T) (c : ℕ) (t : Trace T) (turn : Turn T) (q : ℕ) where
@@ -47,10 +45,14 @@ module _ {T : Type 0} (code : Coding T) (c : ℕ) (t : Trace T) (turn : Turn T) 
   end_right start None = tt
   end_right start (Some answer) = (tt, tt)
 
-module _ {T : Type 0} (shown : Proved T) (terms : Terms) (code : Coding T) (c : ℕ) (t : Trace T)
-    (sound : frame.Sound (family_by terms code c) t) (may : MayGoOn terms t) (turn : Turn T) (q : ℕ) where
+module _ {T : Type 0} (run : SoundRun T) (turn : Turn T) (q : ℕ) where
+  open run use {terms, code, trace as t, sound, may}
+
+  abbrev c : ℕ
+  c = t.world.capacity
+
   -- what a turn in which a call goes on writes of questions is right
-  pub goes_right : (g : GoesOn shown terms code c t sound may turn q) → AllByRecursion (WritesRight t turn (after_turn t turn)) (events_of t.world turn)
+  pub goes_right : (g : GoesOn run turn q) → AllByRecursion (WritesRight t turn (after_turn t turn)) (events_of t.world turn)
   goes_right g =
       subst (AllByRecursion (WritesRight t turn (after_turn t turn))) (sym g.wrote)
       (joined code c t turn q (effects code q (state_of q sound.state.states) g.flight g.answer ++ questions q g.flight g.answer) _

@@ -15,7 +15,7 @@ module _ {T : Type 0} (code : Coding T) (c : ℕ) where
   -- ---- its first word is to be read
 
   -- a copy of which no word is read, under an odd number that was loaded
-  pub copying_first : (v : View T) (index count : ℕ) (copy : List ℕ) → index < c → length copy ≡ 128 → count % 2 ≡ 1
+  pub copying_first : {v : View T} {index count : ℕ} {copy : List ℕ} → index < c → length copy ≡ 128 → count % 2 ≡ 1
       → HasCome code c index count v → Copying code c index count copy 0 v
   copying_first = grind arith
 

@@ -22,13 +22,12 @@ use Rattle.laws_robust.proofs.Stages as set_stages
 use Rattle.laws_container.specs.Gone.{AnswersBy}
 use Rattle.laws_container.proofs.Effects.{OwesStill}
 use Rattle.laws_container.proofs.HiddenKnows.{EndsRight}
-use Rattle.laws_container.proofs.Invariant.{Scene, Inv, before, after, of_set, inv_of_set}
+use Rattle.laws_container.proofs.Invariant.{Scene, Inv, of_set, inv_of_set}
 use Rattle.laws_container.proofs.Knows.{Knows}
 use Rattle.laws_container.proofs.SetStays.{moves, ends_there}
-use Rattle.laws_container.proofs.Stages.{NoReplace, IsUnderWay, all, done, sees_now, StepOf, Leads, none_lengthens}
+use Rattle.laws_container.proofs.Stages.{Call, NoReplace, IsUnderWay, all, done, sees_now, StepOf, Leads, none_lengthens}
 use Rattle.laws_container.proofs.Stages.{party_then, backs_then, goes_calmly, ends, owes_none, was_well_formed}
 use Rattle.laws_container.proofs.CallProgress.{count_at, lock_at, At}
-use Rattle.laws_container.proofs.Turns.{WellFormed}
 
 -- the name of each call that counts: `len` or `is_empty`
 abbrev pub counts_as : {T : Type 0} → CountOf → ContainerStart T
@@ -96,11 +95,10 @@ module _ {T : Type 0} {scene : Scene T} (inv : Inv scene) where
       record {
         none = count_none p IsFilled events;
         empty_next =
-            λ k filled below none counted. count_next p IsFilled k filled events counted false filled (omega arith)
+            λ k filled below none counted. count_next IsFilled counted false (omega arith)
             (λ e. absurd (cc)) (λ e some. one_filled (filled_of k events) none some);
         filled_next =
-            λ k filled owner below is counted. count_next p IsFilled k filled events counted true (filled + 1)
-            (omega arith) (λ e. ap is_some is) (λ e. absurd (cc));
+            λ k filled owner below is counted. count_next IsFilled counted true (omega arith) (λ e. ap is_some is) (λ e. absurd (cc));
       }
 
   -- the call counts at the stage `count`, and has done nothing to the set
@@ -110,11 +108,13 @@ module _ {T : Type 0} {scene : Scene T} (inv : Inv scene) where
     abbrev start : ContainerStart T
     start = counts_as which
 
+    -- the count, as a call of the container
+    abbrev call : Call T
+    call = record { scene = scene; inv = inv; start = start; flight = count_at which c count; no_look = tt; here = here }
+
     -- a raise that is owed to the changes is owed still after a step of the count
-    still : (words' : List ℕ) (y : Party T) (es : List (Event T))
-        (well_formed : WellFormed (after scene words' y es) → WellFormed (before scene))
-        → OwesStill scene inv words' y es well_formed
-    still words' y es well_formed = owes_none scene y here refl
+    still : (y : Party T) → OwesStill scene y
+    still y = owes_none scene y here refl
 
     -- what a step of the count leads to, as a step of the call
     abbrev counts_to : Option Ask → Bool → After Counting Counted → Type 0
@@ -130,57 +130,64 @@ module _ {T : Type 0} {scene : Scene T} (inv : Inv scene) where
         → Leads scene (counts_as which) ask false scene.states [] (Done (counted which number))
     counts_end {number} ask stays is_length paid few =
         let party_after = party_then scene start ask false (Done (counted which number)) in
-        let written = Finished p (Container start) (counted which number) ∷ [] in
+        let written : List (Event T) = Finished p (Container start) (counted which number) ∷ [] in
         let well_formed = was_well_formed scene start (no_replace T which) here.span (words_after ws ask) party_after written (refl, tt) in
-        ends scene start (counted which number) ask false scene.states [] here.span none_lengthens
-        (ends_there inv tt here party_after stays
-        (counted which number)
-        (quiet_end p (Container start) (counted which number) (settles_not T which p number)
-        (rights_not T which p number))
-        (announces_not T which p number)
-        (answers_count T scene.terms.by (IsWorn scene.terms.by (words_after ws ask)) which c p number events is_length)
-        well_formed (λ holds. places_not T which p number events) (still (words_after ws ask) party_after written well_formed))
-        ((refl, does_count T which number (all scene) (done scene) none), tt) (few_count T which c code.size _ (backs_then scene false) few) (omega arith)
+        ends scene (counted which number) ask false here.span (record {
+          longer = none_lengthens;
+          does =
+              ends_there call party_after stays
+              (quiet_end p (Container start) (counted which number) (settles_not T which p number) (rights_not T which p number))
+              (announces_not T which p number)
+              (answers_count T scene.terms.by (IsWorn scene.terms.by (words_after ws ask)) which c p number events is_length)
+              well_formed (λ holds. places_not T which p number events) (still party_after);
+          follows = ((refl, does_count T which number (all scene) (done scene) none), tt);
+          few = few_count T which c code.size _ (backs_then scene false) few;
+          paid = omega arith;
+        })
 
     -- a step of a count keeps the invariant
     counts_move : counts_to (Some (count_ask count)) (count_goes_back count (old_of ws (Some (count_ask count))))
         (count_after c count (old_of ws (Some (count_ask count))))
     counts_move =
-        part_step (of_set scene) (inv_of_set scene inv) (set_knows.Borrowed (set_stages.now (of_set scene))) said
-        counts_to count stands knows.paid knows.scanned knows.says
-        -- the count goes on
-        (λ next ask back same next_at paid scanned says few.
-        let low = few 0 (c + 2) (omega arith) (omega arith) in
-        let party_after = party_then scene start ask back (GoOn (count_at which c next)) in
-        let well_formed = was_well_formed scene start (no_replace T which) here.span (words_after ws ask) party_after [] tt in
-        goes_calmly scene start (count_at which c next) ask back scene.states here.span
-        (moves inv tt here party_after
-        (stays_same (of_set scene) (inv_of_set scene inv) (words_after ws ask) same) well_formed
-        (still (words_after ws ask) party_after [] well_formed))
-        (omega arith) (at_count T which c code.size (all scene) (done scene) next next_at none)
-        (record { paid = paid; scanned = scanned; owns = tt; says = says; gone = tt }))
-        -- the set is locked: the count is 0
-        (λ ask same shut paid few.
-        let low = few 0 (c + 2) (omega arith) (omega arith) in
-        counts_end ask (stays_same (of_set scene) (inv_of_set scene inv) (words_after ws ask) same)
-        (record { none = λ t. refl; some = λ f. both_ways _ f (is_shut (of_set scene) (inv_of_set scene inv) shut) }) paid (omega arith))
-        -- the counter is at its end: the count is what was found
-        (λ filled ask same worn end most says paid few.
-        let low = few 0 (c + 2) (omega arith) (omega arith) in
-        counts_end ask (stays_same (of_set scene) (inv_of_set scene inv) (words_after ws ask) same)
-        (record {
-          none = λ t. both_ways _ (unlocked (of_set scene) (inv_of_set scene inv) (λ shut. absurd (omega arith))) t;
-          some = λ f. says;
-        }) paid (omega arith))
-        -- the counter has not moved since it was loaded: the count is what was found
-        (λ filled ask less new most says unheld paid few.
-        let low = few 0 (c + 2) (omega arith) (omega arith) in
-        counts_end ask (stays_raised (of_set scene) (inv_of_set scene inv) (words_after ws ask) less new)
-        (record {
-          none =
-              λ t. both_ways _ (unlocked (of_set scene) (inv_of_set scene inv) (not_shut (of_set scene) (inv_of_set scene inv) less)) t;
-          some = λ f. says;
-        }) paid (omega arith))
+        part_step (of_set scene) (inv_of_set scene inv) (set_knows.Borrowed (set_stages.now (of_set scene))) said counts_to count (record {
+          at = stands;
+          paid = knows.paid;
+          scanned = knows.scanned;
+          says = knows.says;
+          -- the count goes on
+          goes = λ next ask back same next_at paid scanned says few.
+              let low = few 0 (c + 2) (omega arith) (omega arith) in
+              let party_after = party_then scene start ask back (GoOn (count_at which c next)) in
+              let well_formed = was_well_formed scene start (no_replace T which) here.span (words_after ws ask) party_after [] tt in
+              goes_calmly scene (count_at which c next) ask back here.span (record {
+                does = moves call party_after (stays_same (of_set scene) (inv_of_set scene inv) (words_after ws ask) same) well_formed (still party_after);
+                few = omega arith;
+                stands = at_count T which c code.size (all scene) (done scene) next next_at none;
+                known = record { paid = paid; scanned = scanned; owns = tt; says = says; gone = tt };
+              });
+          -- the set is locked: the count is 0
+          meets = λ ask same shut paid few.
+              let low = few 0 (c + 2) (omega arith) (omega arith) in
+              counts_end ask (stays_same (of_set scene) (inv_of_set scene inv) (words_after ws ask) same)
+              (record { none = λ t. refl; some = λ f. both_ways _ f (is_shut (of_set scene) (inv_of_set scene inv) shut) }) paid (omega arith);
+          -- the counter is at its end: the count is what was found
+          rests = λ filled ask same worn end most says paid few.
+              let low = few 0 (c + 2) (omega arith) (omega arith) in
+              counts_end ask (stays_same (of_set scene) (inv_of_set scene inv) (words_after ws ask) same)
+              (record {
+                none = λ t. both_ways _ (unlocked (of_set scene) (inv_of_set scene inv) (λ shut. absurd (omega arith))) t;
+                some = λ f. says;
+              }) paid (omega arith);
+          -- the counter has not moved since it was loaded: the count is what was found
+          closes = λ filled ask less new most says unheld paid few.
+              let low = few 0 (c + 2) (omega arith) (omega arith) in
+              counts_end ask (stays_raised (of_set scene) (inv_of_set scene inv) (words_after ws ask) less new)
+              (record {
+                none =
+                    λ t. both_ways _ (unlocked (of_set scene) (inv_of_set scene inv) (not_shut (of_set scene) (inv_of_set scene inv) less)) t;
+                some = λ f. says;
+              }) paid (omega arith);
+        })
 
   -- a step of a `len` or an `is_empty`, at whatever stage, keeps the invariant
   pub count_step : (which : CountOf) (count : Counting) → IsUnderWay scene (counts_as which) (count_at which c count)
@@ -199,13 +206,19 @@ module _ {T : Type 0} {scene : Scene T} (inv : Inv scene) where
       let ask = Some (set_stages.loads 0) in
       let answer = Truth (counter_of ws == locked) in
       let party_after = party_then scene starts.IsLocked ask false (Done answer) in
-      let written = Finished p (Container starts.IsLocked) answer ∷ [] in
+      let written : List (Event T) = Finished p (Container starts.IsLocked) answer ∷ [] in
+      let call : Call T = record { scene = scene; inv = inv; start = starts.IsLocked; flight = lock_at; no_look = tt; here = here } in
       let well_formed = was_well_formed scene starts.IsLocked tt here.span (words_after ws ask) party_after written (refl, tt) in
       let paid = knows.paid in
-      ends scene starts.IsLocked answer ask false scene.states [] here.span none_lengthens
-      (ends_there inv tt here party_after
-      (stays_same (of_set scene) (inv_of_set scene inv) (words_after ws ask) (set_stages.loads_same ws 0)) answer
-      (quiet_end p (Container starts.IsLocked) answer (λ i o. refl) (λ i r. refl))
-      (λ i b. refl) inv.good.lock well_formed (λ holds. tt)
-      (owes_none scene party_after here refl))
-      ((refl, none), tt) (omega arith) (omega arith)
+      ends scene answer ask false here.span (record {
+        longer = none_lengthens;
+        does =
+            ends_there call party_after
+            (stays_same (of_set scene) (inv_of_set scene inv) (words_after ws ask) (set_stages.loads_same ws 0))
+            (quiet_end p (Container starts.IsLocked) answer (λ i o. refl) (λ i r. refl))
+            (λ i b. refl) inv.good.lock well_formed (λ holds. tt)
+            (owes_none scene party_after here refl);
+        follows = ((refl, none), tt);
+        few = omega arith;
+        paid = omega arith;
+      })

@@ -7,7 +7,7 @@ use Rattle.laws_robust.proofs.Deaths.{death_good, death_goes, death_spares}
 use Rattle.laws_robust.proofs.Invariant as set
 use Rattle.laws_container.specs.Gone.{AsksBy, RecoversBy, AnswersBy}
 use Rattle.laws_container.proofs.HiddenKnows.{EndsRight}
-use Rattle.laws_container.proofs.Invariant.{Elements, moment, view}
+use Rattle.laws_container.proofs.Invariant.{Elements, moment}
 use Rattle.laws_container.proofs.KeepingReads.{still_knows}
 use Rattle.laws_container.proofs.Left.{left_after, left_of}
 use Rattle.laws_container.proofs.WellFormed.{stands_less}

@@ -18,9 +18,20 @@ use Rattle.laws_container.proofs.Terms.{Keeps}
 use Rattle.laws_container.proofs.Turns.{Owing, owes, Now, WellFormed, count_in, datum_in, change_in}
 use Rattle.laws_container.proofs.Writers.{IsWriter}
 
--- the turn of the scene leaves the words `words'` and the call `y` of its party, and writes the events `es`
-module _ {T : Type 0} (scene : Scene T) (inv : Inv scene) (words' : List ℕ) (y : Party T) (es : List (Event T))
-    (well_formed : WellFormed (after scene words' y es) → WellFormed (before scene)) where
+module _ {T : Type 0} (scene : Scene T) where
+  -- a raise that the party of the scene owed to the changes it owes still, where its call is now `y`
+  abbrev pub OwesStill : Party T → Type 0
+  OwesStill y =
+      owes (flight_of (doing_of (party_of scene.party scene.latest))) ≡ true → owes (flight_of (Some y.doing)) ≡ true
+
+  -- The turn of the scene, in a machine that keeps the invariant, leaves the words `words'` and the call `y` of its party, and
+  -- writes the events `es`. The run was well-formed before the turn if it is after it, so what the invariant says of well-formed runs holds.
+  pub record Turn (words' : List ℕ) (y : Party T) (es : List (Event T)) : Type 0 where
+    pub inv : Inv scene
+    pub well_formed : WellFormed (after scene words' y es) → WellFormed (before scene)
+
+module _ {T : Type 0} {scene : Scene T} {words' : List ℕ} {y : Party T} {es : List (Event T)} (turn : Turn scene words' y es) where
+  open turn use {inv, well_formed}
   open scene use {coding as code, capacity as c, party as p, turns as turns, latest as latest, events as events}
 
   abbrev ws : List ℕ
@@ -35,13 +46,8 @@ module _ {T : Type 0} (scene : Scene T) (inv : Inv scene) (words' : List ℕ) (y
   e : Elements code c m scene.states turns
   e = inv.elements
 
-  -- a raise that the party owed to the changes it owes still
-  abbrev pub OwesStill : Type 0
-  OwesStill =
-      owes (flight_of (doing_of (party_of p latest))) ≡ true → owes (flight_of (Some y.doing)) ≡ true
-
   -- where a raise is owed before the turn, one is owed after it, if the party still owes its own
-  owing_still : OwesStill → Owing latest → Owing (put p y latest)
+  owing_still : OwesStill scene y → Owing latest → Owing (put p y latest)
   owing_still still o =
       let here = party_put_same p y latest in let there = party_put_other o.party p y latest in grind arith
 
@@ -72,7 +78,8 @@ module _ {T : Type 0} (scene : Scene T) (inv : Inv scene) (words' : List ℕ) (y
   -- ---- a turn that leaves the words of the elements and the number of changes
 
   -- all words behind the counter and the cells stay, and the events of the turn are calm
-  module _ (rest : (n : ℕ) → 1 + c ≤ n → get_or words' n 0 ≡ get_or ws n 0) (wide : length words' ≡ length ws) (calm : LeavesReadings) (still : OwesStill) where
+  module _ (rest : (n : ℕ) → 1 + c ≤ n → get_or words' n 0 ≡ get_or ws n 0) (wide : length words' ≡ length ws)
+      (calm : LeavesReadings) (still : OwesStill scene y) where
     same_count : (i : ℕ) → i < c → count_in code c m' i ≡ count_in code c m i
     same_count i low = rest (count_word c i) (omega arith)
 
@@ -135,7 +142,7 @@ module _ {T : Type 0} (scene : Scene T) (inv : Inv scene) (words' : List ℕ) (y
   -- the turn stores word `k` of `value` at index `i`, where its party writes and has stored the words before
   module _ {i : ℕ} (below : i < c) {k : ℕ} (ks : k < code.size) {value : T} (owner : ℕ)
       (mine : WellFormed m → IsWriter p i owner events) (writing : WellFormed m → Writing code c ws i value k)
-      (new : words' ≡ set ws (element_word c code.size i k) (get_or (code.words_of value) k 0)) (calm : LeavesReadings) (still : OwesStill) where
+      (new : words' ≡ set ws (element_word c code.size i k) (get_or (code.words_of value) k 0)) (calm : LeavesReadings) (still : OwesStill scene y) where
     count_kept : (a : ℕ) → a < c → count_in code c m' a ≡ count_in code c m a
     count_kept a low = ap (λ w. count_at c w a) new ∙ counts_stay c code.size ws i k _ a low
 
@@ -189,8 +196,8 @@ module _ {T : Type 0} (scene : Scene T) (inv : Inv scene) (words' : List ℕ) (y
 
   -- the turn raises the number of the element at index `i` by one, and its party owes the
   -- changes a raise after it
-  module _ (i : ℕ) (below : i < c) (new : words' ≡ set ws (count_word c i) (one_more (count_in code c m i)))
-      (own : AreOwn p es) (start : Start T) (wrote : List (Event T)) (open_now : span_of p events ≡ Open start wrote)
+  module _ {i : ℕ} (below : i < c) (new : words' ≡ set ws (count_word c i) (one_more (count_in code c m i)))
+      (own : AreOwn p es) {start : Start T} {wrote : List (Event T)} (open_now : span_of p events ≡ Open start wrote)
       (owed : owes (flight_of (Some y.doing)) ≡ true) where
     count_here : count_in code c m' i ≡ one_more (count_in code c m i)
     count_here = grind (arith, count_at, count_set, one_more)

@@ -25,7 +25,7 @@ use Rattle.laws_container.proofs.Stages.{acts_more, goes_on}
 use Rattle.laws_container.proofs.Stages.{owes_none, was_well_formed}
 use Rattle.laws_container.proofs.CallProgress.{find_at, find_number, FindAt}
 use Rattle.laws_container.proofs.Turns.{count_in}
-use Rattle.laws_container.proofs.Finds.{Finding, below_more, cell_step, comes_to_next, count_step, ends_there, found_past}
+use Rattle.laws_container.proofs.Finds.{Finding, IsAtStage, as_given, below_more, cell_step, comes_to_next, count_step, ends_there, found_past}
 use Rattle.laws_container.proofs.Finds.{has_last, has_more, seen_more, then_at, word_step}
 use Rattle.laws_robust.proofs.Cases.{on_bool}
 
@@ -56,10 +56,9 @@ module _ {T : Type 0} (finding : Finding T) where
   -- ---- its number is checked
 
   -- the find has read all words of the element at index `k` under the number `count`, and checks that number
-  module _ (room : buffers.Buffer 128) (k found count : ℕ)
-      (here : IsUnderWay scene (Find owner) (find_at c owner room (finds.ChecksCount k found count)))
+  module _ {k found count : ℕ} (here : IsAtStage finding (finds.ChecksCount k found count))
       (stands : FindAt c z (all scene) (done scene) (finds.ChecksCount k found count))
-      (knows : FindKnows code c owner room (finds.ChecksCount k found count) v) (few_steps : steps ≤ 2 + z + k * (z + 3)) where
+      (knows : FindKnows code c owner here.room (finds.ChecksCount k found count) v) (few_steps : steps ≤ 2 + z + k * (z + 3)) where
     abbrev count_now : ℕ
     count_now = count_in code c (before scene) k
 
@@ -67,98 +66,113 @@ module _ {T : Type 0} (finding : Finding T) where
     check_it = Some (exchanges (count_word c k) count count)
 
     abbrev value : T
-    value = read_in code room
+    value = read_in code here.room
 
     abbrev copying : List (Event T)
     copying = Copied p k value ∷ []
 
     -- where the number is still the one under which the words were read, the copy is whole, and
     -- the find asks about it
-    copies : count_now ≡ count → Leads scene start check_it false scene.states copying (GoOn (find_at c owner room (finds.Asks k found)))
+    copies : count_now ≡ count → Leads scene start check_it false scene.states copying (GoOn (find_at c owner here.room (finds.Asks k found)))
     copies is =
         -- the check leaves the words, since it exchanges the number for itself
         let same : words_after ws check_it ≡ ws =
         exchange_sets ws (count_word c k) count count is ∙ (ap (set ws (count_word c k)) (sym is) ∙ set-get_or ws (count_word c k) 0) in
-        let party_after = then_at finding room (finds.ChecksCount k found count) here stands.0 room (finds.Asks k found) check_it in
-        let well_formed = was_well_formed scene start tt here.span (words_after ws check_it) party_after copying (refl, tt) in
+        let party_after = then_at finding here.room (finds.Asks k found) check_it in
+        let well_formed = was_well_formed scene start tt here.call.span (words_after ws check_it) party_after copying (refl, tt) in
         let acts_then : acts_of p (events ++ copying) ≡ done scene ++ Copies k value ∷ [] =
-        acts_more scene start here.span copying (refl, tt) (λ start w. refl) in
-        goes_on scene start (find_at c owner room (finds.Asks k found)) check_it false scene.states copying here.span (λ start w. refl)
-        (silently inv (words_after ws check_it) same party_after copying (tt, tt) (refl, tt) tt here well_formed
-        (owes_none scene party_after here refl)
-        -- its event is right: the copy is the value that stands
-        (record {
-          asks = (tt, tt);
-          recovers = (tt, tt);
-          answers = (tt, tt);
-          contains =
-              λ holds. (copied_value code c inv.elements.coded inv.elements.whole knows.2 is (well_formed holds), tt);
-          places = λ holds. (tt, tt);
-        }))
-        (stands.1.1, tt) (omega arith) (
-          -- where the find stands at its question: it has come past the index, and has done
-          -- nothing to the set
-          refl,
-          refl,
-          fits,
-          (
-            ap (λ (d : List SetAct). d ++ []) stands.0,
-            stands.1.0,
-            seen_more (k + 1) (done scene) (Copies k value) (below_more k (k + 1) _ (omega arith) stands.1.1) (omega arith, tt),
-          ),
-        ) (
-          -- what the find knows at its question: it has copied the counted indices up to this one
-          knows.2.room,
-          (
+        acts_more scene start here.call.span copying (refl, tt) (λ start w. refl) in
+        goes_on scene (find_at c owner here.room (finds.Asks k found)) check_it false here.call.span (record {
+          longer = λ start w. refl;
+          does =
+              silently (as_given finding here) same (tt, tt) (refl, tt) well_formed (owes_none scene party_after here.call refl)
+              -- its event is right: the copy is the value that stands
+              (record {
+                asks = (tt, tt);
+                recovers = (tt, tt);
+                answers = (tt, tt);
+                contains =
+                    λ holds. (copied_value code c inv.elements.coded inv.elements.whole knows.2 is (well_formed holds), tt);
+                places = λ holds. (tt, tt);
+              });
+          follows = (stands.1.1, tt);
+          few = omega arith;
+          stands = (
+            -- where the find stands at its question: it has come past the index, and has done
+            -- nothing to the set
+            refl,
+            refl,
+            fits,
             (
-              let paid = knows.0.0 in omega arith,
-              count_later p (IsFilledWith owner) (k + 1) found events knows.0.1 copying tt,
-              λ holds.
-                  let g = knows.0.2 (well_formed holds) in
-                  record {
-                    count =
-                        record {
-                          chosen = g.count.chosen;
-                          is = g.count.is;
-                          once = λ i less chosen. held_later p (IsFilledWith owner i) events copying tt (g.count.once i less chosen);
-                          through = λ i less through. g.count.through i less (through_less p (IsFilledWith owner i) events copying tt through);
-                        };
-                    copied = λ i less chosen through.
-                        ⊎_elim (λ e. (
-                          value,
-                          subst (λ n. IsOneOf (Copies n value) (acts_of p (events ++ copying))) (sym e)
-                              (subst (IsOneOf (Copies k value)) (sym acts_then) (has_last (Copies k value) (done scene))),
-                        ))
-                        (λ ne.
-                        let had = g.copied i (omega arith) chosen (through_less p (λ part. is_some (contents_of i part) ≡ true) events copying tt through) in
-                        (had.0, subst (IsOneOf (Copies i had.0)) (sym acts_then) (has_more (Copies i had.0) (done scene) (Copies k value ∷ []) had.1)))
-                        (cases_eq i k);
-                  },
+              ap (λ (d : List SetAct). d ++ []) stands.0,
+              stands.1.0,
+              seen_more (k + 1) (done scene) (Copies k value) (below_more k (k + 1) _ (omega arith) stands.1.1) (omega arith, tt),
             ),
-            record { before = done scene; is = acts_then },
-          ),
-        )
+          );
+          -- what the find knows at its question: it has copied the counted indices up to this one
+          known = (
+            knows.2.room,
+            (
+              (
+                let paid = knows.0.0 in omega arith,
+                count_later p (IsFilledWith owner) (k + 1) found events knows.0.1 copying tt,
+                λ holds.
+                    let g = knows.0.2 (well_formed holds) in
+                    record {
+                      count =
+                          record {
+                            chosen = g.count.chosen;
+                            is = g.count.is;
+                            once = λ i less chosen. held_later p (IsFilledWith owner i) events copying tt (g.count.once i less chosen);
+                            through = λ i less through. g.count.through i less (through_less p (IsFilledWith owner i) events copying tt through);
+                          };
+                      copied = λ i less chosen through.
+                          ⊎_elim (λ e. (
+                            value,
+                            subst (λ n. IsOneOf (Copies n value) (acts_of p (events ++ copying))) (sym e)
+                                (subst (IsOneOf (Copies k value)) (sym acts_then) (has_last (Copies k value) (done scene))),
+                          ))
+                          (λ ne.
+                          let had = g.copied i (omega arith) chosen (through_less p (λ part. is_some (contents_of i part) ≡ true) events copying tt through) in
+                          (had.0, subst (IsOneOf (Copies i had.0)) (sym acts_then) (has_more (Copies i had.0) (done scene) (Copies k value ∷ []) had.1)))
+                          (cases_eq i k);
+                    },
+              ),
+              record { before = done scene; is = acts_then },
+            ),
+          );
+        })
 
     -- a find whose check finds another number passes the index without a copy
-    fails : count_now ≢ count → Leads scene start check_it false scene.states [] (as_find room (find_comes_to first (k + 1) found))
+    fails : count_now ≢ count → Leads scene start check_it false scene.states [] (as_find here.room (find_comes_to first (k + 1) found))
     fails other =
-        comes_to_next finding room (finds.ChecksCount k found count) here stands.0 check_it
-        (fails_same ws (count_word c k) count count other) k found stands.1.0 knows.0.0 (omega arith)
-        (below_more k (k + 1) _ (omega arith) stands.1.1) knows.0.1
-        (found_past finding k found (λ holds through. other (knows.1 holds through)) knows.0.2) knows.2.room
+        comes_to_next finding here knows.2.room k found check_it (record {
+          same = fails_same ws (count_word c k) count count other;
+          below = stands.1.0;
+          paid = knows.0.0;
+          few = omega arith;
+          seen = below_more k (k + 1) _ (omega arith) stands.1.1;
+          counted = knows.0.1;
+          has_found = found_past finding k found (λ holds through. other (knows.1 holds through)) knows.0.2;
+        })
 
     -- the step in which a find checks the number: it asks about its copy if the number is the same, and else
     -- passes the index
-    check_step : StepOf scene start (find_at c owner room (finds.ChecksCount k found count))
+    check_step : StepOf scene start (find_at c owner here.room (finds.ChecksCount k found count))
     check_step =
         on_bool (λ b. Leads scene start (Some (exchanges (count_word c k) count count)) false scene.states
-        ((if b then Copied p k (read_in code room) ∷ [] else []) ++ [])
-        (as_find room (if b then GoOn (at_find first (finds.Asks k found)) else find_comes_to first (k + 1) found)))
+        ((if b then Copied p k (read_in code here.room) ∷ [] else []) ++ [])
+        (as_find here.room (if b then GoOn (at_find first (finds.Asks k found)) else find_comes_to first (k + 1) found)))
         (count_now == count)
         (λ t. let same_count : count_now ≡ count = grind (arith, nat_tests) in copies same_count)
         (λ t. let other : count_now ≢ count = grind (arith, nat_tests) in fails other)
 
   -- ---- it is told whether to go on
+
+  -- the find is at its stage with this room, and has done nothing to the set
+  abbrev is_at : (room : buffers.Buffer 128) (stage : FindStage) → IsUnderWay scene (Find owner) (find_at c owner room stage)
+      → all scene ≡ [] → IsAtStage finding stage
+  is_at room stage here nothing = record { room = room; call = here; nothing = nothing }
 
   -- a find that is told no ends with its count, and one that is told yes goes on to the next index
   pub find_decided : (room : buffers.Buffer 128) (k found : ℕ)
@@ -169,14 +183,24 @@ module _ {T : Type 0} (finding : Finding T) where
       → AnswerOf scene (Find owner) (find_at c owner room (finds.Asks k found)) None answer
   find_decided room k found stands here knows few_steps answer = go (answer == 0)
     where
+      at_question : IsAtStage finding (finds.Asks k found)
+      at_question = is_at room (finds.Asks k found) here stands.0
+
       -- the cases are whether the find was told no
       go : (b : Bool) → Leads scene start None false scene.states [] (as_find room (if b then Done found else find_comes_to first (k + 1) found))
       go true = let all_of = times_below c k (z + 3) stands.1 in
           let below = stands.1 in
-          ends_there finding room (finds.Asks k found) here stands.0 None refl (k + 1) found (omega arith) knows.1.0.0 (omega arith) knows.1.0.1
+          ends_there finding at_question None refl (k + 1) found (omega arith) knows.1.0.0 (omega arith) knows.1.0.1
       go false =
-          comes_to_next finding room (finds.Asks k found) here stands.0 None refl k found stands.1 knows.1.0.0
-          (omega arith) stands.2 knows.1.0.1 knows.1.0.2 knows.0
+          comes_to_next finding at_question knows.0 k found None (record {
+            same = refl;
+            below = stands.1;
+            paid = knows.1.0.0;
+            few = omega arith;
+            seen = stands.2;
+            counted = knows.1.0.1;
+            has_found = knows.1.0.2;
+          })
 
   -- ---- any step
 
@@ -184,8 +208,12 @@ module _ {T : Type 0} (finding : Finding T) where
   pub find_step : (room : buffers.Buffer 128) (stage : FindStage) → FindAt c z (all scene) (done scene) stage
       → IsUnderWay scene (Find owner) (find_at c owner room stage) → Knows code c (find_at c owner room stage) v
       → steps ≤ find_number z stage → StepOf scene (Find owner) (find_at c owner room stage)
-  find_step room (finds.LoadsCell k found) stands here knows few_steps = cell_step finding room knows.0 k found here stands knows.1 few_steps
-  find_step room (finds.LoadsCount k found) stands here knows few_steps = count_step finding room knows.0 k found here stands knows.1 few_steps
-  find_step room (finds.LoadsWord k found count word) stands here knows few_steps = word_step finding room k found count word here stands knows.1 few_steps
-  find_step room (finds.ChecksCount k found count) stands here knows few_steps = check_step room k found count here stands knows.1 few_steps
+  find_step room (finds.LoadsCell k found) stands here knows few_steps =
+      cell_step finding (is_at room (finds.LoadsCell k found) here stands.0) knows.0 stands knows.1 few_steps
+  find_step room (finds.LoadsCount k found) stands here knows few_steps =
+      count_step finding (is_at room (finds.LoadsCount k found) here stands.0) knows.0 stands knows.1 few_steps
+  find_step room (finds.LoadsWord k found count word) stands here knows few_steps =
+      word_step finding (is_at room (finds.LoadsWord k found count word) here stands.0) stands knows.1 few_steps
+  find_step room (finds.ChecksCount k found count) stands here knows few_steps =
+      check_step (is_at room (finds.ChecksCount k found count) here stands.0) stands knows.1 few_steps
   find_step room (finds.Asks k found) stands here knows few_steps = find_decided room k found stands here knows few_steps 0

@@ -3,12 +3,12 @@
 -- index that it counted.
 use Rattle.laws_container.proofs.Names.{◌≡◌, ◌≢◌, ℕ, ◌+◌, ◌==◌, ◌<◌, ◌≤◌, if◌then◌else◌, nat_lt, Bool, true, false}
 use Rattle.laws_container.proofs.Names.{Option, Some, None, is_none, is_some, List, [], ◌∷◌, ◌++◌, refl, sym, ap}
-use Rattle.laws_container.proofs.Names.{subst, ◌∙◌, arith, nat_tests, append_cancel_left, After, GoOn, FindStage}
+use Rattle.laws_container.proofs.Names.{subst, ◌∙◌, arith, nat_tests, After, GoOn, FindStage}
 use Rattle.laws_container.proofs.Names.{at_find, find_comes_to, is_even, empty, one_more, went_on, Answer, Number}
 use Rattle.laws_container.proofs.Names.{Event, Finished, Start, Container, Flight, Registry, ContainerStart}
 use Rattle.laws_container.proofs.Names.{ContainerFlight, Doing, Going, Over, Party, Turn, Begin}
 use Rattle.laws_container.proofs.Names.{Next, Decide, Die, Coding, want_of, ask_of, is_question, beside_of, step_of}
-use Rattle.laws_container.proofs.Names.{want, after, IsFoundWhole, question_in, question_at, contents_of, state_of}
+use Rattle.laws_container.proofs.Names.{want, after, IsFoundWhole, question_in, contents_of, state_of}
 use Rattle.laws_container.proofs.Names.{effects, questions, IsFilledWith, IsCount, as_it_is, read_in, party_of, put}
 use Rattle.laws_container.proofs.Names.{doing_of, flight_of, IsParty, is_due, call_refusal, as_call, answer_in}
 use Rattle.laws_container.proofs.Names.{old_of, number_of, after_next, after_decision, after_answer, events_of_step}
@@ -28,14 +28,13 @@ use Rattle.laws_container.proofs.Finds.{Finding, nothing_stands, none_counts, fo
 use Rattle.laws_container.proofs.Invariant.{Scene, Inv, before, family_by}
 use Rattle.laws_container.proofs.Knows.{HasFoundBelow, Knows}
 use Rattle.laws_container.proofs.WellFormed.{IsWellFormedSoFar}
-use Rattle.laws_container.proofs.Sound.{MayGoOn, Shown, kept_now, scene_of, inv_with, is_there}
+use Rattle.laws_container.proofs.Sound.{MayGoOn, Shown, SoundRun, kept_now, scene_of, inv_with, is_there}
 use Rattle.laws_container.proofs.Stages.{IsUnderWay, all, done, sees_now, any_call, was_well_formed}
 use Rattle.laws_container.proofs.CallProgress.{find_at, At, FindAt}
 use Rattle.laws_container.proofs.Terms.{Terms}
 use Rattle.laws_container.proofs.Turns.{WellFormed, count_in}
 use Rattle.laws_container.proofs.Writing.{even_is}
 use Rattle.laws_container.proofs.Written.{all_effects}
-use Rattle.laws_container.specs.ConditionalPromises.{CountsIf}
 use Rattle.laws_container.proofs.Allowed.{IsAllowed}
 
 -- ---- a find that ends
@@ -349,9 +348,13 @@ module _ {T : Type 0} (handed : Handed T) where
 
 -- ---- any turn
 
--- `c` is the capacity, `t` the run up to this turn, `s` that it is sound; party `p` has the find for `owner`
-module _ {T : Type 0} (shown : Shown T) (terms : Terms) (code : Coding T) (c : ℕ) (t : Trace T)
-    (s : frame.Sound (family_by terms code c) t) (p owner number : ℕ) where
+-- party `p` has the find for `owner`, whose answer may be `number`
+module _ {T : Type 0} (run : SoundRun T) (p owner number : ℕ) where
+  open run use {shown, terms, code, trace as t, sound as s, may as may_go}
+
+  abbrev c : ℕ
+  c = t.world.capacity
+
   abbrev WroteOnlyEnd : List (Event T) → Type 0
   WroteOnlyEnd es = es ≡ Finished p (Container (Find owner)) (Number number) ∷ []
 
@@ -379,7 +382,7 @@ module _ {T : Type 0} (shown : Shown T) (terms : Terms) (code : Coding T) (c : �
       }
 
   -- what is known of the find that ended in a turn that leaves the calls `latest`: its count, and its copies
-  abbrev TellsCount : ℕ → List (ℕ × Party T) → Type 0
+  abbrev pub TellsCount : ℕ → List (ℕ × Party T) → Type 0
   TellsCount bound latest =
       IsCount p (IsFilledWith owner) bound number t.events
       × (IsWellFormedSoFar terms latest (t.events ++ Finished p (Container (Find owner)) (Number number) ∷ [])
@@ -433,11 +436,11 @@ module _ {T : Type 0} (shown : Shown T) (terms : Terms) (code : Coding T) (c : �
               absurd (ne (ap (λ n. Decide n said) party ∙ ap (λ b. Decide p b) said_test))
 
   -- a no about an index that wrote only that the find is done tells that the indices up to it are counted
-  stop_tells : (index : ℕ) (value : T) → MayGoOn terms t → (o : Option (Party T)) → party_of p t.world.latest ≡ o
+  pub stop_tells : {index : ℕ} {value : T} → MayGoOn terms t → (o : Option (Party T)) → party_of p t.world.latest ≡ o
       → question_in t.world.coding (flight_of (doing_of o)) ≡ Some (index, value)
       → WroteOnlyEnd (events_of_decision t.world p false o) → TellsCount (index + 1) (after_decision t.world p false o).latest
-  stop_tells index value may None found asks ended = absurd (cc)
-  stop_tells index value may (Some x) found asks ended = go x.doing refl asks ended
+  stop_tells may None found asks ended = absurd (cc)
+  stop_tells {index} {value} may (Some x) found asks ended = go x.doing refl asks ended
     where
       -- the cases are whether the party's call is over or under way
       go : (doing : Doing T) → x.doing ≡ doing
@@ -455,42 +458,10 @@ module _ {T : Type 0} (shown : Shown T) (terms : Terms) (code : Coding T) (c : �
 
   -- a turn other than a no to the find's party, which wrote only the end of the find,
   -- tells that all is counted
-  tells : MayGoOn terms t → (turn : Turn T) → IsAllowed t.world turn → WroteOnlyEnd (events_of t.world turn)
+  pub tells : MayGoOn terms t → (turn : Turn T) → IsAllowed t.world turn → WroteOnlyEnd (events_of t.world turn)
       → turn ≢ Decide p false → TellsCount c (after_turn t turn).world.latest
   tells may (Begin q start) allowed ended ne = absurd (cc)
   tells may (Next q) allowed ended ne = next_tells q may (not_due q allowed) (party_of q t.world.latest) refl ended
   tells may (Decide q said) allowed ended ne =
       decision_tells q said may allowed ne (party_of q t.world.latest) refl ended
   tells may (Die o) allowed ended ne = absurd (cc)
-
-module _ {T : Type 0} (shown : Shown T) (terms : Terms) (code : Coding T) (t : Trace T)
-    (sound : frame.Sound (family_by terms code t.world.capacity) t) (may : MayGoOn terms t) (turn : Turn T)
-    (r : IsAllowed t.world turn)
-    (well_formed : Type 0) (so_far : well_formed → IsWellFormedSoFar terms (after_turn t turn).world.latest (after_turn t turn).events) where
-  -- what the turn tells of the find's count is the count of the promise `CountsIf`
-  right : (p owner number bound : ℕ)
-      → (after_turn t turn).events ≡ t.events ++ Finished p (Container (Find owner)) (Number number) ∷ []
-      → TellsCount shown terms code t.world.capacity t sound p owner number bound (after_turn t turn).world.latest
-      → CountsIf well_formed p owner bound number t.events
-  right = grind (arith, after_turn)
-
-  -- a find that ends in a turn other than a no to its party has counted the whole container right
-  pub counts_all : (p owner number : ℕ)
-      → (after_turn t turn).events ≡ t.events ++ Finished p (Container (Find owner)) (Number number) ∷ []
-      → turn ≢ Decide p false → CountsIf well_formed p owner t.world.capacity number t.events
-  counts_all p owner number split_so ne =
-      right p owner number t.world.capacity split_so
-      (tells shown terms code t.world.capacity t sound p owner number may turn r
-      (append_cancel_left t.events (events_of t.world turn) _ split_so) ne)
-
-  -- a find that a no about an index ends has counted the indices up to that one right
-  pub counts_up_to : (p owner number index : ℕ) (value : T)
-      → (after_turn t turn).events ≡ t.events ++ Finished p (Container (Find owner)) (Number number) ∷ []
-      → turn ≡ Decide p false → question_at t p ≡ Some (index, value)
-      → CountsIf well_formed p owner (index + 1) number t.events
-  counts_up_to p owner number index value split_so stops asks =
-      right p owner number (index + 1) split_so
-      (subst (λ u. TellsCount shown terms code t.world.capacity t sound p owner number (index + 1) (after_turn t u).world.latest) (sym stops)
-      (stop_tells shown terms code t.world.capacity t sound p owner number index value may (party_of p t.world.latest) refl asks
-      (subst (λ u. events_of t.world u ≡ Finished p (Container (Find owner)) (Number number) ∷ []) stops
-      (append_cancel_left t.events (events_of t.world turn) _ split_so))))

@@ -6,10 +6,10 @@ use Rattle.laws_container.proofs.Names.{Bool, false, true, Option, Some, is_some
 use Rattle.laws_container.proofs.Names.{refl, sym, ap, subst, ◌∙◌, append-nil, append_assoc, arith, AllByRecursion}
 use Rattle.laws_container.proofs.Names.{cases_eq, nat_tests, length-set, flat_map-append, Ask, After, GoOn, FindStage}
 use Rattle.laws_container.proofs.Names.{at_find, find_comes_to, count_word, element_word, is_even, cell_word, empty}
-use Rattle.laws_container.proofs.Names.{one_more, went_on, Answer, Finished, Container, ContainerStart}
+use Rattle.laws_container.proofs.Names.{one_more, went_on, Answer, Event, Finished, Container, ContainerStart}
 use Rattle.laws_container.proofs.Names.{ContainerFlight, Party, Coding, IsOneOf, Act, index_seen, seen_in}
 use Rattle.laws_container.proofs.Names.{contents_of, cell_of, count_below, IsFilledWith, IsCount, as_it_is, kept_at}
-use Rattle.laws_container.proofs.Names.{put, as_call, words_after, step_count, held_now, cell, times_below}
+use Rattle.laws_container.proofs.Names.{as_call, words_after, step_count, held_now, cell, times_below}
 use Rattle.laws_container.proofs.Names.{count_next, count_within, chosen_with, with_here, with_there, count_with}
 use Rattle.laws_container.proofs.Names.{still_once, still_through, all_so, both_ways, filled_by, through_now}
 use Rattle.laws_container.proofs.Names.{loads_same}
@@ -24,12 +24,12 @@ use Rattle.laws_robust.proofs.Stages as set_stages
 use Rattle.laws_container.proofs.Contents.{WordsShow}
 use Rattle.laws_container.proofs.Core.{count_at}
 use Rattle.laws_container.proofs.Copies.{copying_first, copying_more}
-use Rattle.laws_container.proofs.Invariant.{Scene, Inv, AreAllRight, before, of_set, inv_of_set, view}
+use Rattle.laws_container.proofs.Invariant.{right_end, Scene, Inv, AreAllRight, before, of_set, inv_of_set}
 use Rattle.laws_container.proofs.Knows.{View, IsPaid, HasFoundBelow, Finds, Steady, Copying, FindKnows, IsLong, Knows}
 use Rattle.laws_container.proofs.StateInvariant.{StoodThere}
 use Rattle.laws_container.proofs.Silent.{silently}
-use Rattle.laws_container.proofs.Stages.{IsUnderWay, all, done, sees_now, StepOf, Leads, none_lengthens}
-use Rattle.laws_container.proofs.Stages.{party_then, since_then, changes_then, backs_then}
+use Rattle.laws_container.proofs.Stages.{sees_calmly, Call, IsUnderWay, all, done, sees_now, StepOf, Leads, none_lengthens}
+use Rattle.laws_container.proofs.Stages.{party_then}
 use Rattle.laws_container.proofs.Stages.{goes_calmly, ends, owes_none, was_well_formed, was_well_formed_calmly}
 use Rattle.laws_container.proofs.CallProgress.{find_at, find_number, AreBelow, FindAt}
 use Rattle.laws_container.proofs.Turns.{WellFormed, count_in, datum_in}
@@ -117,13 +117,13 @@ module _ {T : Type 0} (finding : Finding T) where
         let few = inv.good.few in
         let most = count_within p (IsFilledWith owner) k found events counted in
         let next : one_more found ≡ 1 + found = omega arith in
-        count_next p (IsFilledWith owner) k found events counted true (one_more found) next
+        count_next (IsFilledWith owner) counted true next
         (λ e. filled_by (of_set scene) (inv_of_set scene inv) k below owner fits has_owner) (λ e. absurd (cc))
 
     -- a cell without the owner adds nothing to the indices counted
     pub none_counts : cell ws k ≢ owner → HasCounted k found → HasCounted (k + 1) found
     none_counts other counted =
-        count_next p (IsFilledWith owner) k found events counted false found (omega arith) (λ e. absurd (cc))
+        count_next (IsFilledWith owner) counted false (omega arith) (λ e. absurd (cc))
         (λ e filled. other (inv.good.cells k below ∙ ap cell_of filled))
 
     -- `b` says whether the index is counted, as it is if the cell has the owner and is not if it never had;
@@ -140,8 +140,8 @@ module _ {T : Type 0} (finding : Finding T) where
           record {
             chosen = chosen_with found_below.count.chosen k b;
             is = is_counted;
-            once = still_once p (IsFilledWith owner) k found events found_below.count b new adds once not;
-            through = still_through p (IsFilledWith owner) k found events found_below.count b new adds once not;
+            once = still_once (IsFilledWith owner) found_below.count b adds once not;
+            through = still_through (IsFilledWith owner) found_below.count b adds once not;
           }
 
       -- a find that counts the index, or leaves it out, has counted to the next bound, and the element at the
@@ -195,17 +195,37 @@ module _ {T : Type 0} (finding : Finding T) where
 
   -- ---- what a step leads to
 
-  -- the find is at `stage`, has `room` for its copy, and has done nothing to the set
-  module _ (room : buffers.Buffer 128) (stage : FindStage) (here : IsUnderWay scene (Find owner) (find_at c owner room stage)) (nothing : all scene ≡ []) where
-    -- the party after the step by which the find comes to stage `next` with this room
-    abbrev pub then_at : buffers.Buffer 128 → FindStage → Option Ask → Party T
-    then_at room' next ask = party_then scene start ask false (GoOn (find_at c owner room' next))
+  -- the party's call under way is this find, at this stage, and has done nothing to the set
+  pub record IsAtStage (stage : FindStage) : Type 0 where
+    pub room : buffers.Buffer 128
+    pub call : IsUnderWay scene (Find owner) (find_at c owner room stage)
+    pub nothing : all scene ≡ []
 
-    -- what the find sees after a step that writes nothing and leads to stage `next`
-    abbrev SeesCalmly : buffers.Buffer 128 → FindStage → Option Ask → View T
-    SeesCalmly room' next ask =
-        view scene.terms (words_after ws ask) scene.states (put p (then_at room' next ask) latest) events p
-        (since_then scene ask) (changes_then scene ask) (backs_then scene false)
+  -- the party after the step by which the find comes to stage `next` with this room
+  abbrev pub then_at : buffers.Buffer 128 → FindStage → Option Ask → Party T
+  then_at room' next ask = party_then scene start ask false (GoOn (find_at c owner room' next))
+
+  -- what the find sees after a step that writes nothing and leads to stage `next`
+  abbrev SeesCalmly : buffers.Buffer 128 → FindStage → Option Ask → View T
+  SeesCalmly room' next ask =
+      sees_calmly scene ask false scene.states (then_at room' next ask)
+
+  -- What has to be shown of a step that leaves the words, with which the find has come past index `k`: it has paid, is within its steps, has
+  -- seen no index behind `k`, and has counted `found` indices up to `k` and copied what stood there.
+  pub record ComesPast (k found : ℕ) (ask : Option Ask) : Type 0 where
+    pub same : words_after ws ask ≡ ws
+    pub below : k < c
+    pub paid : IsPaid v
+    pub few : steps + step_count ask ≤ (k + 1) * (z + 3)
+    pub seen : AreBelow (k + 1) (seen_in (done scene))
+    pub counted : HasCounted (k + 1) found
+    pub has_found : HasFoundUpTo (k + 1) (k + 1) found
+
+  -- the find is at `stage`
+  module _ {stage : FindStage} (here : IsAtStage stage) where
+    -- the find at its stage, as a call of the container
+    abbrev pub as_given : Call T
+    as_given = record { scene = scene; inv = inv; start = start; flight = find_at c owner here.room stage; no_look = tt; here = here.call }
 
     right_none : (words' : List ℕ) (y : Party T) → AreAllRight scene words' y []
     right_none = grind arith
@@ -218,20 +238,27 @@ module _ {T : Type 0} (finding : Finding T) where
         → Leads scene start ask false scene.states [] (GoOn (find_at c owner room' next))
     calm_step room' next ask same few stands known =
         let party_after = then_at room' next ask in
-        goes_calmly scene start (find_at c owner room' next) ask false scene.states here.span
-        (silently inv (words_after ws ask) same party_after [] tt tt tt here
-        (was_well_formed scene start tt here.span (words_after ws ask) party_after [] tt)
-        (owes_none scene party_after here refl) (right_none (words_after ws ask) party_after))
-        few (refl, refl, fits, stands) known
+        goes_calmly scene (find_at c owner room' next) ask false here.call.span (record {
+          does =
+              silently as_given same tt tt
+              (was_well_formed scene start tt here.call.span (words_after ws ask) party_after [] tt)
+              (owes_none scene party_after here.call refl) (right_none (words_after ws ask) party_after);
+          few = few;
+          stands = (refl, refl, fits, stands);
+          known = known;
+        })
 
     -- a step that writes nothing leaves right what a find has counted and copied
-    counts_calm : (room' : buffers.Buffer 128) (next : FindStage) (ask : Option Ask) (bound k number : ℕ) → IsPaid v
-        → HasCounted bound number → HasFoundUpTo bound k number → Finds code c owner bound k number (SeesCalmly room' next ask)
-    counts_calm room' next ask bound k number paid counted found = (
-      omega arith,
-      counted,
-      λ holds. let g = found (was_well_formed_calmly scene start tt here.span (then_at room' next ask) holds) in record { count = g.count; copied = g.copied },
-    )
+    counts_calm : (room' : buffers.Buffer 128) (next : FindStage) (ask : Option Ask) {bound k number : ℕ}
+        → IsPaid v × HasCounted bound number × HasFoundUpTo bound k number → Finds code c owner bound k number (SeesCalmly room' next ask)
+    counts_calm room' next ask known =
+        let (paid, counted, found) = known in (
+          omega arith,
+          counted,
+          λ holds.
+              let g = found (was_well_formed_calmly scene start tt here.call.span (then_at room' next ask) holds) in
+              record { count = g.count; copied = g.copied },
+        )
 
     -- a step that leaves the words ends a find that has no index left, with the number that it has counted
     pub ends_there : (ask : Option Ask) → words_after ws ask ≡ ws → (bound number : ℕ) → bound ≤ c → IsPaid v
@@ -239,76 +266,83 @@ module _ {T : Type 0} (finding : Finding T) where
         → Leads scene start ask false scene.states [] (Done (answers.Number number))
     ends_there ask same bound number within paid few counted =
         let party_after = party_then scene start ask false (Done (answers.Number number)) in
-        let written = Finished p (Container start) (answers.Number number) ∷ [] in
-        ends scene start (answers.Number number) ask false scene.states [] here.span none_lengthens
-        (silently inv (words_after ws ask) same party_after written (tt, tt) (refl, tt) tt
-        here (was_well_formed scene start tt here.span (words_after ws ask) party_after written (refl, tt))
-        (owes_none scene party_after here refl)
-        (record {
-          asks = (tt, tt);
-          recovers = (tt, tt);
-          answers = (record { bound = bound; within = within; count = counted }, tt);
-          contains = λ h. (tt, tt);
-          places = λ h. (tt, tt);
-        }))
-        ((refl, nothing), tt) few (omega arith)
+        let written : List (Event T) = Finished p (Container start) (answers.Number number) ∷ [] in
+        ends scene (answers.Number number) ask false here.call.span (record {
+          longer = none_lengthens;
+          does =
+              silently as_given same (tt, tt) (refl, tt)
+              (was_well_formed scene start tt here.call.span (words_after ws ask) party_after written (refl, tt))
+              (owes_none scene party_after here.call refl)
+              (right_end scene (record { bound = bound; within = within; count = counted }) (λ h. tt));
+          follows = ((refl, here.nothing), tt);
+          few = few;
+          paid = omega arith;
+        })
 
     -- a step that leaves the words brings a find to the next index, or ends it behind the last one
-    pub comes_to_next : (ask : Option Ask) → words_after ws ask ≡ ws → (k found : ℕ) → k < c → IsPaid v
-        → steps + step_count ask ≤ (k + 1) * (z + 3) → AreBelow (k + 1) (seen_in (done scene)) → HasCounted (k + 1) found
-        → HasFoundUpTo (k + 1) (k + 1) found → IsLong room
-        → Leads scene start ask false scene.states [] (as_find room (find_comes_to first (k + 1) found))
-    comes_to_next ask same k found below paid few seen counted has long =
+    pub comes_to_next : IsLong here.room → (k found : ℕ) (ask : Option Ask) → ComesPast k found ask
+        → Leads scene start ask false scene.states [] (as_find here.room (find_comes_to first (k + 1) found))
+    comes_to_next long k found ask past =
         on_bool (λ b. Leads scene start ask false scene.states []
-        (as_find room (if b then GoOn (at_find first (finds.LoadsCell (k + 1) found)) else Done found)))
+        (as_find here.room (if b then GoOn (at_find first (finds.LoadsCell (k + 1) found)) else Done found)))
         (nat_lt (k + 1) c)
         (λ t.
         let more : k + 1 < c = grind (arith, nat_tests) in
-        calm_step room (finds.LoadsCell (k + 1) found) ask same few (nothing, more, seen)
-        (long, counts_calm room (finds.LoadsCell (k + 1) found) ask (k + 1) (k + 1) found paid counted has))
-        (λ t. let all_of = times_below c k (z + 3) below in ends_there ask same (k + 1) found (omega arith) paid (omega arith) counted)
+        calm_step here.room (finds.LoadsCell (k + 1) found) ask past.same past.few (here.nothing, more, past.seen)
+        (long, counts_calm here.room (finds.LoadsCell (k + 1) found) ask (past.paid, past.counted, past.has_found)))
+        (λ t.
+        let below = past.below in
+        let few = past.few in
+        let all_of = times_below c k (z + 3) below in
+        ends_there ask past.same (k + 1) found (omega arith) past.paid (omega arith) past.counted)
 
   -- ---- a cell is loaded
 
   -- the find loads the cell of index `k`, and has counted the indices below it
-  module _ (room : buffers.Buffer 128) (long : IsLong room) (k found : ℕ)
-      (here : IsUnderWay scene (Find owner) (find_at c owner room (finds.LoadsCell k found)))
+  module _ {k found : ℕ} (here : IsAtStage (finds.LoadsCell k found)) (long : IsLong here.room)
       (stands : FindAt c z (all scene) (done scene) (finds.LoadsCell k found))
       (knows : Finds code c owner k k found v) (few_steps : steps ≤ k * (z + 3)) where
+    abbrev load_cell : Option Ask
+    load_cell = Some (set_stages.loads (cell_word k))
+
     -- the step in which a find loads a cell: it goes on to the element if the cell has the owner, and else to
     -- the next index
-    pub cell_step : StepOf scene start (find_at c owner room (finds.LoadsCell k found))
+    pub cell_step : StepOf scene start (find_at c owner here.room (finds.LoadsCell k found))
     cell_step =
         on_bool (λ b. Leads scene start (Some (set_stages.loads (cell_word k))) false scene.states []
-        (as_find room (if b then GoOn (at_find first (finds.LoadsCount k (one_more found))) else find_comes_to first (k + 1) found)))
+        (as_find here.room (if b then GoOn (at_find first (finds.LoadsCount k (one_more found))) else find_comes_to first (k + 1) found)))
         (cell ws k == owner)
         (λ t.
         let has_owner : cell ws k ≡ owner = grind (arith, nat_tests) in
-        calm_step room (finds.LoadsCell k found) here stands.0 room
-        (finds.LoadsCount k (one_more found)) (Some (set_stages.loads (cell_word k)))
-        (loads_same ws (cell_word k)) (omega arith) stands (
+        calm_step here here.room (finds.LoadsCount k (one_more found)) load_cell (loads_same ws (cell_word k)) (omega arith) stands (
           long,
           (
-            counts_calm room (finds.LoadsCell k found) here stands.0 room
-                (finds.LoadsCount k (one_more found)) (Some (set_stages.loads (cell_word k))) (k + 1) k
-                (one_more found) knows.0 (one_counts k found stands.1 has_owner knows.1) (found_one k found stands.1 has_owner knows.2 knows.1),
+            counts_calm here here.room (finds.LoadsCount k (one_more found)) load_cell (
+              knows.0,
+              one_counts k found stands.1 has_owner knows.1,
+              found_one k found stands.1 has_owner knows.2 knows.1,
+            ),
             held_now p (IsFilledWith owner k) events (filled_by (of_set scene) (inv_of_set scene inv) k stands.1 owner fits has_owner),
           ),
         ))
         (λ t.
         let other : cell ws k ≢ owner = grind (arith, nat_tests) in
-        comes_to_next room (finds.LoadsCell k found) here stands.0
-        (Some (set_stages.loads (cell_word k))) (loads_same ws (cell_word k)) k found stands.1 knows.0 (omega arith)
-        (below_more k (k + 1) _ (omega arith) stands.2)
-        (none_counts k found stands.1 other knows.1) (found_none k found stands.1 other knows.2) long)
+        comes_to_next here long k found load_cell (record {
+          same = loads_same ws (cell_word k);
+          below = stands.1;
+          paid = knows.0;
+          few = omega arith;
+          seen = below_more k (k + 1) _ (omega arith) stands.2;
+          counted = none_counts k found stands.1 other knows.1;
+          has_found = found_none k found stands.1 other knows.2;
+        }))
 
   -- ---- the number of the element is loaded
 
   -- the cell of index `k` has the owner, and the find loads the number of the element
-  module _ (room : buffers.Buffer 128) (long : IsLong room) (k found : ℕ)
-      (here : IsUnderWay scene (Find owner) (find_at c owner room (finds.LoadsCount k found)))
+  module _ {k found : ℕ} (here : IsAtStage (finds.LoadsCount k found)) (long : IsLong here.room)
       (stands : FindAt c z (all scene) (done scene) (finds.LoadsCount k found))
-      (knows : FindKnows code c owner room (finds.LoadsCount k found) v) (few_steps : steps ≤ 1 + k * (z + 3)) where
+      (knows : FindKnows code c owner here.room (finds.LoadsCount k found) v) (few_steps : steps ≤ 1 + k * (z + 3)) where
     abbrev pub number : ℕ
     number = count_in code c (before scene) k
 
@@ -317,37 +351,39 @@ module _ {T : Type 0} (finding : Finding T) where
 
     -- the step in which a find loads the number of an element: it passes the index under an even number, and
     -- goes on to the words under an odd one
-    pub count_step : StepOf scene start (find_at c owner room (finds.LoadsCount k found))
+    pub count_step : StepOf scene start (find_at c owner here.room (finds.LoadsCount k found))
     count_step =
         on_bool (λ b. Leads scene start (Some (set_stages.loads (count_word c k))) false scene.states []
-        (as_find room (if b then find_comes_to first (k + 1) found else GoOn (at_find first (finds.LoadsWord k found number 0)))))
+        (as_find here.room (if b then find_comes_to first (k + 1) found else GoOn (at_find first (finds.LoadsWord k found number 0)))))
         (is_even number)
         -- the number is even: nothing stands at the index, and the find passes it
         (λ t.
-        comes_to_next room (finds.LoadsCount k found) here stands.0 load_it
-        (loads_same ws (count_word c k)) k found stands.1 knows.0.0 (omega arith)
-        (below_more k (k + 1) _ (omega arith) stands.2) knows.0.1
-        (found_past k found
-        (λ holds through. both_ways (is_some (contents_of k events))
-        (nothing_stands code c ws k (contents_of k events) (inv.elements.whole holds k stands.1) (even_is number t))
-        (through_now p (λ part. is_some (contents_of k part) ≡ true) events through))
-        knows.0.2) long)
+        comes_to_next here long k found load_it (record {
+          same = loads_same ws (count_word c k);
+          below = stands.1;
+          paid = knows.0.0;
+          few = omega arith;
+          seen = below_more k (k + 1) _ (omega arith) stands.2;
+          counted = knows.0.1;
+          has_found =
+              found_past k found
+              (λ holds through. both_ways (is_some (contents_of k events))
+              (nothing_stands code c ws k (contents_of k events) (inv.elements.whole holds k stands.1) (even_is number t))
+              (through_now p (λ part. is_some (contents_of k part) ≡ true) events through))
+              knows.0.2;
+        }))
         -- the number is odd: the find goes on to the first word
         (λ t.
         let some = inv.elements.coded.some in
         let same = loads_same ws (count_word c k) in
-        calm_step room (finds.LoadsCount k found) here stands.0 room
-        (finds.LoadsWord k found number 0) load_it same (omega arith)
+        let next = finds.LoadsWord k found number 0 in
+        calm_step here here.room next load_it same (omega arith)
         (stands.0, (stands.1, stands.2, odd_is number t), omega arith) (
           long,
           (
-            counts_calm room (finds.LoadsCount k found) here stands.0 room
-                (finds.LoadsWord k found number 0) load_it (k + 1) k found knows.0.0 knows.0.1 knows.0.2,
+            counts_calm here here.room next load_it knows.0,
             (λ holds through. ap (λ w. count_at c w k) same),
-            copying_first code c (SeesCalmly room (finds.LoadsCount k found) here stands.0 room
-                (finds.LoadsWord k found number 0) load_it)
-                k number room.words stands.1 long (odd_is number t)
-                (λ kept. omega (arith, ap (λ w. count_at c w k) same)),
+            copying_first code c stands.1 long (odd_is number t) (λ kept. omega (arith, ap (λ w. count_at c w k) same)),
             knows.1,
           ),
         ))
@@ -355,15 +391,14 @@ module _ {T : Type 0} (finding : Finding T) where
   -- ---- a word of it is loaded
 
   -- the find copies the element at index `k`, of which `at` words are read under the number `count`
-  module _ (room : buffers.Buffer 128) (k found count at : ℕ)
-      (here : IsUnderWay scene (Find owner) (find_at c owner room (finds.LoadsWord k found count at)))
+  module _ {k found count at : ℕ} (here : IsAtStage (finds.LoadsWord k found count at))
       (stands : FindAt c z (all scene) (done scene) (finds.LoadsWord k found count at))
-      (knows : FindKnows code c owner room (finds.LoadsWord k found count at) v) (few_steps : steps ≤ 2 + at + k * (z + 3)) where
+      (knows : FindKnows code c owner here.room (finds.LoadsWord k found count at) v) (few_steps : steps ≤ 2 + at + k * (z + 3)) where
     abbrev word : ℕ
     word = datum_in code c (before scene) k at
 
     abbrev room' : buffers.Buffer 128
-    room' = kept_at room at word
+    room' = kept_at here.room at word
 
     abbrev load_word : Option Ask
     load_word = Some (set_stages.loads (element_word c z k at))
@@ -372,34 +407,28 @@ module _ {T : Type 0} (finding : Finding T) where
     same_words = loads_same ws (element_word c z k at)
 
     -- after the load of a word, the copy has one word more
-    copied_on : (next : FindStage)
-        → Copying code c k count room'.words (at + 1)
-        (SeesCalmly room (finds.LoadsWord k found count at) here stands.0 room' next load_word)
+    copied_on : (next : FindStage) → Copying code c k count room'.words (at + 1) (SeesCalmly room' next load_word)
     copied_on next =
         copying_more code c stands.2 inv.elements.coded.few same_words (λ kept. kept)
-        (was_well_formed_calmly scene start tt here.span (then_at room (finds.LoadsWord k found count at) here stands.0 room' next load_word)) knows.2
+        (was_well_formed_calmly scene start tt here.call.span (then_at room' next load_word)) knows.2
 
     -- after the load of a word, the element that stands at the index still has the number
     -- under which it is copied
-    steady_on : (next : FindStage) → Steady code c k count (SeesCalmly room (finds.LoadsWord k found count at) here stands.0 room' next load_word)
+    steady_on : (next : FindStage) → Steady code c k count (SeesCalmly room' next load_word)
     steady_on next holds through =
         ap (λ w. count_at c w k) same_words
-        ∙ knows.1 (was_well_formed_calmly scene start tt here.span
-        (then_at room (finds.LoadsWord k found count at) here stands.0 room' next load_word) holds)
+        ∙ knows.1 (was_well_formed_calmly scene start tt here.call.span (then_at room' next load_word) holds)
         through
 
     -- after the load of a word, what the find has counted is still counted right
-    counted_on : (next : FindStage)
-        → Finds code c owner (k + 1) k found
-        (SeesCalmly room (finds.LoadsWord k found count at) here stands.0 room' next load_word)
-    counted_on next =
-        counts_calm room (finds.LoadsWord k found count at) here stands.0 room' next load_word (k + 1) k found knows.0.0 knows.0.1 knows.0.2
+    counted_on : (next : FindStage) → Finds code c owner (k + 1) k found (SeesCalmly room' next load_word)
+    counted_on next = counts_calm here room' next load_word knows.0
 
     long_on : IsLong room'
-    long_on = length-set room.words at word ∙ knows.2.room
+    long_on = length-set here.room.words at word ∙ knows.2.room
 
     -- the step in which a find loads a word: it goes on to the next word, or to the check of the number
-    pub word_step : StepOf scene start (find_at c owner room (finds.LoadsWord k found count at))
+    pub word_step : StepOf scene start (find_at c owner here.room (finds.LoadsWord k found count at))
     word_step =
         on_bool (λ b. Leads scene start (Some (set_stages.loads (element_word c z k at))) false scene.states []
         (as_find room' (if b then GoOn (at_find first (finds.LoadsWord k found count (at + 1))) else GoOn
@@ -408,32 +437,21 @@ module _ {T : Type 0} (finding : Finding T) where
         -- a further word follows: the find goes on to it
         (λ t.
         let more : at + 1 < z = grind (arith, nat_tests) in
-        calm_step room (finds.LoadsWord k found count at) here stands.0 room'
-        (finds.LoadsWord k found count (at + 1)) load_word same_words (omega arith)
-        (stands.0, stands.1, more) (
-          long_on,
-          (
-            counted_on (finds.LoadsWord k found count (at + 1)),
-            steady_on (finds.LoadsWord k found count (at + 1)),
-            copied_on (finds.LoadsWord k found count (at + 1)),
-            knows.3,
-          ),
-        ))
+        let next = finds.LoadsWord k found count (at + 1) in
+        calm_step here room' next load_word same_words (omega arith) (stands.0, stands.1, more)
+        (long_on, (counted_on next, steady_on next, copied_on next, knows.3)))
         -- that was the last word: the find goes on to the check
         (λ t.
         let last : z ≤ at + 1 = grind (arith, nat_tests) in
         let ats = stands.2 in
         let is_last : at + 1 ≡ z = omega arith in
-        calm_step room (finds.LoadsWord k found count at) here stands.0 room'
-        (finds.ChecksCount k found count) load_word same_words (omega arith) (stands.0, stands.1) (
+        let next = finds.ChecksCount k found count in
+        calm_step here room' next load_word same_words (omega arith) (stands.0, stands.1) (
           long_on,
           (
-            counted_on (finds.ChecksCount k found count),
-            steady_on (finds.ChecksCount k found count),
-            subst (λ n. Copying code c k count room'.words n
-                (SeesCalmly room (finds.LoadsWord k found count at) here stands.0 room'
-                (finds.ChecksCount k found count) load_word))
-                is_last (copied_on (finds.ChecksCount k found count)),
+            counted_on next,
+            steady_on next,
+            subst (λ n. Copying code c k count room'.words n (SeesCalmly room' next load_word)) is_last (copied_on next),
             knows.3,
           ),
         ))

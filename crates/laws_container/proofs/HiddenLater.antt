@@ -20,14 +20,21 @@ module _ {T : Type 0} where
       → i ≡ index → contents_of index events ≡ None → EmptySinceFreed p owner i events
   empty_now = grind (arith, held_now)
 
--- party `q` knows this of the index in the machine `m`, and another party takes a turn to
--- `m'`; `c` is the capacity
-module _ {T : Type 0} {code : Coding T} {c q : ℕ} (owner index count : ℕ) {m : Now T} {words' : List ℕ}
-    (latest' : List (ℕ × Party T)) {es : List (Event T)} (goes : Goes m.words words' m.events es)
-    (spares : Spares m.terms.by q m.events es)
-    (passes : Passes code c m (record { terms = m.terms; words = words'; latest = latest'; events = m.events ++ es }))
-    (leaves : LeavesParty code c q m (record { terms = m.terms; words = words'; latest = latest'; events = m.events ++ es }))
-    (below : index < c) where
+-- A turn of another party than `q`, from the machine `m`: the words and calls that it leaves, the events that it writes, what it does
+-- to the set and spares of it for `q`, and what it leaves of the elements to any party and to `q`.
+pub record TurnOfAnother {T : Type 0} (code : Coding T) (c q : ℕ) (m : Now T) : Type 0 where
+  pub words' : List ℕ
+  pub latest' : List (ℕ × Party T)
+  pub es : List (Event T)
+  pub goes : Goes m.words words' m.events es
+  pub spares : Spares m.terms.by q m.events es
+  pub passes : Passes code c m (record { terms = m.terms; words = words'; latest = latest'; events = m.events ++ es })
+  pub leaves : LeavesParty code c q m (record { terms = m.terms; words = words'; latest = latest'; events = m.events ++ es })
+
+-- what party `q` knows in the machine `m` of an index below the capacity, after a turn of another party
+module _ {T : Type 0} {code : Coding T} {c q : ℕ} {m : Now T} (turn : TurnOfAnother code c q m) (owner index count : ℕ) (below : index < c) where
+  open turn use {words', latest', es, goes, spares, passes, leaves}
+
   abbrev m' : Now T
   m' = record { terms = m.terms; words = words'; latest = latest'; events = m.events ++ es }
 
@@ -60,11 +67,10 @@ module _ {T : Type 0} {code : Coding T} {c q : ℕ} (owner index count : ℕ) {m
   pub hidden_stands : HasHidden code c q owner (StillStands code c index count m) m → HasHidden code c q owner (StillStands code c index count m') m'
   hidden_stands = grind (arith, inl, held_later, stands_on, is_some)
 
--- party `q` knows this in the machine `m`, and another party takes a turn; `c` is the capacity
-module _ {T : Type 0} {code : Coding T} {c q : ℕ} (owner : ℕ) (But : ℕ → Type 0) {m : Now T} (words' : List ℕ)
-    (latest' : List (ℕ × Party T)) {es : List (Event T)} (spares : Spares m.terms.by q m.events es)
-    (passes : Passes code c m (record { terms = m.terms; words = words'; latest = latest'; events = m.events ++ es })) where
+module _ {T : Type 0} {code : Coding T} {c q : ℕ} {m : Now T} (turn : TurnOfAnother code c q m) (owner : ℕ) (But : ℕ → Type 0) where
+  open turn use {words' as then_words, latest' as then_latest, es as wrote, spares as spares_it, passes as passes_it}
+
   -- what a call has freed is hidden still, with the same exempt indices
   pub hidden_later : HasHidden code c q owner But m
-      → HasHidden code c q owner But (record { terms = m.terms; words = words'; latest = latest'; events = m.events ++ es })
+      → HasHidden code c q owner But (record { terms = m.terms; words = then_words; latest = then_latest; events = m.events ++ wrote })
   hidden_later = grind (arith, inl, held_later, inr)

@@ -3,14 +3,14 @@ use Rattle.laws_container.proofs.Names.{◌≡◌, ◌≢◌, ◌⊎◌, ⊎_eli
 use Rattle.laws_container.proofs.Names.{List, [], ◌∷◌, ◌++◌, refl, sym, ap, subst, ◌∙◌, append-nil, arith}
 use Rattle.laws_container.proofs.Names.{fold-append, Event, FreedOf, Hidden, Container, ContainerStart, Party, Coding}
 use Rattle.laws_container.proofs.Names.{contents_after, contents_of, EmptySinceFreed, Frees, filled_of, set_acts}
-use Rattle.laws_container.proofs.Names.{set_acts_of, IsOneOf, BeginsNone, put, Open, span_of, held_later, AreOwn}
+use Rattle.laws_container.proofs.Names.{set_acts_of, IsOneOf, put, Open, span_of, held_later}
 use Rattle.laws_container.proofs.Names.{was_one, at_same}
 use Rattle.laws_container.proofs.Contents.{IsWhole, WordsShow}
 use Rattle.laws_container.proofs.Core.{count_at}
 use Rattle.laws_container.proofs.HiddenKnows.{Covered, RecoverCovers, StillStands, HasHidden, no_index}
 use Rattle.laws_container.proofs.HiddenLater.{empty_now}
 use Rattle.laws_container.proofs.Invariant.{Scene, Inv, before, after, moment, wrote_of}
-use Rattle.laws_container.proofs.Stages.{NoReplace, Lengthens, all, set_acts_more, was_well_formed, was_well_formed_calmly}
+use Rattle.laws_container.proofs.Stages.{NoReplace, AreInCall, all, set_acts_more, was_well_formed, was_well_formed_calmly}
 use Rattle.laws_container.proofs.Turns.{Now, WellFormed, count_in}
 
 -- ---- an index that is exempt no more, since what stood there is hidden
@@ -28,11 +28,18 @@ module _ {T : Type 0} (code : Coding T) (c p owner index count : ℕ) (m : Now T
 
 -- ---- a step of the call's own
 
--- the call of the scene's party is under way under the name `start`, and is no replace
-module _ {T : Type 0} (scene : Scene T) (start : ContainerStart T) (none : NoReplace start)
-    (span : span_of scene.party scene.events ≡ Open (Container start) (wrote_of scene.party scene.events))
-    (owner : ℕ) where
-  open scene use {coding as code, capacity as c, party as p, latest as latest, events as events}
+-- a call of the scene's party that is under way under the name `start`, is no replace, and may free indices of `owner`
+pub record Freeing (T : Type 0) : Type 0 where
+  pub scene : Scene T
+  pub inv : Inv scene
+  pub start : ContainerStart T
+  pub no_replace : NoReplace start
+  pub span : span_of scene.party scene.events ≡ Open (Container start) (wrote_of scene.party scene.events)
+  pub owner : ℕ
+
+module _ {T : Type 0} (freeing : Freeing T) where
+  open freeing use {scene, inv, start, no_replace as none, span, owner}
+  open freeing.scene use {coding as code, capacity as c, party as p, latest as latest, events as events}
 
   -- the step writes nothing, and leaves the words `words'` and the party `y`
   module _ (words' : List ℕ) (y : Party T) where
@@ -52,8 +59,7 @@ module _ {T : Type 0} (scene : Scene T) (start : ContainerStart T) (none : NoRep
         ⊎_elim (λ gone. inl gone) (λ s. inr (s.0, same ∙ s.1, s.2)) (hidden (was_well_formed_calmly scene start none span y well_formed) i freed)
 
   -- the step writes the events `es`, which free nothing
-  module _ (words' : List ℕ) (y : Party T) (es : List (Event T)) (own : AreOwn p es) (fresh : BeginsNone p es)
-      (longer : Lengthens es)
+  module _ (words' : List ℕ) (y : Party T) {es : List (Event T)} (written : AreInCall scene es)
       (frees_none : (i : ℕ) → IsOneOf (Frees i owner) (all scene ++ set_acts es) → IsOneOf (Frees i owner) (all scene)) where
     abbrev then_is : Now T
     then_is = after scene words' y es
@@ -65,9 +71,9 @@ module _ {T : Type 0} (scene : Scene T) (start : ContainerStart T) (none : NoRep
         → EmptySinceFreed p owner i (events ++ es) ⊎ But' i)
         → HasHidden code c p owner But (before scene) → HasHidden code c p owner But' then_is
     hidden_so But But' stays hidden well_formed i freed =
-        ⊎_elim (λ gone. inl (held_later p _ events es fresh gone)) (λ but. stays well_formed i freed but)
-        (hidden (was_well_formed scene start none span words' y es own well_formed) i
-        (frees_none i (subst (IsOneOf (Frees i owner)) (set_acts_more scene start span es own longer) freed)))
+        ⊎_elim (λ gone. inl (held_later p _ events es written.fresh gone)) (λ but. stays well_formed i freed but)
+        (hidden (was_well_formed scene start none span words' y es written.own well_formed) i
+        (frees_none i (subst (IsOneOf (Frees i owner)) (set_acts_more scene start span es written.own written.longer) freed)))
 
     -- what the call has freed is hidden still after a step that frees nothing
     pub hidden_on : HasHidden code c p owner no_index (before scene) → HasHidden code c p owner no_index then_is
@@ -92,27 +98,27 @@ module _ {T : Type 0} (scene : Scene T) (start : ContainerStart T) (none : NoRep
 
   -- after a step that leaves the number and the owner of the index, the loaded number covers
   -- what stands there still
-  pub covers_on : (words' : List ℕ) (y : Party T) (es : List (Event T)) → AreOwn p es → (index count : ℕ)
+  pub covers_on : (words' : List ℕ) (y : Party T) {es : List (Event T)} → AreInCall scene es → (index count : ℕ)
       → count_at c words' index ≡ count_in code c (before scene) index
       → filled_of index (events ++ es) ≡ filled_of index events → RecoverCovers code c owner index count (before scene)
       → RecoverCovers code c owner index count (after scene words' y es)
-  covers_on words' y es own index count same still covered well_formed filled =
+  covers_on words' y {es} written index count same still covered well_formed filled =
       ⊎_elim (λ is. inl (same ∙ is)) (λ even. inr (ap (λ n. n % 2) same ∙ even))
-      (covered (was_well_formed scene start none span words' y es own well_formed) (sym still ∙ filled))
+      (covered (was_well_formed scene start none span words' y es written.own well_formed) (sym still ∙ filled))
 
   -- after a step that hides what stood at the index, no index is exempt
   pub hides_it : (words' : List ℕ) (y : Party T) (index count : ℕ)
       → HasHidden code c p owner (StillStands code c index count (before scene)) (before scene)
       → HasHidden code c p owner no_index (after scene words' y (Hidden p index ∷ []))
   hides_it words' y index count hidden =
-      hidden_now words' y (Hidden p index ∷ []) (refl, tt) tt (λ start w. refl)
+      hidden_now words' y (record { own = (refl, tt); fresh = tt; longer = λ start w. refl })
       (λ i freed. subst (IsOneOf (Frees i owner)) (append-nil (all scene)) freed) index count
       (fold-append (contents_after index) None events (Hidden p index ∷ []) ∙ at_same index index None (contents_of index events) refl) hidden
 
   -- ---- it frees an index
 
   -- the step frees `index`, and leaves the number of its element
-  module _ (inv : Inv scene) (index count : ℕ) (below : index < c) (words' : List ℕ) (y : Party T)
+  module _ (index count : ℕ) (below : index < c) (words' : List ℕ) (y : Party T)
       (same : count_at c words' index ≡ count_in code c (before scene) index) where
     abbrev free : List (Event T)
     free = FreedOf p index owner ∷ []

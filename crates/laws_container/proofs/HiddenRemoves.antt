@@ -2,11 +2,12 @@
 -- element has changed, and it counts its change and ends. What a step has to show is said by
 -- `StepOf` and `Leads` of `Stages`.
 use Rattle.laws_container.proofs.Names.{◌≡◌, ◌≢◌, ⊎_elim, inl, inr, ℕ, ◌+◌, ◌%◌, ◌<◌, ◌≤◌, ◌==◌, if◌then◌else◌, Bool}
-use Rattle.laws_container.proofs.Names.{false, true, Option, Some, List, [], ◌∷◌, ◌++◌, refl, sym, ap, subst, ◌∙◌}
+use Rattle.laws_container.proofs.Names.{false, Option, Some, List, [], ◌∷◌, ◌++◌, refl, sym, ap, subst, ◌∙◌}
 use Rattle.laws_container.proofs.Names.{append-nil, arith, nat_tests, Ask, GoOn, RemoveStage, ReleaseMode}
 use Rattle.laws_container.proofs.Names.{LockIfLastIndex, Default, ReleaseState, GiveBack, change_word, count_word}
 use Rattle.laws_container.proofs.Names.{empty, greatest, one_more, Event, Hidden, Finished, Container, ContainerStart}
-use Rattle.laws_container.proofs.Names.{ContainerFlight, Party, most_steps, place_of, Act, HasDone, IsUnlocked}
+use Rattle.laws_container.proofs.Names.{ContainerFlight, Party, ContainerHandleNotOwnedByContainer, GoneBy, filled_of}
+use Rattle.laws_container.proofs.Names.{◌⊎◌, most_steps, place_of, Act, HasDone, IsUnlocked}
 use Rattle.laws_container.proofs.Names.{FilledSinceFreed, SetAct, Frees, Locks, IsOneOf, BeginsNone, words_after}
 use Rattle.laws_container.proofs.Names.{held_later, counter_of, IsWorn, worn_on, both_ways, quiet_end, exchanges}
 use Rattle.laws_container.proofs.Names.{fails_same}
@@ -15,18 +16,17 @@ use Rattle.steps.specs.declared.container.remove.RemoveStage.TheVariants as remo
 use Rattle.steps.specs.declared.indices.enums.ReleaseState.TheVariants as states
 use Rattle.model.specs.declared.event.Answer.TheVariants as answers
 use Rattle.model.specs.declared.families.container.ContainerStart.TheVariants.{Remove}
-use Rattle.laws_robust.proofs.Effects as set_effects
 use Rattle.laws_container.specs.Gone.{AnswersBy}
-use Rattle.laws_container.proofs.HiddenOn.{hidden_other, hidden_on, hides_it}
-use Rattle.laws_container.proofs.Invariant.{Scene, Inv, ActsFor, before, of_set, inv_of_set}
+use Rattle.laws_container.proofs.HiddenOn.{Freeing, hidden_other, hidden_on, hides_it}
+use Rattle.laws_container.proofs.Invariant.{Scene, Inv, ActsFor, before, inv_of_set}
 use Rattle.model.proofs.Locks.{locked_later}
 use Rattle.laws_container.proofs.Knows.{RemoveSays, RemoveKnows}
 use Rattle.laws_container.proofs.Left.{left_of}
 use Rattle.laws_container.proofs.Sets.{leaves_behind}
-use Rattle.laws_container.proofs.Stages.{IsUnderWay, all, done, sees_now, then_sees, StepOf, Leads, none_lengthens}
+use Rattle.laws_container.proofs.Stages.{Call, none_in_call, IsUnderWay, all, done, sees_now, then_sees, StepOf, Leads, none_lengthens}
 use Rattle.laws_container.proofs.Stages.{party_then, backs_then, goes_on, ends, was_well_formed}
 use Rattle.laws_container.proofs.CallProgress.{remove_at, release_total, RemoveAt, place_is}
-use Rattle.laws_container.proofs.Steps.{loads, hides, ends_counted}
+use Rattle.laws_container.proofs.Steps.{loads, hides, end_does, ends_counted}
 use Rattle.laws_container.proofs.Turns.{count_in}
 use Rattle.laws_container.proofs.Writing.{adds_one, adds_to_change, hides_count}
 use Rattle.laws_robust.proofs.Cases.{by_bool, on_bool}
@@ -53,6 +53,19 @@ removed_done : {T : Type 0} (index owner : ℕ) (mode : ReleaseMode) (state : Re
     → HasDone {T = T} (Remove index owner mode) (answers.State state) made []
     → HasDone {T = T} (Remove index owner mode) (answers.State state) made done
 removed_done index owner mode state made acts has_done = grind arith
+
+-- a remove that has done nothing to the set has done what belongs to the answer that its handle is not the container's
+pub refused_done : (T : Type 0) (index owner : ℕ) (mode : ReleaseMode) (set_acts : List SetAct) (acts : List (Act T))
+    → set_acts ≡ []
+    → HasDone {T = T} (Remove index owner mode) (answers.NotRemoved ContainerHandleNotOwnedByContainer) set_acts acts
+refused_done = grind arith
+
+-- that answer is right where the index is not below the capacity, or is not filled with
+-- the owner of the handle
+pub refused_right : {T : Type 0} (by : GoneBy) (worn : Type 0) (c p index owner : ℕ) (mode : ReleaseMode) (events : List (Event T))
+    → (c ≤ index) ⊎ (filled_of index events ≢ Some owner)
+    → AnswersBy by worn c events (Finished p (Container (Remove index owner mode)) (answers.NotRemoved ContainerHandleNotOwnedByContainer))
+refused_right = grind arith
 
 -- a remove by the party of the scene, of a handle whose index is below the capacity, for an
 -- owner that is not gone
@@ -90,6 +103,14 @@ module _ {T : Type 0} (removing : Removing T) where
   -- the party's call under way is this remove, at this stage
   abbrev IsAtStage : RemoveStage → Type 0
   IsAtStage stage = IsUnderWay scene (Remove index owner mode) (remove_at c index owner mode stage)
+
+  -- the remove at this stage, as a call of the container
+  abbrev pub as_given : (stage : RemoveStage) → IsAtStage stage → Call T
+  as_given stage here = record { scene = scene; inv = inv; start = start; flight = at_stage stage; no_look = tt; here = here }
+
+  -- the remove at this stage, as a call that frees an index of its owner
+  abbrev pub freeing : (stage : RemoveStage) → IsAtStage stage → Freeing T
+  freeing stage here = record { scene = scene; inv = inv; start = start; no_replace = tt; span = here.span; owner = owner }
 
   -- the party after the step by which the remove comes to stage `next`
   abbrev then_at : RemoveStage → Option Ask → Bool → Party T
@@ -156,51 +177,64 @@ module _ {T : Type 0} (removing : Removing T) where
         (λ t.
         let same_count : count_now ≡ count = grind (arith, nat_tests) in
         let party_after = then_at next hide_it false in
-        let written = Hidden p index ∷ [] in
+        let written : List (Event T) = Hidden p index ∷ [] in
         let odd : count_now % 2 ≡ 1 = ap (λ n. n % 2) same_count ∙ stands.4 in
         let total = same_total in
-        goes_on scene start (at_stage next) hide_it false scene.states written here.span (λ start w. refl)
-        (hides scene inv start (at_stage (removes.Hides count state)) tt here party_after
-        (words_after ws hide_it) index below (hides_count inv index count below same_count) refl odd
-        (λ holds q ne o theirs fresh. both_ways (left_of index events) fresh (knows.2.left holds same_count))
-        (was_well_formed scene start tt here.span (words_after ws hide_it) party_after written (refl, tt)))
-        ((refl, stands.2, stands.3), tt) (omega arith) (
-          refl,
-          given_is,
-          fits,
-          (
-            below,
-            subst (λ d. HasDone {T = T} (Remove index owner mode) (answers.State state) d []) (sym (append-nil (all scene))) stands.1,
-          ),
-        ) (
-          let paid = knows.0 in
-              omega arith,
-          says_then mode state written tt party_after knows.1,
-          hides_it scene start tt here.span owner (words_after ws hide_it) party_after index count knows.3,
-        ))
+        goes_on scene (at_stage next) hide_it false here.span (record {
+          longer = λ start w. refl;
+          does =
+              hides (as_given (removes.Hides count state) here) party_after
+              (record { below = below; new = hides_count inv index count below same_count; owed = refl }) odd
+              (λ holds q ne o theirs fresh. both_ways (left_of index events) fresh (knows.2.left holds same_count))
+              (was_well_formed scene start tt here.span (words_after ws hide_it) party_after written (refl, tt));
+          follows = ((refl, stands.2, stands.3), tt);
+          few = omega arith;
+          stands = (
+            refl,
+            given_is,
+            fits,
+            (
+              below,
+              subst (λ d. HasDone {T = T} (Remove index owner mode) (answers.State state) d []) (sym (append-nil (all scene))) stands.1,
+            ),
+          );
+          known = (
+            let paid = knows.0 in
+                omega arith,
+            says_then mode state written tt party_after knows.1,
+            hides_it (freeing (removes.Hides count state) here) (words_after ws hide_it) party_after index count knows.3,
+          );
+        }))
         -- the number is another one: another call has hidden what stood there, and the step changes nothing
         (λ t.
         let other : count_now ≢ count = grind (arith, nat_tests) in
         let party_after = then_at next hide_it false in
         let total = same_total in
-        goes_on scene start (at_stage next) hide_it false scene.states [] here.span none_lengthens
-        (loads scene inv start (at_stage (removes.Hides count state)) tt here party_after (fails_same ws (count_word c index) count (one_more count) other)
-        (was_well_formed scene start tt here.span (words_after ws hide_it) party_after [] tt) (λ was. refl))
-        tt (omega arith) (
-          refl,
-          given_is,
-          fits,
-          (
-            below,
-            subst (λ d. HasDone {T = T} (Remove index owner mode) (answers.State state) d []) (sym (append-nil (all scene))) stands.1,
-          ),
-        ) (
-          let paid = knows.0 in omega arith,
-          says_then mode state [] tt party_after knows.1,
-          hidden_on scene start tt here.span owner (words_after ws hide_it) party_after [] tt tt none_lengthens
-              (λ i was. subst (IsOneOf (Frees i owner)) (append-nil (all scene)) was)
-              (hidden_other code c p owner index count (before scene) other knows.3),
-        ))
+        goes_on scene (at_stage next) hide_it false here.span (record {
+          longer = none_lengthens;
+          does =
+              loads (as_given (removes.Hides count state) here) party_after
+              (fails_same ws (count_word c index) count (one_more count) other)
+              (was_well_formed scene start tt here.span (words_after ws hide_it) party_after [] tt) (λ was. refl);
+          follows = tt;
+          few = omega arith;
+          stands = (
+            refl,
+            given_is,
+            fits,
+            (
+              below,
+              subst (λ d. HasDone {T = T} (Remove index owner mode) (answers.State state) d []) (sym (append-nil (all scene))) stands.1,
+            ),
+          );
+          known = (
+            let paid = knows.0 in omega arith,
+            says_then mode state [] tt party_after knows.1,
+            hidden_on (freeing (removes.Hides count state) here) (words_after ws hide_it) party_after (none_in_call scene)
+                (λ i was. subst (IsOneOf (Frees i owner)) (append-nil (all scene)) was)
+                (hidden_other code c p owner index count (before scene) other knows.3),
+          );
+        }))
 
   -- ---- the change is counted, and the call ends
 
@@ -229,19 +263,26 @@ module _ {T : Type 0} (removing : Removing T) where
     pub end_step : StepOf scene start (at_stage (removes.AddsChange state))
     end_step =
         let party_after = party_then scene start end_it false (Done (answers.State state)) in
-        let written = Finished p (Container start) (answers.State state) ∷ [] in
+        let written : List (Event T) = Finished p (Container start) (answers.State state) ∷ [] in
         let well_formed = was_well_formed scene start tt here.span (words_after ws end_it) party_after written (refl, tt) in
         let new = adds_to_change inv in
         let most = total_is c z index owner mode (backs_then scene false) T in
         let total = same_total in
-        ends scene start (answers.State state) end_it false scene.states [] here.span none_lengthens
-        (ends_counted scene inv start (at_stage (removes.AddsChange state)) tt here party_after (answers.State state)
-        (set_effects.quietly (of_set scene) (inv_of_set scene inv) (words_after ws end_it) written
-        (leaves_behind (inv_of_set scene inv) (words_after ws end_it) (change_word c) _ (omega arith) new)
-        (quiet_end p (Container start) (answers.State state) (λ i o. refl) (λ i r. refl))
-        (refl, tt) (tt, tt) (tt, tt))
-        (answers_right mode state knows.1) well_formed
-        (λ holds. ⊎_elim (λ empty. empty) (λ never. absurd never)
-        (knows.2 (well_formed holds) index (removed_frees T index owner mode state has_done)))
-        new (λ holds i said. inv.elements.announced holds i said))
-        ((refl, removed_done index owner mode state (all scene) (done scene) has_done), tt) (omega arith) (let paid = knows.0 in omega arith)
+        ends scene (answers.State state) end_it false here.span (record {
+          longer = none_lengthens;
+          does = ends_counted (as_given (removes.AddsChange state) here) party_after (record {
+            set_does =
+                end_does (as_given (removes.AddsChange state) here) party_after
+                (leaves_behind (inv_of_set scene inv) (words_after ws end_it) (change_word c) _ (omega arith) new)
+                (quiet_end p (Container start) (answers.State state) (λ i o. refl) (λ i r. refl));
+            answers = answers_right mode state knows.1;
+            placed = λ holds.
+                ⊎_elim (λ empty. empty) (λ never. absurd never)
+                (knows.2 (well_formed holds) index (removed_frees T index owner mode state has_done));
+            well_formed = well_formed;
+          })
+              new (λ holds i said. inv.elements.announced holds i said);
+          follows = ((refl, removed_done index owner mode state (all scene) (done scene) has_done), tt);
+          few = omega arith;
+          paid = let paid = knows.0 in omega arith;
+        })

@@ -149,7 +149,7 @@ module _ {T : Type 0} (p : ℕ) where
 
 -- ---- one turn
 
--- `c` is the capacity, `t` the run up to this turn, `s` that it is sound, and `honest` that it is honest
+-- `c` is the capacity, and `t` the run up to this turn, which is sound and honest
 module _ {T : Type 0} (terms : Terms) (code : Coding T) (c : ℕ) (t : Trace T)
     (sound : frame.Sound (family_by terms code c) t) (honest : IsHonest t.events) where
   -- the run with these events keeps what is said of where events may stand

@@ -2,8 +2,8 @@
 -- (`Rattle.model.proofs.Frame`) says of every machine; and what a turn must show so that the
 -- invariant holds after it.
 use Rattle.laws_container.proofs.Names.{◌≡◌, ◌≢◌, ⊎_elim, ℕ, ◌+◌, ◌-◌, ◌^◌, ◌<◌, ◌≤◌, true, false, Some, is_some}
-use Rattle.laws_container.proofs.Names.{List, ◌++◌, length, fold, refl, sym, ap, subst, ◌∙◌, arith, cases_eq}
-use Rattle.laws_container.proofs.Names.{total_words, ContainerState, Event, Start, Flight, Party, Coding}
+use Rattle.laws_container.proofs.Names.{List, [], ◌∷◌, ◌++◌, length, fold, refl, sym, ap, subst, ◌∙◌, arith, cases_eq}
+use Rattle.laws_container.proofs.Names.{total_words, Answer, ContainerState, Event, Finished, Start, Flight, Party, Coding}
 use Rattle.laws_container.proofs.Names.{IsCoding, is_looking, ContainsRight, promise, Act, acts, contents_of}
 use Rattle.laws_container.proofs.Names.{announced_of, acts_of, state_of, fresh, SetAct, is_dead, set_acts, wrote_in}
 use Rattle.laws_container.proofs.Names.{set_acts_of, party_of, put, doing_of, flight_of, Stands, Each, Span}
@@ -234,6 +234,14 @@ module _ {T : Type 0} (scene : Scene T) where
     pub contains : WellFormed (after words' y es) → AreRight ContainsRight events es
     pub places : WellFormed (after words' y es) → AreRight EndsRight events es
 
+  -- the end of a call is right as soon as its answer is, and the call has placed what it had to place
+  pub right_end : {words' : List ℕ} {y : Party T} {start : Start T} {answer : Answer T}
+      → AnswersBy scene.terms.by (set.IsWorn scene.terms.by words') c events (Finished p start answer)
+      → (WellFormed (after words' y (Finished p start answer ∷ [])) → EndsRight events (Finished p start answer))
+      → AreAllRight words' y (Finished p start answer ∷ [])
+  right_end answers placed =
+      record { asks = (tt, tt); recovers = (tt, tt); answers = (answers, tt); contains = λ holds. (tt, tt); places = λ holds. (placed holds, tt) }
+
   -- a turn that leaves these words, states and call, and writes the events `es`, keeps the invariant: of the
   -- set, of the elements, of the events and of the states
   pub record KeepsInvariant (words' : List ℕ) (states' : List (ℕ × ContainerState T)) (y : Party T) (es : List (Event T)) : Type 0 where
@@ -243,7 +251,7 @@ module _ {T : Type 0} (scene : Scene T) where
     pub others : (q : ℕ) → q ≢ p → state_of q states' ≡ state_of q scene.states
     pub rests : (s : ContainerState T) → is_looking (flight_of (Some y.doing)) ≡ false → state_of p states' ≡ Some s → Rests code c (after words' y es) p s
 
-  -- a turn that keeps the invariant leaves this machine, and what holds of the elements before it is `h`
+  -- a turn that keeps the invariant leaves this machine, and before it `elements` holds of the elements
   module _ {words' : List ℕ} {states' : List (ℕ × ContainerState T)} {y : Party T} {es : List (Event T)}
       (does : KeepsInvariant words' states' y es) (elements : Elements code c before scene.states turns) where
     abbrev m' : Now T
@@ -302,14 +310,7 @@ module _ {T : Type 0} (scene : Scene T) where
 
   -- the machine after the turn
   abbrev pub then_is : List ℕ → List (ℕ × ContainerState T) → Party T → List (Event T) → ContainerNow T
-  then_is words' states' y es =
-      record {
-        words = words';
-        dead = scene.dead;
-        states = states';
-        latest = put p y latest;
-        events = events ++ es;
-      }
+  then_is words' states' y es = record { words = words'; dead = scene.dead; states = states'; latest = put p y latest; events = events ++ es }
 
   -- what a turn shows: it keeps the invariant; its events may stand in the span of its call; and the call
   -- stands and knows what the new stage says
@@ -352,8 +353,8 @@ module _ {T : Type 0} (scene : Scene T) where
   at_written c z w w' start flight same standing = subst (λ x. FlightAt c z (set_acts x) (acts x) start flight) (sym same) standing
 
   -- what a turn shows that leaves this machine, and before which the party's span was `from`
-  module _ (words' : List ℕ) (states' : List (ℕ × ContainerState T)) (from : Span T) (y : Party T)
-      (es : List (Event T)) (changes' : ℕ) (shows_it : Shows words' states' from y es changes') (old : ContainerNow T)
+  module _ {words' : List ℕ} {states' : List (ℕ × ContainerState T)} {from : Span T} {y : Party T}
+      {es : List (Event T)} {changes' : ℕ} (shows_it : Shows words' states' from y es changes') (old : ContainerNow T)
       (here : old ≡ record { words = scene.words; dead = scene.dead; states = scene.states; latest = latest; events = events })
       (holds : Holds scene.terms code c old latest events turns)
       (inv : frame.Inv (family_by scene.terms code c) old latest events scene.changes) where

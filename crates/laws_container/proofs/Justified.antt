@@ -52,9 +52,21 @@ module _ {T : Type 0} (shown : Shown T) (code : Coding T) (c : ℕ) where
           let passed = passes t.world turn unrefused in
           let new : Trace T = after_turn t turn in
           let tells =
-          tells_if shown code sound (may_go_on dying code t.world.capacity t sound passed.turns) turn
-          (allowed_by t.world turn passed.on) (IsWellFormedRun new)
-          (λ well_formed. well_formed_so_far well_formed) in
+          tells_if
+          (record {
+            shown = shown;
+            terms = dying;
+            code = code;
+            trace = t;
+            sound = sound;
+            may = may_go_on dying code t.world.capacity t sound passed.turns;
+          })
+          (record {
+            turn = turn;
+            allowed = allowed_by t.world turn passed.on;
+            well_formed = IsWellFormedRun new;
+            so_far = λ well_formed. well_formed_so_far well_formed;
+          }) in
           record {
             finds = tells.finds;
             finds_up_to = λ p owner is here.

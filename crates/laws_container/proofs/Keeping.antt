@@ -7,7 +7,7 @@ use Rattle.laws_container.proofs.Names.{Coding, MayReplace, Copies, acts, acts_o
 use Rattle.laws_container.proofs.Names.{contents_of, state_of, IsFilledWith}
 use Rattle.laws_container.proofs.Names.{FilledSinceFreed, set_acts_of, wrote_in, IsLatest, IsOneOf, read_in}
 use Rattle.laws_container.proofs.Names.{HeldSometime, party_of, span_of, held_later, gone_less, worn_on, count_later}
-use Rattle.laws_container.proofs.Names.{Goes, Spares, IsSeen, knows_later, through_less, through_now, acquire_at}
+use Rattle.laws_container.proofs.Names.{Goes, Spares, IsSeen, knows_later, through_less, through_now}
 use Rattle.laws_container.proofs.Names.{release_at}
 use Rattle.steps.specs.declared.container.add.AddStage.TheVariants as adds
 use Rattle.steps.specs.declared.container.find.FindStage.TheVariants as finds
@@ -18,7 +18,7 @@ use Rattle.steps.specs.declared.indices.robust.release.ReleaseStage.TheVariants 
 use Rattle.laws_robust.proofs.Knows as set
 use Rattle.laws_container.proofs.HiddenKnows.{no_index}
 use Rattle.model.proofs.Locks.{locked_later}
-use Rattle.laws_container.proofs.HiddenLater.{remove_covers, hidden_stands, hidden_later}
+use Rattle.laws_container.proofs.HiddenLater.{TurnOfAnother, remove_covers, hidden_stands, hidden_later}
 use Rattle.laws_container.proofs.Knows.{View, of_set, now, IsPaid, Lives, Worn, WasFilled, AddOwns, HasFound}
 use Rattle.laws_container.proofs.Knows.{ReplaceKnows, Covers, Writes, HasPlaced, Stood, AddKnows, ReplacesKnow}
 use Rattle.laws_container.proofs.Knows.{RemoveSays, HasCome, HasLeft, ReleaseHides, ReleaseLeft, RemoveKnows, Copying}
@@ -78,6 +78,14 @@ module _ {T : Type 0} (code : Coding T) (c : ℕ) (v : View T) (turn : OthersTur
     same_party as same_party,
   }
 
+  -- the turn, as the machine without the parties' states has it
+  abbrev pub of_another : TurnOfAnother code c v.party (now v)
+  of_another = record { words' = words'; latest' = latest'; es = es; goes = goes; spares = spares; passes = passes; leaves = leaves }
+
+  -- the turn, as the set has it
+  abbrev pub of_set_turn : set.OthersTurn (of_set v)
+  of_set_turn = record { words' = words'; es = es; changes' = changes'; goes = goes; spares = spares; seen = seen }
+
   -- what the party sees after the turn
   abbrev pub later : View T
   later =
@@ -114,7 +122,7 @@ module _ {T : Type 0} (code : Coding T) (c : ℕ) (v : View T) (turn : OthersTur
 
   -- what the call knows of the set it knows still
   pub set_knows : {flight : _} → set.Knows c flight (of_set v) → set.Knows c flight (of_set later)
-  set_knows {flight} knows = knows_later v.terms.by v.words words' events es q v.since v.changes changes' v.backs goes spares seen c flight knows
+  set_knows {flight} knows = knows_later of_set_turn c flight knows
 
   -- what held at a moment of the party's call held at one still
   pub once : (P : List (Event T) → Type 0) → HeldSometime q P events → HeldSometime q P (events ++ es)
@@ -132,8 +140,7 @@ module _ {T : Type 0} (code : Coding T) (c : ℕ) (v : View T) (turn : OthersTur
 
   -- an add still owns its index
   add_owns : {owner index : ℕ} → AddOwns c owner index v → AddOwns c owner index later
-  add_owns {owner} {index} owned =
-      record { paid = paid owned.paid; within = owned.within; owns = add_later spares owned.owns }
+  add_owns {owner} {index} owned = record { paid = paid owned.paid; within = owned.within; owns = add_later spares owned.owns }
 
   -- a replace that has taken a step is still the party's call
   pub found : (index owner : ℕ) (value : T) → HasFound index owner value v → HasFound index owner value later
@@ -267,11 +274,11 @@ module _ {T : Type 0} (code : Coding T) (c : ℕ) (v : View T) (turn : OthersTur
       → set.Knows c (release_at c index owner mode stage) (of_set v) → ReleaseLeft code c index count stage v
       → ReleaseHides code c index owner count stage v → ReleaseHides code c index owner count stage later
   release_hides index owner mode count releases.EmptiesCell knows left was_hidden =
-      remove_covers owner index count latest' goes spares passes leaves left.0 knows.owns was_hidden
+      remove_covers of_another owner index count left.0 knows.owns was_hidden
   release_hides index owner mode count (releases.Raises raise) knows left was_hidden =
-      hidden_stands owner index count latest' goes spares passes leaves left.within was_hidden
+      hidden_stands of_another owner index count left.within was_hidden
   release_hides index owner mode count (releases.Locks lock) knows left was_hidden =
-      hidden_stands owner index count latest' goes spares passes leaves left.within was_hidden
+      hidden_stands of_another owner index count left.within was_hidden
 
   -- a remove at any stage knows what it knew before
   pub remove_knows : (index owner : ℕ) (mode : ReleaseMode) (stage : RemoveStage)
@@ -287,10 +294,10 @@ module _ {T : Type 0} (code : Coding T) (c : ℕ) (v : View T) (turn : OthersTur
     paid h.0,
     remove_says index owner mode state h.1,
     has_left h.2,
-    hidden_stands owner index count latest' goes spares passes leaves h.2.within h.3,
+    hidden_stands of_another owner index count h.2.within h.3,
   )
   remove_knows index owner mode (removes.AddsChange state) h =
-      (paid h.0, remove_says index owner mode state h.1, hidden_later owner no_index words' latest' spares passes h.2)
+      (paid h.0, remove_says index owner mode state h.1, hidden_later of_another owner no_index h.2)
 
   -- ---- a copy, and a find
 

@@ -1,12 +1,12 @@
 -- What a recovery and a look know at their stages they know still after any turn of another party; and with
 -- `Keeping`, so does any call of a container.
 use Rattle.std.proofs.Common.{arith}
-use Rattle.laws_container.proofs.Names.{◌≡◌, ◌⊎◌, inl, inr, ℕ, ◌+◌, ◌<◌, Some, None, List, ◌++◌, refl}
+use Rattle.laws_container.proofs.Names.{◌≡◌, ◌⊎◌, inl, inr, ℕ, ◌<◌, Some, None, List, ◌++◌, refl}
 use Rattle.laws_container.proofs.Names.{◌∙◌, LookStage, RecoverStage, ReleaseMode, ReleaseState, Event}
 use Rattle.laws_container.proofs.Names.{ContainerFlight, Count, IsLocked, Coding, WasShown, IsFilledWith}
 use Rattle.laws_container.proofs.Names.{IsUnlocked, StillToFree, filled_of, Asks, Yes, set_acts_of, IsOneOf}
 use Rattle.laws_container.proofs.Names.{IsHonestBy, gone_more, honest_less, stays_lost, held_paid, still_scanned}
-use Rattle.laws_container.proofs.Names.{through_less, borrowed_at, looking}
+use Rattle.laws_container.proofs.Names.{through_less}
 use Rattle.steps.specs.declared.container.look.LookStage.TheVariants as looks
 use Rattle.steps.specs.declared.container.recover.RecoverStage.TheVariants as recovers
 use Rattle.steps.specs.declared.copied.Buffer as buffers
@@ -15,8 +15,8 @@ use Rattle.model.specs.declared.families.container.calls.ContainerFlight.TheVari
 use Rattle.model.specs.declared.families.container.calls.ContainerFlight.TheVariants.{Recover, Look}
 use Rattle.laws_robust.proofs.Knows as set
 use Rattle.laws_container.specs.Gone.{HasRecoveredBy}
-use Rattle.laws_container.proofs.HiddenKnows.{RecoverCovers, StillStands, HasHidden, no_index}
-use Rattle.laws_container.proofs.HiddenLater.{recover_covers, hidden_stands, hidden_later}
+use Rattle.laws_container.proofs.HiddenKnows.{RecoverCovers, HasHidden, no_index}
+use Rattle.laws_container.proofs.HiddenLater.{TurnOfAnother, recover_covers, hidden_stands, hidden_later}
 use Rattle.laws_container.proofs.Knows.{View, now, IsGone, Worn}
 use Rattle.laws_container.proofs.Knows.{AskedBelow}
 use Rattle.laws_container.proofs.Knows.{GoneBut, Recovers, RecoverSays, RecoverKnows, RecoverFills, Looks, LookCopies}
@@ -50,6 +50,9 @@ module _ {T : Type 0} {code : Coding T} {c : ℕ} {v : View T} (turn : OthersTur
 
   abbrev pub later : View T
   later = keeping.later code c v turn
+
+  abbrev another : TurnOfAnother code c v.party (now v)
+  another = keeping.of_another code c v turn
 
   -- the party that knows
   abbrev q : ℕ
@@ -103,13 +106,13 @@ module _ {T : Type 0} {code : Coding T} {c : ℕ} {v : View T} (turn : OthersTur
   -- what a recovery that has hidden all that it freed knows of the indices below `k` it knows still
   recovers_on : {owner k : ℕ} {Here : ℕ → Type 0} → Recovers code c owner k Here no_index v → Recovers code c owner k Here no_index later
   recovers_on {owner} {k} {Here = Here} recovered_so =
-      recovers_then (λ g. hidden_later owner no_index words' latest' spares passes g) recovered_so
+      recovers_then (λ g. hidden_later another owner no_index g) recovered_so
 
   -- where the owner fills the index still, the loaded number covers what stands there still
   covers_on : (owner index count : ℕ) → index < c → IsGone owner v → RecoverCovers code c owner index count (now v)
       → RecoverCovers code c owner index count (now later)
   covers_on owner index count below dead covered =
-      recover_covers owner index count latest' goes spares passes leaves below dead covered
+      recover_covers another owner index count below dead covered
 
   -- what a recovery of an owner must have done by its end is done still
   recovered : {owner : ℕ} → IsGone owner v → HasRecoveredBy v.terms.by q owner events → HasRecoveredBy v.terms.by q owner (events ++ es)
@@ -194,25 +197,25 @@ module _ {T : Type 0} {code : Coding T} {c : ℕ} {v : View T} (turn : OthersTur
   recover_knows owner mode room (recovers.Hides index count) h = (
     paid code c v turn h.0,
     recovers_then
-        (λ g. hidden_stands owner index count latest' goes spares passes leaves h.2.within g)
+        (λ g. hidden_stands another owner index count h.2.within g)
         h.1,
     has_left code c v turn h.2,
   )
   recover_knows owner mode room (recovers.Raises index raise) h = (
-    held_paid v.terms.by v.words words' events es q v.since v.changes changes' v.backs goes spares seen (set.raise_holds raise) h.0,
+    held_paid (keeping.of_set_turn code c v turn) (set.raise_holds raise) h.0,
     recovers_on h.1,
   )
   recover_knows owner mode room (recovers.Locks index lock) h = (
-    held_paid v.terms.by v.words words' events es q v.since v.changes changes' v.backs goes spares seen (set.lock_holds lock) h.0,
+    held_paid (keeping.of_set_turn code c v turn) (set.lock_holds lock) h.0,
     recovers_on h.1,
-    still_scanned v.terms.by v.words words' events es q v.since v.changes changes' v.backs goes spares seen (set.lock_scan c lock) h.2,
+    still_scanned (keeping.of_set_turn code c v turn) (set.lock_scan c lock) h.2,
   )
   -- behind the last index
   recover_knows owner mode room recovers.LoadsCounterAgain h = (paid code c v turn h.0, recovers_on h.1)
   recover_knows owner mode room (recovers.AddsChange state) h = (
     paid code c v turn h.0,
     recover_says owner mode state h.1,
-    hidden_later owner no_index words' latest' spares passes h.2,
+    hidden_later another owner no_index h.2,
   )
 
   -- ---- a look
@@ -237,11 +240,7 @@ module _ {T : Type 0} {code : Coding T} {c : ℕ} {v : View T} (turn : OthersTur
   look_copies : {index count k : ℕ} → LookCopies code c index count k v → LookCopies code c index count k later
   unfolding looks_on
   look_copies {index} {count} {k} h =
-      record {
-        looks = looks_on h.looks;
-        number = h.number;
-        copying = copying code c v turn index count h.looks.state.shown.copy k h.copying;
-      }
+      record { looks = looks_on h.looks; number = h.number; copying = copying code c v turn index count h.looks.state.shown.copy k h.copying }
 
   -- a state at rest is at rest still
   look_rests : LookRests code c v → LookRests code c later

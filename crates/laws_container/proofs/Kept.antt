@@ -9,7 +9,7 @@ use Rattle.laws_container.proofs.Names.{Trace, cell, Death}
 use Rattle.model.specs.declared.families.Registry.TheVariants as registries
 use Rattle.model.proofs.Frame as frame
 use Rattle.laws_container.proofs.Answers.{asks_right, recovers_right, answers_right}
-use Rattle.laws_container.proofs.Invariant.{moment, family, family_by}
+use Rattle.laws_container.proofs.Invariant.{family, family_by}
 use Rattle.laws_container.proofs.WellFormed.{IsWellFormedSoFar, well_formed_so_far}
 use Rattle.laws_container.proofs.StateInvariant.{Rests}
 use Rattle.laws_container.proofs.Terms.{Terms, dying}
@@ -34,7 +34,7 @@ module _ {T : Type 0} where
 
 -- ---- what is promised
 
--- `t` is the run up to now, and `s` that it is sound
+-- `t` is the run up to now, which is sound
 module _ {T : Type 0} (terms : Terms) (code : Coding T) (t : Trace T) (sound : frame.Sound (family_by terms code t.world.capacity) t) where
   abbrev c : ℕ
   c = t.world.capacity
@@ -86,7 +86,7 @@ module _ {T : Type 0} (terms : Terms) (code : Coding T) (t : Trace T) (sound : f
 
 -- ---- where owners die
 
--- `t` is the run up to now, of a machine whose owners die, and `s` that it is sound
+-- `t` is the run up to now, of a machine whose owners die, and it is sound
 module _ {T : Type 0} (code : Coding T) {t : Trace T} (sound : frame.Sound (family code t.world.capacity) t) where
   -- what holds of the machine is what is promised of a container where owners die
   pub container_kept : IsContainer t

@@ -21,8 +21,8 @@ use Rattle.model.specs.declared.families.loan.LoanStart.{LoanStart}
 use Rattle.model.proofs.Frame as frame
 use Rattle.laws_container.proofs.Invariant.{family_by}
 use Rattle.laws_container.proofs.Looks.{looks_as, written_other}
-use Rattle.laws_container.proofs.LooksTell.{LookEnd, ended, looks_right, looks_own, looks_leave}
-use Rattle.laws_container.proofs.Sound.{MayGoOn, Shown, kept_now}
+use Rattle.laws_container.proofs.LooksTell.{ending_look, LookEnd, ended, looks_right, looks_own, looks_leave}
+use Rattle.laws_container.proofs.Sound.{SoundRun, MayGoOn, Shown, kept_now}
 use Rattle.laws_container.proofs.Stages.{any_call}
 use Rattle.laws_container.proofs.CallProgress.{look_at, look_number}
 use Rattle.laws_container.proofs.Terms.{Terms}
@@ -96,7 +96,7 @@ module _ {T : Type 0} where
 
 -- ---- a step of a party's call
 
--- `c` is the capacity, `t` the run up to this turn, `s` that it is sound; `x` is the call of party `q`
+-- `c` is the capacity, and `t` the run up to this turn, which is sound; `x` is the call of party `q`
 module _ {T : Type 0} (shown : Shown T) (terms : Terms) (code : Coding T) (c : ℕ) {t : Trace T}
     (sound : frame.Sound (family_by terms code c) t) (q : ℕ) (x : Party T) (since : ℕ)
     (found : party_of q t.world.latest ≡ Some x) where
@@ -121,7 +121,7 @@ module _ {T : Type 0} (shown : Shown T) (terms : Terms) (code : Coding T) (c : �
 
 -- ---- any turn
 
--- `t` is the run up to this turn, and `s` that it is sound
+-- `t` is the run up to this turn, which is sound
 module _ {T : Type 0} (shown : Shown T) (terms : Terms) (code : Coding T) (t : Trace T) (sound : frame.Sound (family_by terms code t.world.capacity) t) where
   -- what a party has under way is the call that the machine finds
   flies : (q : ℕ) (x : Party T) (flight : Flight T) (since : ℕ) → party_of q t.world.latest ≡ Some x
@@ -192,18 +192,19 @@ module _ {T : Type 0} where
   first_step code c which stage o n name ends_so = grind arith
 
 -- party `p` ends an update with the answer false in this turn
-module _ {T : Type 0} (shown : Shown T) {terms : Terms} (code : Coding T) {t : Trace T} (turn : Turn T)
-    (r : IsAllowed t.world turn) (sound : frame.Sound (family_by terms code t.world.capacity) t) (may : MayGoOn terms t)
-    {p : ℕ} (ends : EndsLook p UpdateState (Truth false) t (after_turn t turn)) where
-  abbrev end : LookEnd shown terms code t.world.capacity t sound may p UpdateState (Truth false) ends.is_look ends.wrote (after_turn t turn)
-  end = ended shown code turn r sound may p UpdateState (Truth false) ends
+module _ {T : Type 0} (run : SoundRun T) (turn : Turn T) (r : IsAllowed run.trace.world turn)
+    {p : ℕ} (ends : EndsLook p UpdateState (Truth false) run.trace (after_turn run.trace turn)) where
+  open run use {code as coding, trace as t}
+
+  abbrev end : LookEnd (ending_look run turn r ends) (after_turn t turn)
+  end = ended run turn r ends
 
   -- an update that answers false has taken one step
   one_step : steps_of (progress_in (after_turn t turn).world p) ≡ 1
   one_step =
       let l = end.turn in
-      let first = first_step code t.world.capacity l.which l.stage _ _ l.name l.done in
-      let few : l.party.steps ≤ 0 = subst (λ stage. l.party.steps ≤ look_number code.size stage l.party.backs) first l.there.steps in
+      let first = first_step coding t.world.capacity l.which l.stage _ _ l.name l.done in
+      let few : l.party.steps ≤ 0 = subst (λ stage. l.party.steps ≤ look_number coding.size stage l.party.backs) first l.there.steps in
       let counted = l.steps_then in
       let latest : party_of p (after_turn t turn).world.latest ≡ Some l.next =
       ap (party_of p) l.latest_is
@@ -213,7 +214,7 @@ module _ {T : Type 0} (shown : Shown T) {terms : Terms} (code : Coding T) {t : T
 
   -- an update that answers false leaves its party's state as it was
   state_left : state_in (after_turn t turn).world.kept p ≡ state_in t.world.kept p
-  state_left = by (state_in (after_turn t turn).world.kept p) refl (looks_leave shown code turn r sound may p UpdateState (Truth false) ends)
+  state_left = by (state_in (after_turn t turn).world.kept p) refl (looks_leave run turn r p UpdateState (Truth false) ends)
     where
       -- the cases are whether the party has a state after the turn, as the party of an ended look has
       by : (o : Option (ContainerState T)) → state_in (after_turn t turn).world.kept p ≡ o
@@ -222,7 +223,7 @@ module _ {T : Type 0} (shown : Shown T) {terms : Terms} (code : Coding T) {t : T
       by None state_is some = let none : is_some (state_in (after_turn t turn).world.kept p) ≡ false = ap is_some state_is in both_ways _ none some
       by (Some state) state_is some =
           state_is ∙ sym
-          (looks_right shown code turn r sound may ⊥ (λ never. absurd never) p UpdateState (Truth false) state ends state_is).0
+          (looks_right run turn r ⊥ (λ never. absurd never) p UpdateState (Truth false) state ends state_is).0
 
 -- ---- as the promise says it
 
@@ -230,12 +231,15 @@ module _ {T : Type 0} (shown : Shown T) {terms : Terms} (code : Coding T) {t : T
 module _ {T : Type 0} (shown : Shown T) (terms : Terms) (code : Coding T) (t : Trace T) (turn : Turn T)
     (r : IsAllowed t.world turn) (sound : frame.Sound (family_by terms code t.world.capacity) t)
     (may : MayGoOn terms t) where
+  abbrev run_so : SoundRun T
+  run_so = record { shown = shown; terms = terms; code = code; trace = t; sound = sound; may = may }
+
   -- each turn keeps the states of the parties as the promise says
   pub keeps_states : KeepsStates t turn (after_turn t turn)
   keeps_states =
       record {
         moves = moves shown terms code t sound turn r;
         begins = begins shown terms code t sound turn r;
-        at_once = λ p ends. (one_step shown code turn r sound may ends, state_left shown code turn r sound may ends);
-        own = looks_own shown code turn r sound may;
+        at_once = λ p ends. (one_step run_so turn r ends, state_left run_so turn r ends);
+        own = looks_own run_so turn r;
       }

@@ -43,7 +43,7 @@ module _ {T : Type 0} (q : ℕ) (events : List (Event T)) where
 
 -- ---- a step of a party's call
 
--- `c` is the capacity, `t` the run up to this turn, and `s` that it is sound; `x` is the call of party `q`
+-- `c` is the capacity, and `t` the run up to this turn, which is sound and may go on; `x` is the call of party `q`
 module _ {T : Type 0} (shown : AllShown T) {terms : Terms} (code : Coding T) (c : ℕ) {t : Trace T}
     (sound : frame.Sound (family_by terms code c) t) (may : MayGoOn terms t) (q : ℕ) (x : Party T) (since : ℕ)
     (found : party_of q t.world.latest ≡ Some x) where

@@ -64,6 +64,7 @@ pub mod Removes
 pub mod RemoveSteps
 pub mod ReplaceSteps
 pub mod ReplaceFound
+pub mod ReplaceAny
 pub mod Replacers
 pub mod Replaces
 pub mod RoomCalls
@@ -80,6 +81,7 @@ pub mod Stages
 pub mod CallProgress
 pub mod Steps
 pub mod FindCoverage
+pub mod FindPromises
 pub mod Terms
 pub mod TurnPromises
 pub mod Turns

@@ -26,7 +26,7 @@ module _ {T : Type 0} (p : ℕ) where
   effects_leave [] all_are = tt
   effects_leave (e ∷ es) all_are = (effect_leaves e all_are.0, effects_leave es all_are.1)
 
--- `c` is the capacity, `t` the run up to this turn, and `s` that it is sound
+-- `c` is the capacity, and `t` the run up to this turn, which is sound
 module _ {T : Type 0} (terms : Terms) (code : Coding T) (c : ℕ) (t : Trace T) (sound : frame.Sound (family_by terms code c) t) where
   -- ---- what a step writes
 

@@ -242,7 +242,7 @@ module _ {T : Type 0} (code : Coding T) (c : ℕ) where
   find_decides words owner room (finds.LoadsWord index found count at) said due = absurd (cc)
   find_decides words owner room (finds.ChecksCount index found count) said due = absurd (cc)
   find_decides words owner room (finds.Asks index found) true due =
-      find_comes code c words words 0 index found owner room room (finds.Asks index found) refl (omega arith)
+      find_comes code c words 0 index found owner room room (finds.Asks index found) refl (omega arith)
   find_decides words owner room (finds.Asks index found) false due = tt
 
   -- the measure falls with a decision that a recovery which does not lock is told
@@ -250,7 +250,7 @@ module _ {T : Type 0} (code : Coding T) (c : ℕ) where
       → DecisionFalls words None (recover_at c owner Default room stage)
   recover_decides words owner room (recovers.Asks index count) true due = inl (refl, omega arith, omega arith)
   recover_decides words owner room (recovers.Asks index count) false due =
-      recover_comes code c words words 0 index owner room room (recovers.Asks index count) refl (omega arith) (omega arith)
+      recover_comes code c words 0 index owner room room (recovers.Asks index count) refl (omega arith) (omega arith)
   recover_decides words owner room recovers.LoadsCounter said due = absurd (cc)
   recover_decides words owner room (recovers.LoadsCell index) said due = absurd (cc)
   recover_decides words owner room (recovers.LoadsCount index) said due = absurd (cc)

@@ -139,11 +139,16 @@ module _ {T : Type 0} (scene : Scene T) (inv : Inv scene) where
     module _ (none : all scene ≡ []) where
       -- ---- an index is done with
 
-      -- the look has the step `ask`, which leaves the words, and has done with `index`
-      module _ (stage : LookStage) (ask : Option Ask) (walker : Walker s ask Lead) (back : Bool)
-          (same : words_after ws ask ≡ ws)
-          (paid : backs_then scene back + since_then scene ask ≤ changes_then scene ask)
-          (index : ℕ) (below : index < c) where
+      -- the operation `ask` leaves the words, the look has paid for its turns back, and `index` is below the capacity
+      record LeavesWords (ask : Option Ask) (back : Bool) (index : ℕ) : Type 0 where
+        pub same : words_after ws ask ≡ ws
+        pub paid : backs_then scene back + since_then scene ask ≤ changes_then scene ask
+        pub below : index < c
+
+      -- the look has such a step, and has done with `index`
+      module _ (stage : LookStage) {ask : Option Ask} (walker : Walker s ask Lead) {back : Bool} {index : ℕ} (leaves : LeavesWords ask back index) where
+        open leaves use {same, paid, below}
+
         none_more : (what : Option (ℕ × T)) → all scene ++ set_acts (copies_of p what) ≡ []
         none_more = grind arith
 
@@ -181,7 +186,7 @@ module _ {T : Type 0} (scene : Scene T) (inv : Inv scene) where
           n = count_in code c m index
 
           low : index < length s.shown.elements
-          low = let wide = course.sight.wide in omega arith
+          low = let wide = course.sight.wide in let less = leaves.below in omega arith
 
           abbrev s' : ContainerState T
           s' = counting s index low n
@@ -232,10 +237,7 @@ module _ {T : Type 0} (scene : Scene T) (inv : Inv scene) where
                       };
                   number = counted_number s index low n;
                   copying =
-                      copying_first code c
-                      (view scene.terms words' states' latest' es' p (since_then scene ask) (changes_then scene ask)
-                      (backs_then scene back))
-                      index n s'.shown.copy below course.room odd (λ kept. omega arith);
+                      copying_first code c below course.room odd (λ kept. omega arith);
                 },
               )))
 
@@ -302,23 +304,33 @@ module _ {T : Type 0} (scene : Scene T) (inv : Inv scene) where
       walks_count index below walker few paid seen course =
           let stage = stages.LoadsCount index in
           let ask = Some (loads (count_word c index)) in
-          let same = loads_same ws (count_word c index) in
+          let leaves : LeavesWords ask false index =
+          record { same = loads_same ws (count_word c index); paid = omega arith; below = below } in
           let unseen = course.unseen index (omega arith) below (λ e. absurd (omega arith)) in
           by_eq (Lead false [] (look_shows code (call_at stage) s (count_in code c m index)))
           (count_in code c m index) (slice_index_or s.seen.counts index 0)
           (look_comes_to (call_at stage) (index + 1)) (look_finds (call_at stage) index (count_in code c m index))
-          (λ is. passes stage ask walker false same (omega arith) index below c (λ i ne other. other) course seen
-          (omega arith) (is ∙ unseen) (λ e. absurd (omega arith)))
-          (λ other. finds stage ask walker false same (omega arith) index below c (λ i ne other. other) course seen (omega arith))
+          (λ is. passes stage walker leaves c (λ i ne other. other) course seen (omega arith) (is ∙ unseen) (λ e. absurd (omega arith)))
+          (λ other. finds stage walker leaves c (λ i ne other. other) course seen (omega arith))
 
       -- ---- a word of the element is loaded
 
-      -- the look copies the element at `index`, of which `at` words are read under the odd number `count`
-      module _ (index count at : ℕ) (below : index < c) (ats : at < code.size) (odd : count % 2 ≡ 1)
-          (few : steps ≤ 2 + at + index * (code.size + 2) + backs * (code.size + 1))
-          (paid : CheckPaid code c index count (sees_now scene)) (seen : AreBelow index (seen_in (done scene)))
-          (course : Course code c m p s index index) (number : number_at s index ≡ count)
-          (copying : Copying code c index count s.shown.copy at (sees_now scene)) where
+      -- The look copies the element at `index`, of which `at` words are read under the odd number `count`: it is on its way over the
+      -- indices, has seen none from this one on, has paid for a failed check, and what is read is the element's.
+      pub record CopiesWord (index count at : ℕ) : Type 0 where
+        pub below : index < c
+        pub word : at < code.size
+        pub odd : count % 2 ≡ 1
+        pub few : steps ≤ 2 + at + index * (code.size + 2) + backs * (code.size + 1)
+        pub paid : CheckPaid code c index count (sees_now scene)
+        pub seen : AreBelow index (seen_in (done scene))
+        pub course : Course code c m p s index index
+        pub number : number_at s index ≡ count
+        pub copying : Copying code c index count s.shown.copy at (sees_now scene)
+
+      module _ {index count at : ℕ} (copies : CopiesWord index count at) where
+        open copies use {below, word as ats, odd, few, paid, seen, course, number, copying}
+
         abbrev word_ask : Option Ask
         word_ask = Some (loads (element_word c code.size index at))
 
@@ -345,6 +357,7 @@ module _ {T : Type 0} (scene : Scene T) (inv : Inv scene) where
             -- a further word follows: the look goes on to it, with one word more in its copy
             (λ t.
             let more : at + 1 < code.size = grind (arith, nat_tests) in
+            let allowed = few in
             walker.goes (stages.LoadsWord index count (at + 1)) false None with_it tt same_words
             (ap (λ d. d ++ []) none, (below, seen_still index (done scene) seen, odd), more) (omega arith)
             (λ words' states' latest' es' comes found. (
@@ -367,7 +380,9 @@ module _ {T : Type 0} (scene : Scene T) (inv : Inv scene) where
             -- that was the last word: the look goes on to the check, with a whole copy
             (λ t.
             let last : code.size ≤ at + 1 = grind (arith, nat_tests) in
+            let within = ats in
             let is_last : at + 1 ≡ code.size = omega arith in
+            let allowed = few in
             walker.goes (stages.ChecksCount index count) false None with_it tt same_words
             (ap (λ d. d ++ []) none, (below, seen_still index (done scene) seen, odd)) (omega arith)
             (λ words' states' latest' es' comes found. (
@@ -394,12 +409,18 @@ module _ {T : Type 0} (scene : Scene T) (inv : Inv scene) where
 
       -- ---- the number is exchanged for itself
 
-      -- all words of the element at `index` are read under the odd number `count`, and the look checks that
-      -- number by an exchange for itself
-      module _ (index count : ℕ) (below : index < c) (odd : count % 2 ≡ 1)
-          (few : steps ≤ 2 + code.size + index * (code.size + 2) + backs * (code.size + 1))
-          (paid : CheckPaid code c index count (sees_now scene)) (seen : AreBelow index (seen_in (done scene)))
-          (course : Course code c m p s index index) (copying : Copying code c index count s.shown.copy code.size (sees_now scene)) where
+      -- All words of the element at `index` are read under the odd number `count`, and the look checks that number by an exchange for
+      -- itself: it is on its way over the indices, has seen none from this one on, has paid for a failed check, and its copy is whole.
+      pub record ChecksNumber (index count : ℕ) : Type 0 where
+        pub below : index < c
+        pub odd : count % 2 ≡ 1
+        pub few : steps ≤ 2 + code.size + index * (code.size + 2) + backs * (code.size + 1)
+        pub paid : CheckPaid code c index count (sees_now scene)
+        pub seen : AreBelow index (seen_in (done scene))
+        pub course : Course code c m p s index index
+        pub copying : Copying code c index count s.shown.copy code.size (sees_now scene)
+
+      module _ {index count : ℕ} (checks : ChecksNumber index count) where
         abbrev check_ask : Option Ask
         check_ask = Some (exchanges (count_word c index) count count)
 
@@ -407,7 +428,7 @@ module _ {T : Type 0} (scene : Scene T) (inv : Inv scene) where
         value = copy_in code s
 
         within : index < length s.shown.elements
-        within = let wide = course.sight.wide in omega arith
+        within = let wide = checks.course.sight.wide in let low = checks.below in omega arith
 
         abbrev shown_now : ContainerState T
         shown_now = showing s index within code.value_of code.size count
@@ -418,7 +439,7 @@ module _ {T : Type 0} (scene : Scene T) (inv : Inv scene) where
           stands_now : WellFormed m → contents_of index events ≡ Some value
           stands_now well_formed =
               copied_value code c inv.elements.coded inv.elements.whole
-              copying same_number well_formed
+              checks.copying same_number well_formed
 
           same_count : words_after ws check_ask ≡ ws
           same_count = grind (arith, exchange_sets, set, set-get_or)
@@ -427,17 +448,17 @@ module _ {T : Type 0} (scene : Scene T) (inv : Inv scene) where
           -- state shows the copy
           passed_copied : (m' : Now T) → IsAfterLookStep m' (Some (index, value)) → Course code c m' p shown_now (index + 1) c
           passed_copied m' comes =
-              course_passed code c m' p below (comes.later s index index course)
+              course_passed code c m' p checks.below (comes.later s index index checks.course)
               (value_put s index within code.value_of code.size count)
               (value_number s index within code.value_of code.size count ∙ sym (ap (λ w. count_at c w index) comes.words ∙ same_number)) (λ i ne other. ne)
               (λ shown e. let same : Some value ≡ Some shown =
-              sym (value_here s index within code.value_of code.size count (not_even count odd)) ∙ e in
+              sym (value_here s index within code.value_of code.size count (not_even count checks.odd)) ∙ e in
               let eq : value ≡ shown = cc in
               subst (λ v. WasCopied p index v m'.events) eq (comes.copied index value refl))
-              (λ well_formed. value_here s index within code.value_of code.size count (not_even count odd)
+              (λ well_formed. value_here s index within code.value_of code.size count (not_even count checks.odd)
               ∙ sym (comes.contents index ∙ stands_now (comes.well_formed well_formed)))
               (λ getting shown e. let same : Some value ≡ Some shown =
-              sym (value_here s index within code.value_of code.size count (not_even count odd)) ∙ e in
+              sym (value_here s index within code.value_of code.size count (not_even count checks.odd)) ∙ e in
               let eq : value ≡ shown = cc in
               subst (λ v. HasCopied p index v m'.events) eq (comes.on.now index value refl))
 
@@ -454,15 +475,15 @@ module _ {T : Type 0} (scene : Scene T) (inv : Inv scene) where
             (count_in code c m index == count)
             (λ t.
             let is : count_in code c m index ≡ count = grind (arith, nat_tests) in
-            let paid_now : backs + scene.since ≤ scene.changes = ⊎_elim (λ k. k.1) (λ more. omega arith) paid in
-            comes_to (stages.ChecksCount index count)
-            (Some (exchanges (count_word c index) count count)) walker false (same_count is) (omega arith) index
-            below (Some (index, value)) shown_now (seen, stands_now is)
-            (seen_copied index value (done scene) seen) (omega arith) (passed_copied is))
+            let paid_now : backs + scene.since ≤ scene.changes = ⊎_elim (λ k. k.1) (λ more. omega arith) checks.paid in
+            let few = checks.few in
+            let leaves : LeavesWords check_ask false index = record { same = same_count is; paid = omega arith; below = checks.below } in
+            comes_to (stages.ChecksCount index count) walker leaves (Some (index, value)) shown_now (checks.seen, stands_now is)
+            (seen_copied index value (done scene) checks.seen) (omega arith) (passed_copied is))
             (λ t.
             let other : count_in code c m index ≢ count = grind (arith, nat_tests) in
-            let paid_now : backs + scene.since + 1 ≤ scene.changes = ⊎_elim (λ k. absurd (other k.0)) (λ more. more) paid in
-            finds (stages.ChecksCount index count)
-            (Some (exchanges (count_word c index) count count)) walker true
-            (fails_same ws (count_word c index) count count other) (omega arith) index below index
-            (λ i ne out. ne) course seen (omega arith))
+            let paid_now : backs + scene.since + 1 ≤ scene.changes = ⊎_elim (λ k. absurd (other k.0)) (λ more. more) checks.paid in
+            let few = checks.few in
+            let leaves : LeavesWords check_ask true index =
+            record { same = fails_same ws (count_word c index) count count other; paid = omega arith; below = checks.below } in
+            finds (stages.ChecksCount index count) walker leaves index (λ i ne out. ne) checks.course checks.seen (omega arith))

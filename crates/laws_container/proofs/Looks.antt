@@ -24,7 +24,7 @@ use Rattle.laws_container.proofs.Core.{count_at}
 use Rattle.laws_container.proofs.Effects.{OwesStill}
 use Rattle.laws_container.proofs.LookSteps.{rests_settled}
 use Rattle.laws_container.proofs.HiddenKnows.{EndsRight}
-use Rattle.laws_container.proofs.Invariant.{Scene, Inv, AreAllRight, KeepsInvariant, before, after, wrote_of, view}
+use Rattle.laws_container.proofs.Invariant.{right_end, Scene, Inv, AreAllRight, KeepsInvariant, before, after, wrote_of, view}
 use Rattle.laws_container.proofs.KeptCopies.{ShowsOwn, copies_of, CallsOn, calls_on}
 use Rattle.laws_container.proofs.Knows.{LookKnows, Knows}
 use Rattle.laws_container.proofs.LookWalk.{IsAfterLookStep, IsRight, call_at, Walker, WalkAt, walks_change, walks_count, walks_word, walks_check}
@@ -122,11 +122,22 @@ module _ (T : Type 0) where
 
 -- ---- a step
 
--- the party's look is at `stage`, and its state is `s`
-module _ {T : Type 0} (scene : Scene T) (inv : Inv scene) (which : LookOf) (stage : LookStage)
-    (here : IsUnderWay scene (looks_as which) (look_at which scene.capacity stage)) (s : ContainerState T)
-    (found : state_of scene.party scene.states ≡ Some s) where
-  open scene use {coding as code, capacity as c, party as p, steps as steps, latest as latest, events as events}
+-- a look under way in the turn of the scene, at `stage`, and the state that its party has
+pub record Looking (T : Type 0) : Type 0 where
+  -- the turn, and what holds of the machine before it
+  pub scene : Scene T
+  pub inv : Inv scene
+  -- the call, and where it is
+  pub which : LookOf
+  pub stage : LookStage
+  pub here : IsUnderWay scene (looks_as which) (look_at which scene.capacity stage)
+  -- the state
+  pub state : ContainerState T
+  pub found : state_of scene.party scene.states ≡ Some state
+
+module _ {T : Type 0} (looking : Looking T) where
+  open looking use {scene, inv, which, stage, here, state as s, found}
+  open looking.scene use {coding as code, capacity as c, party as p, steps as steps, latest as latest, events as events}
 
   abbrev ws : List ℕ
   ws = scene.words
@@ -142,22 +153,28 @@ module _ {T : Type 0} (scene : Scene T) (inv : Inv scene) (which : LookOf) (stag
   well_formed_of words' y es own = was_well_formed scene start (no_replace T which) here.span words' y es own
 
   -- a raise that is owed to the changes is owed still after a step of a look
-  still : (words' : List ℕ) (y : Party T) (es : List (Event T)) (well_formed : WellFormed (after scene words' y es) → WellFormed m)
-      → OwesStill scene inv words' y es well_formed
-  still words' y es well_formed = owes_none scene y here refl
+  still : (y : Party T) → OwesStill scene y
+  still y = owes_none scene y here refl
 
-  -- the machine after a step that writes the copy `what`, if any, and then `rest`
-  module _ (words' : List ℕ) (same : words' ≡ ws) (y : Party T) (what : Option (ℕ × T)) (rest : List (Event T))
-      (silent : AllByRecursion Silent (copies_of p what ++ rest)) (own : AreOwn p (copies_of p what ++ rest))
-      (none : BeginsNone p (copies_of p what ++ rest))
-      (contents : (i : ℕ) → contents_of i (events ++ (copies_of p what ++ rest)) ≡ contents_of i events)
-      (on : CallsOn p what events (events ++ (copies_of p what ++ rest))) where
+  -- A step that leaves the words, and writes the copy `what`, if any, and then `rest`: the events are silent, the party's own, begin no
+  -- call and leave what stands; and after them the look goes on, or has ended, and has made this copy (`CallsOn`).
+  pub record LookWrites (words' : List ℕ) (what : Option (ℕ × T)) (rest : List (Event T)) : Type 0 where
+    pub same : words' ≡ ws
+    pub silent : AllByRecursion Silent (copies_of p what ++ rest)
+    pub own : AreOwn p (copies_of p what ++ rest)
+    pub none : BeginsNone p (copies_of p what ++ rest)
+    pub contents : (i : ℕ) → contents_of i (events ++ (copies_of p what ++ rest)) ≡ contents_of i events
+    pub on : CallsOn p what events (events ++ (copies_of p what ++ rest))
+
+  module _ {words' : List ℕ} {what : Option (ℕ × T)} {rest : List (Event T)} (writes : LookWrites words' what rest) (y : Party T) where
+    open writes use {same, silent, own, none, contents, on}
+
     abbrev es : List (Event T)
     es = copies_of p what ++ rest
 
     -- what the step leaves to any party is what `Passes` says
     passes : Passes code c m (after scene words' y es)
-    passes = (silent_changes inv words' same y es silent own (well_formed_of words' y es own) (still words' y es (well_formed_of words' y es own))).passes
+    passes = (silent_changes inv words' same y es silent own (well_formed_of words' y es own) (still y)).passes
 
     -- the copy that the step writes is one that the party has made
     copied_now : (o : Option (ℕ × T)) (i : ℕ) (value : T) → o ≡ Some (i, value) → WasCopied p i value (events ++ (copies_of p o ++ rest))
@@ -183,7 +200,7 @@ module _ {T : Type 0} (scene : Scene T) (inv : Inv scene) (which : LookOf) (stag
     does st right rests =
         record {
           set = silent_set inv words' same y es silent own;
-          changes = silent_changes inv words' same y es silent own (well_formed_of words' y es own) (still words' y es (well_formed_of words' y es own));
+          changes = silent_changes inv words' same y es silent own (well_formed_of words' y es own) (still y);
           right = right;
           others = λ q ne. written_other q p st scene.states ne;
           rests = λ other idle is.
@@ -195,6 +212,13 @@ module _ {T : Type 0} (scene : Scene T) (inv : Inv scene) (which : LookOf) (stag
   -- the look has gone on, or has ended, and has copied `what`
   on_now : (what : Option (ℕ × T)) (outcome : Option (Answer T)) → CallsOn p what events (events ++ (copies_of p what ++ ending_of p (Container start) outcome))
   on_now what outcome = calls_on p events (Container start) (wrote_of p events) here.span what outcome
+
+  -- a step that leaves the words and writes the end of the look alone
+  pub ends_alone : {words' : List ℕ} → words' ≡ ws
+      → {answer : Answer T} → ((i : ℕ) → contents_of i (events ++ Finished p (Container start) answer ∷ []) ≡ contents_of i events)
+      → Silent (Finished p (Container start) answer) → LookWrites words' None (Finished p (Container start) answer ∷ [])
+  ends_alone same {answer} contents silent =
+      record { same = same; silent = (silent, tt); own = (refl, tt); none = tt; contents = contents; on = on_now None (Some answer) }
 
   -- ---- it goes on, or ends
 
@@ -220,32 +244,45 @@ module _ {T : Type 0} (scene : Scene T) (inv : Inv scene) (which : LookOf) (stag
         let party_after = party_then scene start ask back (GoOn (look_at which c next)) in
         let words' = words_after ws ask in
         let contents : (i : ℕ) → contents_of i (events ++ []) ≡ contents_of i events = λ i. fold-append (contents_after i) None events [] in
-        goes_on scene start (look_at which c next) ask back (set_state p st scene.states) [] here.span none_lengthens
-        (does words' same party_after None [] tt tt tt contents (on_now None None) st
-        (record { asks = tt; recovers = tt; answers = tt; contains = λ holds. tt; places = λ holds. tt })
-        (λ idle. absurd (cc)))
-        tt few (at_look T which c code.size _ _ next stands)
-        (known words' (set_state p st scene.states) (put p party_after latest) (events ++ [])
-        (comes words' same party_after None [] tt tt tt contents (on_now None None)) (written_same p st s scene.states found))
+        let writes : LookWrites words' None [] =
+        record { same = same; silent = tt; own = tt; none = tt; contents = contents; on = on_now None None } in
+        goes_on scene (look_at which c next) ask back here.span (record {
+          longer = none_lengthens;
+          does = does writes party_after st
+              (record { asks = tt; recovers = tt; answers = tt; contains = λ holds. tt; places = λ holds. tt }) (λ idle. absurd (cc));
+          follows = tt;
+          few = few;
+          stands = at_look T which c code.size _ _ next stands;
+          known =
+              known words' (set_state p st scene.states) (put p party_after latest) (events ++ [])
+              (comes writes party_after) (written_same p st s scene.states found);
+        })
     -- the step writes a copy
     goes_with next back (Some copy) st right same stands few known =
         let party_after = party_then scene start ask back (GoOn (look_at which c next)) in
         let words' = words_after ws ask in
-        let written = Copied p copy.0 copy.1 ∷ [] in
+        let written : List (Event T) = Copied p copy.0 copy.1 ∷ [] in
         let contents : (i : ℕ) → contents_of i (events ++ written) ≡ contents_of i events = λ i. fold-append (contents_after i) None events written in
-        goes_on scene start (look_at which c next) ask back (set_state p st scene.states) written here.span (λ start w. refl)
-        (does words' same party_after (Some copy) [] (tt, tt) (refl, tt) tt contents (on_now (Some copy) None) st
-        (record {
-          asks = (tt, tt);
-          recovers = (tt, tt);
-          answers = (tt, tt);
-          contains = λ holds. (right.1 (well_formed_of words' party_after written (refl, tt) holds), tt);
-          places = λ holds. (tt, tt);
-        }) (λ idle. absurd (cc)))
-        (copy_stands T which p copy.0 copy.1 (wrote_of p events) right.0, tt) few (at_look T which c code.size _ _ next stands)
-        (known words' (set_state p st scene.states) (put p party_after latest) (events ++ written)
-        (comes words' same party_after (Some copy) [] (tt, tt) (refl, tt) tt contents (on_now (Some copy) None))
-        (written_same p st s scene.states found))
+        let writes : LookWrites words' (Some copy) [] =
+        record { same = same; silent = (tt, tt); own = (refl, tt); none = tt; contents = contents; on = on_now (Some copy) None } in
+        goes_on scene (look_at which c next) ask back here.span (record {
+          longer = λ start w. refl;
+          does = does writes party_after st
+              (record {
+                asks = (tt, tt);
+                recovers = (tt, tt);
+                answers = (tt, tt);
+                contains = λ holds. (right.1 (well_formed_of words' party_after written (refl, tt) holds), tt);
+                places = λ holds. (tt, tt);
+              })
+              (λ idle. absurd (cc));
+          follows = (copy_stands T which p copy.0 copy.1 (wrote_of p events) right.0, tt);
+          few = few;
+          stands = at_look T which c code.size _ _ next stands;
+          known =
+              known words' (set_state p st scene.states) (put p party_after latest) (events ++ written)
+              (comes writes party_after) (written_same p st s scene.states found);
+        })
 
     -- a look that has gone over all indices ends with true
     ends_with : (back : Bool) (what : Option (ℕ × T)) (st : ContainerState T) → IsRight scene inv what → words_after ws ask ≡ ws → all scene ≡ []
@@ -258,46 +295,57 @@ module _ {T : Type 0} (scene : Scene T) (inv : Inv scene) (which : LookOf) (stag
         let answer = looked which st true in
         let party_after = party_then scene start ask back (Done answer) in
         let words' = words_after ws ask in
-        let written = Finished p (Container start) answer ∷ [] in
+        let written : List (Event T) = Finished p (Container start) answer ∷ [] in
         let contents : (i : ℕ) → contents_of i (events ++ written) ≡ contents_of i events = λ i. fold-append (contents_after i) None events written in
         let m' = after scene words' party_after written in
-        ends scene start answer ask back (set_state p (settled st) scene.states) [] here.span none_lengthens
-        (does words' same party_after None written (silent_end T which, tt) (refl, tt) tt contents (on_now None (Some answer)) (settled st)
-        (record {
-          asks = (tt, tt);
-          recovers = (tt, tt);
-          answers = (answers_look T scene.terms.by (IsWorn scene.terms.by words') which c p st true events, tt);
-          contains = λ holds. (tt, tt);
-          places = λ holds. (places_look T which p st true events, tt);
+        let writes : LookWrites words' None written = ends_alone same contents (silent_end T which) in
+        ends scene answer ask back here.span (record {
+          longer = none_lengthens;
+          does = does writes party_after (settled st)
+              (right_end scene (answers_look T scene.terms.by (IsWorn scene.terms.by words') which c p st true events)
+              (λ holds. places_look T which p st true events))
+              (λ idle. rests_settled code c m' p st (course m' (comes writes party_after)));
+          follows = ((refl, does_look T which st true (all scene) (done scene) none), tt);
+          few = few_look T which c code.size _ (backs_then scene back) few;
+          paid = omega arith;
         })
-        (λ idle. rests_settled code c m' p st
-        (course m' (comes words' same party_after None written (silent_end T which, tt) (refl, tt) tt contents (on_now None (Some answer))))))
-        ((refl, does_look T which st true (all scene) (done scene) none), tt) (few_look T which c code.size _ (backs_then scene back) few) (omega arith)
     -- the last step of the look writes a copy and then the end
     ends_with back (Some copy) st right same none few paid course =
         let answer = looked which st true in
         let party_after = party_then scene start ask back (Done answer) in
         let words' = words_after ws ask in
-        let did = Copied p copy.0 copy.1 ∷ [] in
-        let finish = Finished p (Container start) answer ∷ [] in
-        let written = Copied p copy.0 copy.1 ∷ Finished p (Container start) answer ∷ [] in
+        let did : List (Event T) = Copied p copy.0 copy.1 ∷ [] in
+        let finish : List (Event T) = Finished p (Container start) answer ∷ [] in
+        let written : List (Event T) = Copied p copy.0 copy.1 ∷ Finished p (Container start) answer ∷ [] in
         let contents : (i : ℕ) → contents_of i (events ++ written) ≡ contents_of i events = λ i. fold-append (contents_after i) None events written in
         let m' = after scene words' party_after written in
-        ends scene start answer ask back (set_state p (settled st) scene.states) did here.span (λ start w. refl)
-        (does words' same party_after (Some copy) finish (tt, (silent_end T which, tt)) (refl, (refl, tt)) tt
-        contents (on_now (Some copy) (Some answer)) (settled st)
-        (record {
-          asks = (tt, (tt, tt));
-          recovers = (tt, (tt, tt));
-          answers = (tt, (answers_look T scene.terms.by (IsWorn scene.terms.by words') which c p st true (events ++ did), tt));
-          contains = λ holds. (right.1 (well_formed_of words' party_after written (refl, (refl, tt)) holds), (tt, tt));
-          places = λ holds. (tt, (places_look T which p st true (events ++ did), tt));
+        let writes : LookWrites words' (Some copy) finish =
+        record {
+          same = same;
+          silent = (tt, (silent_end T which, tt));
+          own = (refl, (refl, tt));
+          none = tt;
+          contents = contents;
+          on = on_now (Some copy) (Some answer);
+        } in
+        ends scene answer ask back {did = did} here.span (record {
+          longer = λ start w. refl;
+          does = does writes party_after (settled st)
+              (record {
+                asks = (tt, (tt, tt));
+                recovers = (tt, (tt, tt));
+                answers = (tt, (answers_look T scene.terms.by (IsWorn scene.terms.by words') which c p st true (events ++ did), tt));
+                contains = λ holds. (right.1 (well_formed_of words' party_after written (refl, (refl, tt)) holds), (tt, tt));
+                places = λ holds. (tt, (places_look T which p st true (events ++ did), tt));
+              })
+              (λ idle. rests_settled code c m' p st (course m' (comes writes party_after)));
+          follows = (
+            copy_stands T which p copy.0 copy.1 (wrote_of p events) right.0,
+            ((refl, does_look T which st true _ _ (set_acts_one copy none)), tt),
+          );
+          few = few_look T which c code.size _ (backs_then scene back) few;
+          paid = omega arith;
         })
-        (λ idle. rests_settled code c m' p st
-        (course m' (comes words' same party_after (Some copy) finish (tt, (silent_end T which, tt)) (refl, (refl, tt)) tt contents
-        (on_now (Some copy) (Some answer))))))
-        (copy_stands T which p copy.0 copy.1 (wrote_of p events) right.0, ((refl, does_look T which st true _ _ (set_acts_one copy none)), tt))
-        (few_look T which c code.size _ (backs_then scene back) few) (omega arith)
       where
         set_acts_one : (copy : ℕ × T) → all scene ≡ [] → set_acts (wrote_of p events ++ Copied p copy.0 copy.1 ∷ []) ≡ []
         set_acts_one = grind (arith, flat_map-append)
@@ -310,20 +358,19 @@ module _ {T : Type 0} (scene : Scene T) (inv : Inv scene) (which : LookOf) (stag
         let answer = looked which s false in
         let party_after = party_then scene start ask false (Done answer) in
         let words' = words_after ws ask in
-        let written = Finished p (Container start) answer ∷ [] in
+        let written : List (Event T) = Finished p (Container start) answer ∷ [] in
         let contents : (i : ℕ) → contents_of i (events ++ written) ≡ contents_of i events = λ i. fold-append (contents_after i) None events written in
-        ends scene start answer ask false (set_state p s scene.states) [] here.span none_lengthens
-        (does words' same party_after None written (silent_end T which, tt) (refl, tt) tt contents (on_now None (Some answer)) s
-        (record {
-          asks = (tt, tt);
-          recovers = (tt, tt);
-          answers = (answers_look T scene.terms.by (IsWorn scene.terms.by words') which c p s false events, tt);
-          contains = λ holds. (tt, tt);
-          places = λ holds. (places_look T which p s false events, tt);
+        let writes : LookWrites words' None written = ends_alone same contents (silent_end T which) in
+        ends scene answer ask false here.span (record {
+          longer = none_lengthens;
+          does = does writes party_after s
+              (right_end scene (answers_look T scene.terms.by (IsWorn scene.terms.by words') which c p s false events)
+              (λ holds. places_look T which p s false events))
+              (λ idle. (comes writes party_after).rests s rests);
+          follows = ((refl, does_look T which s false (all scene) (done scene) none), tt);
+          few = few_look T which c code.size _ (backs_then scene false) (omega arith);
+          paid = omega arith;
         })
-        (λ idle. (comes words' same party_after None written (silent_end T which, tt) (refl, tt) tt contents (on_now None (Some answer))).rests s rests))
-        ((refl, does_look T which s false (all scene) (done scene) none), tt)
-        (few_look T which c code.size _ (backs_then scene false) (omega arith)) (omega arith)
 
     -- what is shown of each way on of a look
     walker : Walker scene inv s ask (Lead ask)
@@ -370,10 +417,30 @@ module _ {T : Type 0} (scene : Scene T) (inv : Inv scene) where
       walks_count scene inv h.state _ at.0 index at.1 (walks_to _) few k.0 at.2 h.course
   walks (stages.LoadsWord index count word) at k few Leads_to walks_to =
       let h = k.1 in
-      walks_word scene inv h.looks.state _ at.0 index count word at.1.0 at.2 at.1.2 few k.0 at.1.1 h.looks.course h.number h.copying (walks_to _)
+      walks_word scene inv h.looks.state _ at.0 (record {
+        below = at.1.0;
+        word = at.2;
+        odd = at.1.2;
+        few = few;
+        paid = k.0;
+        seen = at.1.1;
+        course = h.looks.course;
+        number = h.number;
+        copying = h.copying;
+      })
+      (walks_to _)
   walks (stages.ChecksCount index count) at k few Leads_to walks_to =
       let h = k.1 in
-      walks_check scene inv h.looks.state _ at.0 index count at.1.0 at.1.2 few k.0 at.1.1 h.looks.course h.copying (walks_to _)
+      walks_check scene inv h.looks.state _ at.0 (record {
+        below = at.1.0;
+        odd = at.1.2;
+        few = few;
+        paid = k.0;
+        seen = at.1.1;
+        course = h.looks.course;
+        copying = h.copying;
+      })
+      (walks_to _)
 
   -- any step of a look, at whatever stage, keeps the invariant
   pub look_step : (which : LookOf) (stage : LookStage) → IsUnderWay scene (looks_as which) (look_at which c stage)
@@ -382,5 +449,6 @@ module _ {T : Type 0} (scene : Scene T) (inv : Inv scene) where
       → StepOf scene (looks_as which) (look_at which c stage)
   look_step which stage here stands knows few =
       let h = state_known stage knows in
-      step_from scene inv which stage here h.state h.found
-      (walks stage stands knows few (Lead scene inv which stage here h.state h.found) (walker scene inv which stage here h.state h.found))
+      let looking : Looking T =
+      record { scene = scene; inv = inv; which = which; stage = stage; here = here; state = h.state; found = h.found } in
+      step_from looking (walks stage stands knows few (Lead looking) (walker looking))

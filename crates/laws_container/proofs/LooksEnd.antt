@@ -19,7 +19,8 @@ use Rattle.laws_container.proofs.Invariant.{Scene, Inv, before, after, wrote_of}
 use Rattle.laws_container.proofs.KeptCopies.{ShowsOwn, ShowsCopied, copies_of, own_later, own_then, calls_on}
 use Rattle.laws_container.proofs.Knows.{LookKnows}
 use Rattle.laws_container.proofs.LookWalk.{IsAfterLookStep, call_at}
-use Rattle.laws_container.proofs.Looks.{looks_as, no_replace, silent_end, written_same, comes, HasState, state_known, walks}
+use Rattle.laws_container.proofs.Looks.{looks_as, no_replace, silent_end, written_same, Looking, LookWrites, ends_alone, comes, HasState}
+use Rattle.laws_container.proofs.Looks.{state_known, walks}
 use Rattle.laws_container.proofs.WellFormed.{IsWellFormedSoFar}
 use Rattle.laws_container.proofs.StateInvariant.{Rests, Course}
 use Rattle.laws_container.proofs.Stages.{IsUnderWay, all, done, sees_now, any_call, owes_is, was_well_formed}
@@ -48,15 +49,24 @@ module _ {T : Type 0} where
   moments_same : (which : LookOf) (p c : ℕ) (st : ContainerState T) (es : List (Event T)) → MomentsOfState p c (looks_as which) (looked which st false) st es
   moments_same = grind arith
 
--- the look of party `p` is at `stage`, knows what the stage tells, and ends in its next step; no party owes
--- the changes a raise whose call is over
-module _ {T : Type 0} (scene : Scene T) (inv : Inv scene) (which : LookOf) (stage : LookStage)
-    (here : IsUnderWay scene (looks_as which) (look_at which scene.capacity stage))
-    (stands_there : LookAt scene.capacity scene.coding.size (all scene) (done scene) stage)
-    (knows : LookKnows scene.coding scene.capacity stage (sees_now scene))
-    (few : scene.steps ≤ look_number scene.coding.size stage scene.backs)
-    (alone_now : (q : ℕ) → owes (flight_of (doing_of (party_of q scene.latest))) ≡ true → IsShut (span_of q scene.events) → ⊥) where
-  open scene use {coding as code, capacity as c, party as p, latest as latest, events as events}
+-- a look at `stage`, which may end in its next step
+pub record LastStep (T : Type 0) : Type 0 where
+  -- the turn, and what holds of the machine before it
+  pub scene : Scene T
+  pub inv : Inv scene
+  -- the call, which stands at its stage, knows what that stage tells, and is within its steps
+  pub which : LookOf
+  pub stage : LookStage
+  pub here : IsUnderWay scene (looks_as which) (look_at which scene.capacity stage)
+  pub stands : LookAt scene.capacity scene.coding.size (all scene) (done scene) stage
+  pub knows : LookKnows scene.coding scene.capacity stage (sees_now scene)
+  pub few : scene.steps ≤ look_number scene.coding.size stage scene.backs
+  -- no party owes the changes a raise whose call is over
+  pub alone : (q : ℕ) → owes (flight_of (doing_of (party_of q scene.latest))) ≡ true → IsShut (span_of q scene.events) → ⊥
+
+module _ {T : Type 0} (last : LastStep T) where
+  open last use {scene, inv, which, stage, here, knows, few, stands as stands_there, alone as alone_now}
+  open last.scene use {coding as code, capacity as c, party as p, latest as latest, events as events}
 
   abbrev ws : List ℕ
   ws = scene.words
@@ -67,6 +77,10 @@ module _ {T : Type 0} (scene : Scene T) (inv : Inv scene) (which : LookOf) (stag
   -- the state of the party, which a look has
   abbrev h : HasState scene inv
   h = state_known scene inv stage knows
+
+  -- the look with the state of its party
+  abbrev looking : Looking T
+  looking = record { scene = scene; inv = inv; which = which; stage = stage; here = here; state = h.state; found = h.found }
 
   -- the operation of the step, and the word that it is handed
   abbrev ask_now : Option Ask
@@ -145,15 +159,19 @@ module _ {T : Type 0} (scene : Scene T) (inv : Inv scene) (which : LookOf) (stag
           → IsAfterLookStep scene inv (after scene (words_after ws ask_now) y (copies_of p what ++ Finished p (Container start) answer ∷ [])) what
       comes_end None =
           let written : List (Event T) = Finished p (Container start) answer ∷ [] in
-          comes scene inv which stage here h.state h.found (words_after ws ask_now) passed.same y None written
-          (silent_end T which, tt) (refl, tt) tt (λ i. fold-append (contents_after i) None events written)
-          (calls_on p events (Container start) (wrote_of p events) here.span None (Some answer))
+          comes looking (ends_alone looking passed.same (λ i. fold-append (contents_after i) None events written) (silent_end T which)) y
       comes_end (Some copy) =
           let written : List (Event T) = Copied p copy.0 copy.1 ∷ Finished p (Container start) answer ∷ [] in
-          comes scene inv which stage here h.state h.found (words_after ws ask_now) passed.same y (Some copy)
-          (Finished p (Container start) answer ∷ []) (tt, (silent_end T which, tt)) (refl, (refl, tt)) tt
-          (λ i. fold-append (contents_after i) None events written)
-          (calls_on p events (Container start) (wrote_of p events) here.span (Some copy) (Some answer))
+          let writes : LookWrites looking (words_after ws ask_now) (Some copy) (Finished p (Container start) answer ∷ []) =
+          record {
+            same = passed.same;
+            silent = (tt, (silent_end T which, tt));
+            own = (refl, (refl, tt));
+            none = tt;
+            contents = λ i. fold-append (contents_after i) None events written;
+            on = calls_on p events (Container start) (wrote_of p events) here.span (Some copy) (Some answer);
+          } in
+          comes looking writes y
 
       -- in a well-formed run the state is current, and shows moments of the look, after these events
       abbrev IsCurrentAfter : List (Event T) → Type 0

@@ -22,10 +22,10 @@ use Rattle.model.proofs.Frame as frame
 use Rattle.laws_container.proofs.Invariant.{Scene, Inv, family_by}
 use Rattle.laws_container.proofs.KeptCopies.{name_of, IsGetting, HasCopied}
 use Rattle.laws_container.proofs.Looks.{looks_as}
-use Rattle.laws_container.proofs.LooksEnd.{look_tells, look_leaves}
+use Rattle.laws_container.proofs.LooksEnd.{LastStep, look_tells, look_leaves}
 pub use Rattle.laws_container.proofs.Moves.{look_asks_none}
 use Rattle.laws_container.proofs.WellFormed.{IsWellFormedSoFar}
-use Rattle.laws_container.proofs.Sound.{MayGoOn, Shown, kept_now, scene_of, inv_with, IsThere, is_there}
+use Rattle.laws_container.proofs.Sound.{MayGoOn, Shown, SoundRun, kept_now, scene_of, inv_with, IsThere, is_there}
 use Rattle.laws_container.proofs.Stages.{all, done, any_call}
 use Rattle.laws_container.proofs.CallProgress.{look_at, LookAt, At}
 use Rattle.laws_container.proofs.Terms.{Terms}
@@ -77,7 +77,8 @@ module _ {T : Type 0} where
 
   -- ---- the call that stands there is a look
 
-  -- the call under way is a look at some stage
+  -- The call under way is a look at some stage. `c` is the capacity, and `z`, `made` and `did` are what `At` takes beside it: how many words
+  -- a value has, and what the call has done to the set and to elements.
   record IsLookFlight (c z : ℕ) (made : List SetAct) (did : List (Act T)) (a : ContainerStart T) (flight : ContainerFlight T) : Type 0 where
     pub which : LookOf
     pub stage : LookStage
@@ -115,11 +116,27 @@ look_counts size c stage = grind arith
 
 -- ---- a step in which a look ends
 
--- `c` is the capacity, `t` the run up to this turn, `s` that it is sound; the look of party `p` ends with
--- `answer` in the turn
-module _ {T : Type 0} (shown : Shown T) (terms : Terms) (code : Coding T) (c : ℕ) (t : Trace T)
-    (sound : frame.Sound (family_by terms code c) t) (may : MayGoOn terms t) (p : ℕ) (start : ContainerStart T)
-    (answer : Answer T) (look : IsLook start) (wrote : List (Event T)) where
+-- a run that is sound, and a look that its next turn ends
+pub record EndingLook (T : Type 0) : Type 0 where
+  -- what is shown of every call, and by which terms
+  pub shown : Shown T
+  pub terms : Terms
+  -- the machine up to this turn, whose run is sound and may go on
+  pub code : Coding T
+  pub capacity : ℕ
+  pub trace : Trace T
+  pub sound : frame.Sound (family_by terms code capacity) trace
+  pub may : MayGoOn terms trace
+  -- party `party` ends the look of the name `start` with `answer`, and before that writes the events `wrote` in the turn
+  pub party : ℕ
+  pub start : ContainerStart T
+  pub answer : Answer T
+  pub look : IsLook start
+  pub wrote : List (Event T)
+
+module _ {T : Type 0} (ending : EndingLook T) where
+  open ending use {shown, terms, code, capacity as c, trace as t, sound, may, party as p, start, answer, look, wrote}
+
   -- the last event of these is the end of the look
   abbrev EndsLast : List (Event T) → Type 0
   EndsLast es = es ≡ wrote ++ Finished p (Container start) answer ∷ []
@@ -314,6 +331,21 @@ module _ {T : Type 0} (shown : Shown T) (terms : Terms) (code : Coding T) (c : �
     stands : LookAt c code.size (all scene) (done scene) l.stage
     stands = look_stands l.which c code.size (all scene) (done scene) l.stage l.there.at
 
+    -- the look in its last step
+    abbrev last : LastStep T
+    last =
+        record {
+          scene = scene;
+          inv = inv;
+          which = l.which;
+          stage = l.stage;
+          here = l.there.here;
+          stands = stands;
+          knows = l.there.knows;
+          few = l.there.steps;
+          alone = alone_now;
+        }
+
     -- what the look tells of the state that it left: what its answer says, and in a
     -- well-formed run what stands
     abbrev TellsRight : ℕ → ContainerStart T → Type 0
@@ -329,7 +361,7 @@ module _ {T : Type 0} (shown : Shown T) (terms : Terms) (code : Coding T) (c : �
         let left : state_of end.party (states_after code end.party (look_at l.which c l.stage) (old l.stage) sound.state.states)
         ≡ Some state =
         ap (λ kept. state_in kept end.party) (sym l.kept_then) ∙ is in
-        let told = look_tells scene inv l.which l.stage l.there.here stands l.there.knows l.there.steps alone_now answer state l.done left in
+        let told = look_tells last answer state l.done left in
         let was : state_in t.world.kept end.party ≡ state_of end.party sound.state.states =
         ap (λ kept. state_in kept end.party) sound.fit.kept in
         let events_new : new.events
@@ -357,7 +389,7 @@ module _ {T : Type 0} (shown : Shown T) (terms : Terms) (code : Coding T) (c : �
         let left : state_of end.party (states_after code end.party (look_at l.which c l.stage) (old l.stage) sound.state.states)
         ≡ Some state =
         ap (λ kept. state_in kept end.party) (sym l.kept_then) ∙ is in
-        let told = look_tells scene inv l.which l.stage l.there.here stands l.there.knows l.there.steps alone_now answer state l.done left in
+        let told = look_tells last answer state l.done left in
         let name : IsGetting end.party t.events = ap name_of l.there.here.span ∙ ap (λ (a : ContainerStart T). Some (Container a)) gets in
         subst (HasCopied end.party i value) (sym (end.is ∙ ap (λ es. t.events ++ es) l.events_are)) (told.own name i value shown_there)
 
@@ -372,35 +404,49 @@ module _ {T : Type 0} (shown : Shown T) (terms : Terms) (code : Coding T) (c : �
     told_leaves =
         subst (λ n. is_some (state_in new.world.kept n) ≡ true) l.same
         (ap (λ kept. is_some (state_in kept end.party)) l.kept_then
-        ∙ look_leaves scene inv l.which l.stage l.there.here stands l.there.knows l.there.steps alone_now)
+        ∙ look_leaves last)
 
 -- ---- as the promise says it
 
 -- a turn from a sound machine that is not refused
-module _ {T : Type 0} (shown : Shown T) {terms : Terms} (code : Coding T) {t : Trace T} (turn : Turn T)
-    (r : IsAllowed t.world turn) (sound : frame.Sound (family_by terms code t.world.capacity) t)
-    (may : MayGoOn terms t) where
-  pub ended : (p : ℕ) (start : ContainerStart T) (answer : Answer T) (ends : EndsLook p start answer t (after_turn t turn))
-      → LookEnd shown terms code t.world.capacity t sound may p start answer ends.is_look ends.wrote (after_turn t turn)
-  ended = grind (arith, look_end, append_cancel_left)
+module _ {T : Type 0} (run : SoundRun T) (turn : Turn T) (r : IsAllowed run.trace.world turn) where
+  open run use {shown as is_shown, terms as by_terms, code as coding, trace as t, sound as is_sound, may as may_go}
+
+  -- the look that the turn ends
+  abbrev pub ending_look : {p : ℕ} {start : ContainerStart T} {answer : Answer T} → EndsLook p start answer t (after_turn t turn) → EndingLook T
+  ending_look {p} {start} {answer} ends =
+      record {
+        shown = is_shown;
+        terms = by_terms;
+        code = coding;
+        capacity = t.world.capacity;
+        trace = t;
+        sound = is_sound;
+        may = may_go;
+        party = p;
+        start = start;
+        answer = answer;
+        look = ends.is_look;
+        wrote = ends.wrote;
+      }
+
+  pub ended : {p : ℕ} {start : ContainerStart T} {answer : Answer T} (ends : EndsLook p start answer t (after_turn t turn))
+      → LookEnd (ending_look ends) (after_turn t turn)
+  ended ends = look_end (ending_look ends) turn r (append_cancel_left t.events (events_of t.world turn) _ ends.is)
 
   -- each look that ends in the turn has left the state that `LooksRightIf` says
   pub looks_right : (well_formed : Type 0)
-      (so_far : well_formed → IsWellFormedSoFar terms (after_turn t turn).world.latest (after_turn t turn).events)
+      (so_far : well_formed → IsWellFormedSoFar by_terms (after_turn t turn).world.latest (after_turn t turn).events)
       → LooksRightIf well_formed t turn (after_turn t turn)
   looks_right well_formed so_far p start answer state ends found =
-      told_right shown terms code t.world.capacity t sound may p start answer ends.is_look ends.wrote
-      (ended p start answer ends) well_formed so_far state found
+      told_right (ending_look ends) (ended ends) well_formed so_far state found
 
   -- each value that a finished `get_state` shows was copied by that call
   pub looks_own : ShowsOwnCopies t (after_turn t turn)
   looks_own p i answer state value ends found shown_there =
-      told_own shown terms code t.world.capacity t sound may p starts.GetState answer ends.is_look
-      ends.wrote (ended p starts.GetState answer ends) ⊥ (λ never. absurd never)
-      state found refl i value shown_there
+      told_own (ending_look ends) (ended ends) ⊥ (λ never. absurd never) state found refl i value shown_there
 
   -- each look that ends in the turn leaves its party a state
   pub looks_leave : LeavesState t turn (after_turn t turn)
   looks_leave p start answer ends =
-      told_leaves shown terms code t.world.capacity t sound may p start answer ends.is_look ends.wrote
-      (ended p start answer ends) ⊥ (λ never. absurd never)
+      told_leaves (ending_look ends) (ended ends) ⊥ (λ never. absurd never)

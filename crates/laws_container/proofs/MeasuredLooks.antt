@@ -56,12 +56,12 @@ module _ {T : Type 0} (code : Coding T) (c : ℕ) (words : List ℕ) where
   -- ---- a find
 
   -- the measure falls as a find comes past `index`, to the next index or to its end
-  pub find_comes : (new : List ℕ) (steps index found owner : ℕ) (was room : buffers.Buffer 128) (stage : FindStage) → new ≡ words
+  pub find_comes : {new : List ℕ} (steps index found owner : ℕ) (was room : buffers.Buffer 128) (stage : FindStage) → new ≡ words
       → behind code.size c (code.size - 1 + 4) index + steps ≤ find_left code.size c stage
       → FallsIn (M code c words) words new steps (flights.Container (find_at c owner was stage))
       (any_call code c words (as_call calls.Find answers.Number (went_on as_it_is owner room
       (find_comes_to (record { capacity = c; stage = stage; of = record {} }) (index + 1) found))))
-  find_comes new steps index found owner was room stage same enough =
+  find_comes steps index found owner was room stage same enough =
       by_bool (nat_lt (index + 1) c)
       (λ u.
       let less : index + 1 < c = grind (arith, nat_tests) in
@@ -75,11 +75,11 @@ module _ {T : Type 0} (code : Coding T) (c : ℕ) (words : List ℕ) where
       by_bool (get_or words (cell_word index) 0 == owner)
       (λ t. rw t (inl (load_leaves words (cell_word index), omega arith, omega arith)))
       (λ t.
-      rw t (find_comes _ 1 index found owner room room (finds.LoadsCell index found) (load_leaves words (cell_word index)) (omega arith)))
+      rw t (find_comes 1 index found owner room room (finds.LoadsCell index found) (load_leaves words (cell_word index)) (omega arith)))
   find_falls owner room (finds.LoadsCount index found) =
       by_bool (is_even (stands_at index))
       (λ t.
-      rw t (find_comes _ 1 index found owner room room (finds.LoadsCount index found) (load_leaves words (count_word c index)) (omega arith)))
+      rw t (find_comes 1 index found owner room room (finds.LoadsCount index found) (load_leaves words (count_word c index)) (omega arith)))
       (λ t. rw t (inl (load_leaves words (count_word c index), omega arith, omega arith)))
   find_falls owner room (finds.LoadsWord index found count at) =
       by_bool (nat_lt (at + 1) code.size)
@@ -93,7 +93,7 @@ module _ {T : Type 0} (code : Coding T) (c : ℕ) (words : List ℕ) where
       let same = check_leaves words (count_word c index) count in
       rw t (inl (rw t at same, omega arith, omega arith)))
       (λ t.
-      rw t (find_comes _ 1 index found owner room room (finds.ChecksCount index found count) (load_leaves words (count_word c index))
+      rw t (find_comes 1 index found owner room room (finds.ChecksCount index found count) (load_leaves words (count_word c index))
       (omega arith)))
   find_falls owner room (finds.Asks index found) = tt
 
@@ -105,13 +105,13 @@ module _ {T : Type 0} (code : Coding T) (c : ℕ) (words : List ℕ) where
 
   -- the measure falls as a recovery that does not lock comes past `index`, to the next index
   -- or to its last steps
-  pub recover_comes : (new : List ℕ) (steps index owner : ℕ) (was room : buffers.Buffer 128) (stage : RecoverStage) → new ≡ words
+  pub recover_comes : {new : List ℕ} (steps index owner : ℕ) (was room : buffers.Buffer 128) (stage : RecoverStage) → new ≡ words
       → behind code.size c (code.size - 1 + 8) index + 1 + steps ≤ recover_left code.size c words stage → c - (index + 1) ≤ recover_pays c stage
       → FallsIn (M code c words) words new steps (flights.Container (recovering owner was stage))
       (any_call code c words (as_call calls.Recover answers.State
       (went_on as_it_is (record { owner = owner; mode = Default }) room
       (recover_comes_to (record { capacity = c; stage = stage; of = record {} }) (index + 1)))))
-  recover_comes new steps index owner was room stage same enough pays =
+  recover_comes steps index owner was room stage same enough pays =
       by_bool (nat_lt (index + 1) c)
       (λ u.
       let less : index + 1 < c = grind (arith, nat_tests) in
@@ -132,7 +132,7 @@ module _ {T : Type 0} (code : Coding T) (c : ℕ) (words : List ℕ) where
       by_bool (get_or words (cell_word index) 0 == owner)
       (λ t. rw t (inl (load_leaves words (cell_word index), omega arith, omega arith)))
       (λ t.
-      rw t (recover_comes _ 1 index owner room room (recovers.LoadsCell index) (load_leaves words (cell_word index))
+      rw t (recover_comes 1 index owner room room (recovers.LoadsCell index) (load_leaves words (cell_word index))
       (omega arith) (omega arith)))
   recover_falls owner room (recovers.LoadsCount index) stands = go (is_even (stands_at index)) refl (nat_lt index c) refl
     where
@@ -168,7 +168,7 @@ module _ {T : Type 0} (code : Coding T) (c : ℕ) (words : List ℕ) where
           let self = same_is (stands_at index) in
           rw (number_test, even_test) (inl (load_leaves words (count_word c index), rw (inside, number_test, even_test, self) (omega arith), omega arith))
   recover_falls owner room (recovers.Asks index count) stands =
-      recover_comes _ 0 index owner room room (recovers.Asks index count) refl (omega arith) (omega arith)
+      recover_comes 0 index owner room room (recovers.Asks index count) refl (omega arith) (omega arith)
   recover_falls owner room (recovers.EmptiesCell index count) stands =
       go (get_or words (cell_word index) 0 == owner) refl (is_even count) refl
     where
@@ -180,7 +180,7 @@ module _ {T : Type 0} (code : Coding T) (c : ℕ) (words : List ℕ) where
       go true owner_test false even_test =
           rw (owner_test, even_test) (inr (omega arith, inl (cell_leaves code.size c words index empty (omega arith), omega arith)))
       go false owner_test u even_test =
-          rw owner_test (recover_comes _ 1 index owner room room (recovers.EmptiesCell index count) (load_leaves words (cell_word index))
+          rw owner_test (recover_comes 1 index owner room room (recovers.EmptiesCell index count) (load_leaves words (cell_word index))
           (omega arith) (omega arith))
   recover_falls owner room (recovers.Hides index count) stands =
       inr (omega arith, inl (hide_leaves code.size c words index count stands, omega arith))
@@ -193,7 +193,7 @@ module _ {T : Type 0} (code : Coding T) (c : ℕ) (words : List ℕ) where
       go : (t : Bool) → (now == locked) ≡ t → (u : Bool) → (now == greatest) ≡ u → StepFalls (recovering owner room stage)
       go true lock_test u end_test = rw lock_test (inl (load_leaves words 0, omega arith, omega arith))
       go false lock_test true end_test =
-          rw (lock_test, end_test) (recover_comes _ 1 index owner room room stage (load_leaves words 0) (omega arith) (omega arith))
+          rw (lock_test, end_test) (recover_comes 1 index owner room room stage (load_leaves words 0) (omega arith) (omega arith))
       go false lock_test false end_test = let self = same_is now in rw (lock_test, end_test) (inl (load_leaves words 0, rw self (omega arith), omega arith))
   recover_falls owner room (recovers.Raises index (raises.ExchangesCounter counter)) stands =
       go (now == counter) refl (now == locked) refl (now == greatest) refl (nat_lt (index + 1) c) refl
@@ -214,7 +214,7 @@ module _ {T : Type 0} (code : Coding T) (c : ℕ) (words : List ℕ) where
           rw (counter_test, lock_test) (inl (load_leaves words 0, rw counter_test (omega arith), omega arith))
       go false counter_test false lock_test true end_test v next_test =
           rw (counter_test, lock_test, end_test)
-          (recover_comes _ 1 index owner room room stage (load_leaves words 0) (rw counter_test (omega arith)) (omega arith))
+          (recover_comes 1 index owner room room stage (load_leaves words 0) (rw counter_test (omega arith)) (omega arith))
       go false counter_test false lock_test false end_test v next_test = let self = same_is now in
           rw (counter_test, lock_test, end_test) (inl (load_leaves words 0, rw (self, counter_test) (omega arith), omega arith))
   recover_falls owner room (recovers.Locks index lock) stands = absurd stands

@@ -21,7 +21,6 @@ use Rattle.steps.specs.declared.indices.robust.release.ReleaseStage.{ReleaseStag
 use Rattle.steps.specs.declared.indices.robust.release.ReleaseStage.TheVariants as releases
 use Rattle.model.specs.declared.families.Flight.{Flight}
 use Rattle.model.specs.declared.families.Flight.TheVariants as flights
-use Rattle.model.specs.declared.families.container.calls.ContainerFlight.{ContainerFlight}
 use Rattle.model.specs.declared.families.container.calls.ContainerFlight.TheVariants as calls
 use Rattle.model.proofs.LockFree.Measure.{worth}
 use Rattle.laws_robust.proofs.Measured.{raise_left, acquire_left, count_left, release_left}

@@ -8,11 +8,11 @@ pub use Rattle.laws_robust.proofs.Effects.{one_owner, quiet_end, quiet_none, qui
 pub use Rattle.laws_robust.proofs.Effects.{stays_same, unlocked}
 pub use Rattle.laws_robust.proofs.Gone.{calm_less, gone_begun, gone_less, gone_more, honest_less, lives_freed}
 pub use Rattle.laws_robust.proofs.Gone.{lives_settled, stays_lost}
-pub use Rattle.laws_robust.proofs.Grants.{gives, grants_alone, owns_then}
+pub use Rattle.laws_robust.proofs.Grants.{GivesIndex, gives, grants_alone, owns_then}
 pub use Rattle.laws_robust.proofs.Invariant.{Does, Good, Inv, IsWorn, Scene, worn_on}
 pub use Rattle.laws_robust.proofs.Knows.{Goes, IsSeen, LockSays, Spares, held_paid, knows_later, still_scanned}
 pub use Rattle.laws_robust.proofs.Opening.{admitted_is, opening_cell}
-pub use Rattle.laws_robust.proofs.Parts.{IsSaid, count_ask, count_step as part_step, lock_ask, lock_step, none_beyond}
+pub use Rattle.laws_robust.proofs.Parts.{IsSaid, count_ask, count_step as part_step, lock_ask, lock_moves, none_beyond}
 pub use Rattle.laws_robust.proofs.Parts.{raise_ask, raise_step}
 pub use Rattle.laws_robust.proofs.Past.{began_earlier, since_begun, since_less, through_less, through_now, through_so}
 pub use Rattle.laws_robust.proofs.Rights.{AreOwned, IsBy, Right, right_after}

@@ -306,9 +306,14 @@ module _ {T : Type 0} (t : Trace T) (kind_is : t.world.kind ≡ kinds.Container)
       let on = terms (faithful && few) world.coding world.capacity in
       let are_few : (faithful && few) ≡ true → world.turns < 2 ^ 64 - 2 = λ keeps. few_is world.turns (both_true faithful few keeps).1 in
       let sound_there = reached_sound (faithful && few) (λ keeps. (both_true faithful few keeps).0) are_few in
-      tells_if shown world.coding sound_there (record { room = tt; few = are_few }) turn (allowed_open world turn unrefused)
-      (IsFaithfulRun t r × IsWellFormedRun new × IsHonest new.events)
-      (λ run. well_formed_on on new (and_true faithful few run.0.faithful (is_few world.turns run.0.few)) run.2 run.1)
+      tells_if
+      (record { shown = shown; terms = on; code = world.coding; trace = t; sound = sound_there; may = record { room = tt; few = are_few } })
+      (record {
+        turn = turn;
+        allowed = allowed_open world turn unrefused;
+        well_formed = IsFaithfulRun t r × IsWellFormedRun new × IsHonest new.events;
+        so_far = λ run. well_formed_on on new (and_true faithful few run.0.faithful (is_few world.turns run.0.few)) run.2 run.1;
+      })
 
   -- where the run is faithful and the turn is no step for an owner who is gone, the run
   -- with this turn is honest

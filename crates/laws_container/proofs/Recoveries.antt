@@ -65,14 +65,32 @@ module _ {T : Type 0} where
 
 -- ---- what the recovery knows
 
--- `c` is the capacity, and `v` what the party sees before its turn, which leaves words, states and calls, and
--- writes the events `es`
-module _ {T : Type 0} (code : Coding T) (c owner : ℕ) (v : View T) {words' : List ℕ}
-    (states' : List (ℕ × ContainerState T)) (latest' : List (ℕ × Party T)) (since' changes' backs' : ℕ)
-    {es : List (Event T)} (none : BeginsNone v.party es)
-    (set_acts_more : set_acts_of v.party (v.events ++ es) ≡ set_acts_of v.party v.events ++ set_acts es)
-    (acts_more : acts_of v.party (v.events ++ es) ≡ acts_of v.party v.events ++ acts es)
-    (goes : Goes v.words words' v.events es) where
+-- A turn of the party of a recovery. It changes the set as it may (`Goes`), and begins no call of the party; and what the call has
+-- done to the set and to elements after the turn is what it had done before, and what the events of the turn do.
+pub record OwnTurn (T : Type 0) : Type 0 where
+  -- how the container is laid out, and whose indices are recovered
+  pub code : Coding T
+  pub capacity : ℕ
+  pub owner : ℕ
+  -- what the party sees before the turn
+  pub view : View T
+  -- what the turn leaves: words, states and calls, how often words had changed when the call began and have now, and the turns back
+  pub words' : List ℕ
+  pub states' : List (ℕ × ContainerState T)
+  pub latest' : List (ℕ × Party T)
+  pub since' : ℕ
+  pub changes' : ℕ
+  pub backs' : ℕ
+  -- which events it writes, and what they are
+  pub es : List (Event T)
+  pub fresh : BeginsNone view.party es
+  pub set_acts_more : set_acts_of view.party (view.events ++ es) ≡ set_acts_of view.party view.events ++ set_acts es
+  pub acts_more : acts_of view.party (view.events ++ es) ≡ acts_of view.party view.events ++ acts es
+  pub goes : Goes view.words words' view.events es
+
+module _ {T : Type 0} (turn : OwnTurn T) where
+  open turn use {code, capacity as c, owner, view as v, es, fresh, set_acts_more, acts_more, goes}
+
   abbrev p : ℕ
   p = v.party
 
@@ -84,14 +102,14 @@ module _ {T : Type 0} (code : Coding T) (c owner : ℕ) (v : View T) {words' : L
   then_view =
       record {
         terms = v.terms;
-        words = words';
-        states = states';
-        latest = latest';
+        words = turn.words';
+        states = turn.states';
+        latest = turn.latest';
         events = v.events ++ es;
         party = v.party;
-        since = since';
-        changes = changes';
-        backs = backs';
+        since = turn.since';
+        changes = turn.changes';
+        backs = turn.backs';
       }
 
   -- what the recovery was told to free or shown by the end of the turn, it was told or shown
@@ -101,12 +119,22 @@ module _ {T : Type 0} (code : Coding T) (c owner : ℕ) (v : View T) {words' : L
       (i : ℕ) → IsOneOf (Yes i owner) (set_acts_of v.party v.events ++ set_acts es) ⊎ IsOneOf (Sees i) (acts_of v.party v.events ++ acts es)
       → (IsOneOf (Yes i owner) (set_acts_of v.party v.events) ⊎ WasShown v.party i v.events) ⊎ New i
 
+  -- What a recovery learns in the turn, where it was about to free the indices in `Was`: it has asked about the indices below `k` by now, and
+  -- was told of or shown those in `New` alone; each one in `Was` or `New` is the owner's no more or is in `Now`; a freed one is hidden or in `But`.
+  pub record Learns (k : ℕ) (Was Now But : ℕ → Type 0) : Type 1 where
+    pub New : ℕ → Type 0
+    pub asked : AskedBelow code c owner k then_view
+    pub told : SplitsTold New
+    pub was : (i : ℕ) → Was i → (filled_of i (v.events ++ es) ≢ Some owner) ⊎ Now i
+    pub new : (i : ℕ) → New i → (filled_of i (v.events ++ es) ≢ Some owner) ⊎ Now i
+    pub hidden : HasHidden code c v.party owner But (now then_view)
+
   -- the recovery has still asked about the indices below `k`
   pub asked_then : (k : ℕ) → AskedBelow code c owner k v → AskedBelow code c owner k then_view
   asked_then k asked_so i below through =
       ⊎_elim (λ a. inl (subst (IsOneOf (Asks i owner)) (sym set_acts_more) (one_more_of (Asks i owner) (set_acts_of p events) (set_acts es) a)))
       (λ s. inr (subst (IsOneOf (Sees i)) (sym acts_more) (has_more (Sees i) (acts_of p events) (acts es) s)))
-      (asked_so i below (through_less p (StillToFree p owner i) events es none through))
+      (asked_so i below (through_less p (StillToFree p owner i) events es fresh through))
 
   -- the recovery has asked about one index more, if it need not free that one, or has asked
   -- about it, or was shown it
@@ -123,20 +151,16 @@ module _ {T : Type 0} (code : Coding T) (c owner : ℕ) (v : View T) {words' : L
       → ((i : ℕ) → New i → (filled_of i (v.events ++ es) ≢ Some owner) ⊎ Now i) → GoneBut code c owner Now then_view
   gone_then = grind (arith, inl, stays_lost, honest_less, inr)
 
-  -- what a recovery knows after a turn, from what it knew, how far it has come, and what it
-  -- was told or shown in it
-  pub recovers_then : {k k' : ℕ} {Was Now : ℕ → Type 0} (New : ℕ → Type 0) {But But' : ℕ → Type 0} → Recovers code c owner k Was But v
-      → AskedBelow code c owner k' then_view → SplitsTold New
-      → ((i : ℕ) → Was i → (filled_of i (v.events ++ es) ≢ Some owner) ⊎ Now i)
-      → ((i : ℕ) → New i → (filled_of i (v.events ++ es) ≢ Some owner) ⊎ Now i)
-      → HasHidden code c v.party owner But' (now then_view) → Recovers code c owner k' Now But' then_view
-  recovers_then {Was = Was} {Now = Now} New recovers asked told was new hidden =
+  -- what a recovery knows after a turn, from what it knew, and from what it has learned in the turn
+  pub recovers_then : {k k' : ℕ} {Was Now But But' : ℕ → Type 0} → Recovers code c owner k Was But v
+      → Learns k' Was Now But' → Recovers code c owner k' Now But' then_view
+  recovers_then {Was = Was} {Now = Now} recovers learns =
       record {
         dead = gone_more v.terms.by owner events es recovers.dead;
-        was_open = held_later p IsUnlocked events es none recovers.was_open;
-        asked = asked;
-        gone = gone_then Was Now New recovers.dead recovers.gone told was new;
-        hidden = hidden;
+        was_open = held_later p IsUnlocked events es fresh recovers.was_open;
+        asked = learns.asked;
+        gone = gone_then Was Now learns.New recovers.dead recovers.gone learns.told learns.was learns.new;
+        hidden = learns.hidden;
       }
 
 -- what a recovery knows with other indices exempt from being hidden

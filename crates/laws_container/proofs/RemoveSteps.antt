@@ -2,7 +2,7 @@
 -- a remove. What a step has to show is said by `StepOf` and `Leads` of `Stages`.
 use Rattle.laws_container.proofs.Names.{◌≡◌, inl, ℕ, ◌+◌, ◌<◌, ◌≤◌, false, Option, Some, None, List, [], ◌∷◌, refl}
 use Rattle.laws_container.proofs.Names.{sym, ap, subst, arith, Ask, ContainerHandleNotOwnedByContainer, RemoveStage}
-use Rattle.laws_container.proofs.Names.{ReleaseMode, count_word, empty, Finished, Container}
+use Rattle.laws_container.proofs.Names.{ReleaseMode, count_word, empty, Event, Finished, Container}
 use Rattle.laws_container.proofs.Names.{ContainerStart, ContainerFlight, place_of, words_after, loads_same}
 use Rattle.laws_container.proofs.Names.{release_at}
 use Rattle.steps.specs.declared.ask.After.TheVariants.{Done}
@@ -15,16 +15,16 @@ use Rattle.laws_robust.proofs.Invariant as set_invariant
 use Rattle.laws_robust.proofs.Knows as set_knows
 use Rattle.laws_robust.proofs.Stages as set_stages
 use Rattle.laws_container.proofs.Core.{count_at}
-use Rattle.laws_container.proofs.HiddenRemoves.{Removing, total_is, hides_step, end_step}
-use Rattle.laws_container.proofs.Invariant.{Scene, Inv, ActsFor, before, of_set, inv_of_set}
+use Rattle.laws_container.proofs.HiddenRemoves.{Removing, refused_done, refused_right, total_is, hides_step, end_step}
+use Rattle.laws_container.proofs.Invariant.{right_end, Scene, Inv, ActsFor, before, of_set, inv_of_set}
 use Rattle.laws_container.proofs.Knows.{RemoveKnows}
 use Rattle.laws_container.proofs.Silent.{silently}
-use Rattle.laws_container.proofs.Stages.{IsUnderWay, all, done, sees_now, StepOf, none_lengthens}
+use Rattle.laws_container.proofs.Stages.{Call, IsUnderWay, all, done, sees_now, StepOf, none_lengthens}
 use Rattle.laws_container.proofs.Stages.{party_then, ends}
 use Rattle.laws_container.proofs.Stages.{owes_none, was_well_formed}
 use Rattle.laws_container.proofs.CallProgress.{remove_at, remove_number, RemoveAt, place_is}
 use Rattle.laws_container.proofs.Turns.{count_in}
-use Rattle.laws_container.proofs.Removes.{refused_done, refused_right, release_step, stays_on}
+use Rattle.laws_container.proofs.Removes.{release_step, stays_on}
 
 -- the steps of one remove
 module _ {T : Type 0} (removing : Removing T) where
@@ -62,13 +62,16 @@ module _ {T : Type 0} (removing : Removing T) where
     loads_step =
         let next = removes.Releases number releases.EmptiesCell in
         let same = loads_same ws (count_word c index) in
-        stays_on removing removes.LoadsCount next here refl load_it false
-        (set_effects.stays_same (of_set scene) (inv_of_set scene inv) (words_after ws load_it) same) (omega arith)
-        (below, none, nothing) (
-          record { paid = let paid = knows.paid in omega arith; scanned = tt; owns = knows.owns; says = tt; gone = tt },
-          (below, λ kept. let eq : count_at c (words_after ws load_it) index ≡ number = ap (λ w. count_at c w index) same in omega arith),
-          λ holds lives since. inl (ap (λ w. count_at c w index) same),
-        )
+        stays_on removing removes.LoadsCount here refl next load_it false (record {
+          stays = set_effects.stays_same (of_set scene) (inv_of_set scene inv) (words_after ws load_it) same;
+          few = omega arith;
+          stands = (below, none, nothing);
+          known = (
+            record { paid = let paid = knows.paid in omega arith; scanned = tt; owns = knows.owns; says = tt; gone = tt },
+            (below, λ kept. let eq : count_at c (words_after ws load_it) index ≡ number = ap (λ w. count_at c w index) same in omega arith),
+            λ holds lives since. inl (ap (λ w. count_at c w index) same),
+          );
+        })
 
 -- ---- any step of a remove
 
@@ -87,37 +90,27 @@ module _ {T : Type 0} {scene : Scene T} (inv : Inv scene) (index : ℕ) {owner :
   -- not the container's
   past : (at : ℕ) → c ≤ index → all scene ≡ [] → StepShows removes.Refuses at
   past at beyond none here paid s =
-      let start = Remove index owner mode in
+      let start : ContainerStart T = Remove index owner mode in
       let party_after = party_then scene start None false (Done (answers.NotRemoved ContainerHandleNotOwnedByContainer)) in
-      let written = Finished p (Container start) (answers.NotRemoved ContainerHandleNotOwnedByContainer) ∷ [] in
-      ends scene start (answers.NotRemoved ContainerHandleNotOwnedByContainer) None false scene.states [] here.span none_lengthens
-      (silently inv scene.words refl party_after written (tt, tt) (refl, tt) tt here
-      (was_well_formed scene start tt here.span scene.words party_after written (refl, tt))
-      (owes_none scene party_after here refl)
-      (record {
-        asks = (tt, tt);
-        recovers = (tt, tt);
-        answers =
-            (refused_right scene.terms.by (set_invariant.IsWorn scene.terms.by scene.words) c p index owner mode events (inl beyond), tt);
-        contains = λ h. (tt, tt);
-        places = λ h. (tt, tt);
-      }))
-      ((refl, refused_done T index owner mode (all scene) (done scene) none), tt)
-      (let most = total_is c code.size index owner mode (backs + 0) T in omega arith) (omega arith)
+      let written : List (Event T) = Finished p (Container start) (answers.NotRemoved ContainerHandleNotOwnedByContainer) ∷ [] in
+      let call : Call T = record { scene = scene; inv = inv; start = start; flight = remove_at c at owner mode removes.Refuses; no_look = tt; here = here } in
+      ends scene (answers.NotRemoved ContainerHandleNotOwnedByContainer) None false here.span (record {
+        longer = none_lengthens;
+        does =
+            silently call refl (tt, tt) (refl, tt)
+            (was_well_formed scene start tt here.span scene.words party_after written (refl, tt))
+            (owes_none scene party_after here refl)
+            (right_end scene
+            (refused_right scene.terms.by (set_invariant.IsWorn scene.terms.by scene.words) c p index owner mode events (inl beyond))
+            (λ h. tt));
+        follows = ((refl, refused_done T index owner mode (all scene) (done scene) none), tt);
+        few = let most = total_is c code.size index owner mode (backs + 0) T in omega arith;
+        paid = omega arith;
+      })
 
   -- the record of a remove whose index is below the capacity
   abbrev now : index < c → Removing T
-  now below =
-      record {
-        scene = scene;
-        inv = inv;
-        index = index;
-        owner = owner;
-        mode = mode;
-        fits = fits;
-        acts = acts;
-        below = below;
-      }
+  now below = record { scene = scene; inv = inv; index = index; owner = owner; mode = mode; fits = fits; acts = acts; below = below }
 
   -- any step of a remove, at whatever stage, keeps the invariant
   pub remove_step : (stage : RemoveStage) → RemoveAt c code.size (all scene) (done scene) index owner mode stage → StepShows stage (place_of c index)

@@ -1,7 +1,7 @@
 -- The steps of a remove. It goes through the release of the set, which frees its index; then it hides what
 -- stood there, unless the number of the element has changed, and counts its change. What a step has to show
 -- is said by `StepOf` and `Leads` of `Stages`.
-use Rattle.laws_container.proofs.Names.{◌≡◌, ◌≢◌, ◌⊎◌, ⊎_elim, inl, inr, ℕ, ◌+◌, ◌%◌, ◌<◌, ◌≤◌, if◌then◌else◌, Bool}
+use Rattle.laws_container.proofs.Names.{◌≡◌, ◌≢◌, ⊎_elim, inl, inr, ℕ, ◌+◌, ◌%◌, ◌<◌, ◌≤◌, if◌then◌else◌, Bool}
 use Rattle.laws_container.proofs.Names.{false, true, Option, Some, None, List, [], ◌∷◌, ◌++◌, set, refl, sym, ap}
 use Rattle.laws_container.proofs.Names.{subst, ◌∙◌, arith, Ok, fold-append, Ask, After, GoOn}
 use Rattle.laws_container.proofs.Names.{ContainerHandleNotOwnedByContainer, RemoveStage, ReleaseMode, LockIfLastIndex}
@@ -10,9 +10,9 @@ use Rattle.laws_container.proofs.Names.{at_remove, remove_released, cell_word, e
 use Rattle.laws_container.proofs.Names.{Answer, Event, FreedOf, Locked, Finished, Container, ContainerStart}
 use Rattle.laws_container.proofs.Names.{ContainerFlight, Party, place_of, removed, promise, Act, contents_after}
 use Rattle.laws_container.proofs.Names.{HasDone, locked_after, is_locked, LivesToRelease}
-use Rattle.laws_container.proofs.Names.{SetAct, Frees, Locks, filled_of, holder_of, settled_of, IsOneOf}
-use Rattle.laws_container.proofs.Names.{as_it_is, SinceBegin, put, Stands, Open, span_of, as_call, words_after}
-use Rattle.laws_container.proofs.Names.{step_count, held_now, AllFollow, no_more, GoneBy, Word, is_gone}
+use Rattle.laws_container.proofs.Names.{Frees, Locks, filled_of, holder_of, settled_of, IsOneOf}
+use Rattle.laws_container.proofs.Names.{as_it_is, SinceBegin, Stands, Open, span_of, as_call, words_after}
+use Rattle.laws_container.proofs.Names.{step_count, held_now, AllFollow, no_more, Word, is_gone}
 use Rattle.laws_container.proofs.Names.{GivesBackRight, IsHonest, IsCalm, lives_freed, counter_of, was_one}
 use Rattle.laws_container.proofs.Names.{release_at, release_number, ReleaseAt}
 use Rattle.steps.specs.declared.ask.After.TheVariants.{Done}
@@ -27,46 +27,30 @@ use Rattle.model.specs.declared.event.Answer.TheVariants as answers
 use Rattle.model.specs.declared.families.container.ContainerStart.TheVariants.{Remove}
 use Rattle.model.specs.declared.families.container.calls.ContainerFlight.TheVariants as calls
 use Rattle.laws_robust.proofs.Effects as set_effects
-use Rattle.laws_robust.proofs.HeldRelease.{Caller, Ends, held_step}
+use Rattle.laws_robust.proofs.HeldRelease.{Releasing, Caller, Ends, held_step}
 use Rattle.laws_robust.proofs.Invariant as set_invariant
 use Rattle.laws_robust.proofs.Knows as set_knows
 use Rattle.laws_robust.proofs.Locks as set_locks
 use Rattle.laws_robust.proofs.Stages as set_stages
-use Rattle.laws_container.specs.Gone.{FreedBy, AnswersBy}
+use Rattle.laws_container.specs.Gone.{FreedBy}
 use Rattle.laws_container.proofs.Core.{count_at}
-use Rattle.laws_container.proofs.Effects.{calmly}
 use Rattle.laws_container.proofs.HiddenKnows.{RemoveCovers, StillStands, HasHidden, no_index}
-use Rattle.laws_container.proofs.HiddenRemoves.{Removing, total_is}
+use Rattle.laws_container.proofs.HiddenRemoves.{Removing, as_given, freeing, refused_done, refused_right, total_is}
 use Rattle.laws_container.proofs.HiddenOn.{hidden_even, hidden_calm, stands_calm, hidden_on, stands_on, hidden_freed}
-use Rattle.laws_container.proofs.Invariant.{KeepsInvariant, before, after, of_set, inv_of_set, wrote_of, view}
+use Rattle.laws_container.proofs.Invariant.{KeepsInvariant, right_end, before, after, of_set, inv_of_set, wrote_of}
 use Rattle.laws_container.proofs.Knows.{View, HasLeft, ReleaseHides, ReleaseLeft, RemoveSays, IsPaid, Knows}
 use Rattle.laws_container.proofs.Left.{left_after, left_of}
 use Rattle.laws_container.proofs.SetSteps.{rest_set, wide_set, frees, locks}
 use Rattle.laws_container.proofs.Silent.{silently}
-use Rattle.laws_container.proofs.Stages.{IsUnderWay, all, done, sees_now, then_sees, StepOf, Leads, none_lengthens}
+use Rattle.laws_container.proofs.Stages.{sees_calmly, AreInCall, IsUnderWay, all, done, sees_now, then_sees, StepOf, Leads, none_lengthens}
 use Rattle.laws_container.proofs.Stages.{party_then, since_then, changes_then, backs_then, goes_on, goes_calmly, ends}
-use Rattle.laws_container.proofs.Stages.{owes_none, was_well_formed, was_well_formed_calmly, does_with}
+use Rattle.laws_container.proofs.Stages.{owes_none, was_well_formed, was_well_formed_calmly}
 use Rattle.laws_container.proofs.CallProgress.{remove_at, remove_number, release_total, RemoveAt, place_is}
-use Rattle.laws_container.proofs.Steps.{calm_none, right_none}
+use Rattle.laws_container.proofs.SetStays.{moves}
 use Rattle.laws_container.proofs.Terms.{Keeps}
 use Rattle.laws_container.proofs.Turns.{remove_owes, count_in}
 use Rattle.laws_container.proofs.Writing.{even_is, odd_is}
 use Rattle.laws_robust.proofs.Cases.{on_bool}
-
--- ---- what its answers say, by the mode
-
--- a remove that answers that its handle is not the container's has done nothing to the set
-pub refused_done : (T : Type 0) (index owner : ℕ) (mode : ReleaseMode) (set_acts : List SetAct) (acts : List (Act T))
-    → set_acts ≡ []
-    → HasDone {T = T} (Remove index owner mode) (answers.NotRemoved ContainerHandleNotOwnedByContainer) set_acts acts
-refused_done = grind arith
-
--- that answer is right where the index is not below the capacity, or is not filled with
--- the owner of the handle
-pub refused_right : {T : Type 0} (by : GoneBy) (worn : Type 0) (c p index owner : ℕ) (mode : ReleaseMode) (events : List (Event T))
-    → (c ≤ index) ⊎ (filled_of index events ≢ Some owner)
-    → AnswersBy by worn c events (Finished p (Container (Remove index owner mode)) (answers.NotRemoved ContainerHandleNotOwnedByContainer))
-refused_right = grind arith
 
 -- a remove is under way: of the handle with `index` and `owner`, in mode `mode`, by party `p` of the scene
 module _ {T : Type 0} (removing : Removing T) where
@@ -106,8 +90,7 @@ module _ {T : Type 0} (removing : Removing T) where
   -- what the remove sees after a step that writes nothing and leads to stage `next`
   abbrev SeesCalmly : RemoveStage → Option Ask → Bool → View T
   SeesCalmly next ask back =
-      view scene.terms (words_after ws ask) scene.states (put p (then_at next ask back) latest) events p
-      (since_then scene ask) (changes_then scene ask) (backs_then scene back)
+      sees_calmly scene ask back scene.states (then_at next ask back)
 
   given_is : ◌≡◌ {A = GiveBack} (record { index = index; owner = owner; mode = mode }) (record { index = place_of c index; owner = owner; mode = mode })
   given_is = grind (arith, place_is)
@@ -119,25 +102,26 @@ module _ {T : Type 0} (removing : Removing T) where
   stays_does : (stage : RemoveStage) → IsAtStage stage → {words' : List ℕ} → set_effects.Stays (of_set scene) words'
       → {y : Party T} → remove_owes stage ≡ false → KeepsInvariant scene words' scene.states y []
   stays_does stage here {words'} stays {y} owes =
-      let well_formed = was_well_formed scene start tt here.span words' y [] tt in
-      does_with scene inv tt here
-      (calmly scene inv words' y [] well_formed (λ n behind. stays.others n (omega arith)) stays.leaves.wide
-      (calm_none scene inv start (at_stage stage) tt here y words' well_formed)
-      (owes_none scene y here owes))
-      (set_effects.quietly (of_set scene) (inv_of_set scene inv) words' [] stays.leaves set_effects.quiet_none tt tt tt)
-      (right_none scene inv start (at_stage stage) tt here y)
+      moves (as_given removing stage here) y stays (was_well_formed scene start tt here.span words' y [] tt) (owes_none scene y here owes)
 
-  -- a step that leaves all words but the counter, and writes nothing, leads a remove to the stage `next`,
-  -- where the conditions of that stage hold
-  pub stays_on : (stage next : RemoveStage) → IsAtStage stage → remove_owes stage ≡ false → (ask : Option Ask) (back : Bool)
-      → set_effects.Stays (of_set scene) (words_after ws ask)
-      → steps + step_count ask ≤ remove_number c index owner mode next (backs_then scene back)
-      → RemoveAt c z (all scene) (done scene) index owner mode next
-      → Knows code c (at_stage next) (SeesCalmly next ask back) → Leads scene start ask back scene.states [] (GoOn (at_stage next))
-  stays_on stage next here owes ask back stays few stands known =
-      goes_calmly scene start (at_stage next) ask back scene.states here.span
-      (stays_does stage here stays owes) few (refl, given_is, fits, stands)
-      known
+  -- What has to be shown of a step that leaves all words but the counter, and writes nothing, by which the remove comes to the stage `next`:
+  -- after it the remove is within its steps, stands at that stage and knows what it tells.
+  pub record StaysOn (next : RemoveStage) (ask : Option Ask) (back : Bool) : Type 0 where
+    pub stays : set_effects.Stays (of_set scene) (words_after ws ask)
+    pub few : steps + step_count ask ≤ remove_number c index owner mode next (backs_then scene back)
+    pub stands : RemoveAt c z (all scene) (done scene) index owner mode next
+    pub known : Knows code c (at_stage next) (SeesCalmly next ask back)
+
+  -- such a step leads a remove that owes no raise of the changes to that stage
+  pub stays_on : (stage : RemoveStage) → IsAtStage stage → remove_owes stage ≡ false → (next : RemoveStage) (ask : Option Ask) (back : Bool)
+      → StaysOn next ask back → Leads scene start ask back scene.states [] (GoOn (at_stage next))
+  stays_on stage here owes next ask back on =
+      goes_calmly scene (at_stage next) ask back here.span (record {
+        does = stays_does stage here on.stays owes;
+        few = on.few;
+        stands = (refl, given_is, fits, on.stands);
+        known = on.known;
+      })
 
   -- a remove that finds another owner in the cell ends with the answer that its handle is not the container's
   refuses : (stage : RemoveStage) → IsAtStage stage → remove_owes stage ≡ false → (ask : Option Ask)
@@ -146,23 +130,21 @@ module _ {T : Type 0} (removing : Removing T) where
       → Leads scene start ask false scene.states [] (Done (answers.NotRemoved ContainerHandleNotOwnedByContainer))
   refuses stage here owes ask same other none paid few =
       let party_after = party_then scene start ask false (Done (answers.NotRemoved ContainerHandleNotOwnedByContainer)) in
-      let written = Finished p (Container start) (answers.NotRemoved ContainerHandleNotOwnedByContainer) ∷ [] in
+      let written : List (Event T) = Finished p (Container start) (answers.NotRemoved ContainerHandleNotOwnedByContainer) ∷ [] in
       let most = total_is c z index owner mode (backs_then scene false) T in
-      ends scene start (answers.NotRemoved ContainerHandleNotOwnedByContainer) ask false scene.states [] here.span none_lengthens
-      (silently inv (words_after ws ask) same party_after written (tt, tt) (refl, tt) tt here
-      (was_well_formed scene start tt here.span (words_after ws ask) party_after written (refl, tt))
-      (owes_none scene party_after here owes)
-      (record {
-        asks = (tt, tt);
-        recovers = (tt, tt);
-        answers = (
-          refused_right scene.terms.by (set_invariant.IsWorn scene.terms.by (words_after ws ask)) c p index owner mode events (inr other),
-          tt,
-        );
-        contains = λ h. (tt, tt);
-        places = λ h. (tt, tt);
-      }))
-      ((refl, refused_done T index owner mode (all scene) (done scene) none), tt) (omega arith) (omega arith)
+      ends scene (answers.NotRemoved ContainerHandleNotOwnedByContainer) ask false here.span (record {
+        longer = none_lengthens;
+        does =
+            silently (as_given removing stage here) same (tt, tt) (refl, tt)
+            (was_well_formed scene start tt here.span (words_after ws ask) party_after written (refl, tt))
+            (owes_none scene party_after here owes)
+            (right_end scene
+            (refused_right scene.terms.by (set_invariant.IsWorn scene.terms.by (words_after ws ask)) c p index owner mode events (inr other))
+            (λ h. tt));
+        follows = ((refl, refused_done T index owner mode (all scene) (done scene) none), tt);
+        few = omega arith;
+        paid = omega arith;
+      })
 
   -- ---- the release
 
@@ -185,6 +167,22 @@ module _ {T : Type 0} (removing : Removing T) where
     began : IsCalm scene.terms.by (events ++ FreedOf p index owner ∷ [])
         → (is_gone scene.terms.by owner events ≡ false) × SinceBegin p (λ part since. settled_of index part ≡ Some owner) events
     began = grind (arith, lives_freed, gives_back)
+
+    -- the release of the remove, as the set has it
+    abbrev releasing : Releasing T
+    releasing =
+        record {
+          scene = of_set scene;
+          inv = inv_of_set scene inv;
+          index = index;
+          owner = owner;
+          mode = mode;
+          fits = fits;
+          below = below;
+          lives = lives;
+          began = began;
+          extra = 1;
+        }
 
     -- what a step of the release leads to, as a step of the remove
     abbrev LeadsInRemove : Option Ask → Bool → List (Event T) → After set_calls.Release Released → Type 0
@@ -253,11 +251,11 @@ module _ {T : Type 0} (removing : Removing T) where
         (then_at (removes.Releases count releases.EmptiesCell) ask back) well_formed)
         lives since)
     hides_next (releases.Raises raise) ask back stays stands =
-        stands_calm scene start tt here.span owner (words_after ws ask)
+        stands_calm (freeing removing this here) (words_after ws ask)
         (then_at (removes.Releases count (releases.Raises raise)) ask back) index count
         (stays.others (count_word c index) (omega arith)) (stands_still stands)
     hides_next (releases.Locks lock) ask back stays stands =
-        stands_calm scene start tt here.span owner (words_after ws ask)
+        stands_calm (freeing removing this here) (words_after ws ask)
         (then_at (removes.Releases count (releases.Locks lock)) ask back) index count
         (stays.others (count_word c index) (omega arith)) (stands_still stands.2)
 
@@ -267,13 +265,13 @@ module _ {T : Type 0} (removing : Removing T) where
 
     -- the end of the release says what the remove needs for its own answer
     says_now : (next : RemoveStage) (ask : Option Ask) (back : Bool) (m : ReleaseMode) (state : ReleaseState)
-        → Ends (of_set scene) (inv_of_set scene inv) index owner mode fits below lives began 1 (words_after ws ask) m state
+        → Ends releasing (words_after ws ask) m state
         → RemoveSays code c index owner m state (SeesCalmly next ask back)
     says_now = grind (arith, held_now)
 
     -- a remove that has freed its index and ends with this state has done to the set what the answer says
     done_now : (words' : List ℕ) (m : ReleaseMode) (state : ReleaseState)
-        → Ends (of_set scene) (inv_of_set scene inv) index owner mode fits below lives began 1 words' m state
+        → Ends releasing words' m state
         → all scene ≡ Frees index owner ∷ []
         → HasDone {T = T} (Remove index owner m) (answers.State state) (all scene) []
     done_now words' m state why freed = grind arith
@@ -282,7 +280,7 @@ module _ {T : Type 0} (removing : Removing T) where
     -- change if nothing stood there
     released : (state : ReleaseState) (ask : Option Ask) (back : Bool)
         → set_effects.Stays (of_set scene) (words_after ws ask)
-        → Ends (of_set scene) (inv_of_set scene inv) index owner mode fits below lives began 1 (words_after ws ask) mode state
+        → Ends releasing (words_after ws ask) mode state
         → all scene ≡ Frees index owner ∷ []
         → backs_then scene back + since_then scene ask ≤ changes_then scene ask
         → steps + step_count ask ≤ 1 + release_total c index owner mode (backs_then scene back)
@@ -294,29 +292,37 @@ module _ {T : Type 0} (removing : Removing T) where
         (is_even count)
         -- nothing stood at the index: the remove counts its change next
         (λ t.
-        stays_on this (removes.AddsChange state) here refl ask back stays (omega arith)
-        (below, done_now (words_after ws ask) mode state why freed) (
-          paid,
-          says_now (removes.AddsChange state) ask back mode state why,
-          hidden_calm scene start tt here.span owner (words_after ws ask)
-              (then_at (removes.AddsChange state) ask back) (none_stands freed t),
-        ))
+        stays_on this here refl (removes.AddsChange state) ask back (record {
+          stays = stays;
+          few = omega arith;
+          stands = (below, done_now (words_after ws ask) mode state why freed);
+          known = (
+            paid,
+            says_now (removes.AddsChange state) ask back mode state why,
+            hidden_calm (freeing removing this here) (words_after ws ask) (then_at (removes.AddsChange state) ask back) (none_stands freed t),
+          );
+        }))
         -- a value stood at the index: the remove hides it next
         (λ t.
-        stays_on this (removes.Hides count state) here refl ask back stays (omega arith) (
-          below,
-          done_now (words_after ws ask) mode state why freed,
-          subst (IsOneOf (Frees index owner)) (sym freed) (record { before = []; after = []; is = refl }),
-          nothing,
-          odd_is count t,
-        ) (
-          paid,
-          says_now (removes.Hides count state) ask back mode state why,
-          left_calm (removes.Hides count state) ask back stays (has_left freed),
-          stands_calm scene start tt here.span owner (words_after ws ask)
-              (then_at (removes.Hides count state) ask back) index count
-              (stays.others (count_word c index) (omega arith)) (stands_still freed),
-        ))
+        stays_on this here refl (removes.Hides count state) ask back (record {
+          stays = stays;
+          few = omega arith;
+          stands = (
+            below,
+            done_now (words_after ws ask) mode state why freed,
+            subst (IsOneOf (Frees index owner)) (sym freed) (record { before = []; after = []; is = refl }),
+            nothing,
+            odd_is count t,
+          );
+          known = (
+            paid,
+            says_now (removes.Hides count state) ask back mode state why,
+            left_calm (removes.Hides count state) ask back stays (has_left freed),
+            stands_calm (freeing removing this here) (words_after ws ask)
+                (then_at (removes.Hides count state) ask back) index count
+                (stays.others (count_word c index) (omega arith)) (stands_still freed),
+          );
+        }))
 
     -- the release has ended by locking the set: the remove hides next what stood at the index, or counts its
     -- change if nothing stood there
@@ -333,50 +339,57 @@ module _ {T : Type 0} (removing : Removing T) where
         (is_even count)
         -- nothing stood at the index: the remove counts its change next
         (λ t.
-        goes_on scene start (at_stage (removes.AddsChange states.Locked)) ask false
-        scene.states (Locked p ∷ []) here.span (λ start w. refl)
-        (does (then_at (removes.AddsChange states.Locked) ask false)) stands
-        (omega arith)
-        (refl, given_is, fits, (below, done_then)) (
-          paid,
-          says,
-          hidden_on scene start tt here.span owner (words_after ws ask)
-              (then_at (removes.AddsChange states.Locked) ask false) (Locked p ∷ [])
-              (refl, tt) tt (λ start w. refl) frees_none (none_stands freed t),
-        ))
+        goes_on scene (at_stage (removes.AddsChange states.Locked)) ask false here.span (record {
+          longer = λ start w. refl;
+          does = does (then_at (removes.AddsChange states.Locked) ask false);
+          follows = stands;
+          few = omega arith;
+          stands = (refl, given_is, fits, (below, done_then));
+          known = (
+            paid,
+            says,
+            hidden_on (freeing removing this here) (words_after ws ask)
+                (then_at (removes.AddsChange states.Locked) ask false) lock_in_call frees_none (none_stands freed t),
+          );
+        }))
         -- a value stood at the index: the remove hides it next
         (λ t.
-        goes_on scene start (at_stage (removes.Hides count states.Locked)) ask false
-        scene.states (Locked p ∷ []) here.span (λ start w. refl)
-        (does (then_at (removes.Hides count states.Locked) ask false)) stands
-        (omega arith) (
-          refl,
-          given_is,
-          fits,
-          (
-            below,
-            done_then,
-            subst (λ d. IsOneOf (Frees index owner) (d ++ Locks ∷ [])) (sym freed)
-                (record { before = []; after = Locks ∷ []; is = refl }),
-            ap (λ (d : List (Act T)). d ++ []) nothing,
-            odd_is count t,
-          ),
-        ) (
-          paid,
-          says,
-          left_then (then_at (removes.Hides count states.Locked) ask false),
-          stands_then (then_at (removes.Hides count states.Locked) ask false),
-        ))
+        goes_on scene (at_stage (removes.Hides count states.Locked)) ask false here.span (record {
+          longer = λ start w. refl;
+          does = does (then_at (removes.Hides count states.Locked) ask false);
+          follows = stands;
+          few = omega arith;
+          stands = (
+            refl,
+            given_is,
+            fits,
+            (
+              below,
+              done_then,
+              subst (λ d. IsOneOf (Frees index owner) (d ++ Locks ∷ [])) (sym freed)
+                  (record { before = []; after = Locks ∷ []; is = refl }),
+              ap (λ (d : List (Act T)). d ++ []) nothing,
+              odd_is count t,
+            ),
+          );
+          known = (
+            paid,
+            says,
+            left_then (then_at (removes.Hides count states.Locked) ask false),
+            stands_then (then_at (removes.Hides count states.Locked) ask false),
+          );
+        }))
       where
+        lock_in_call : AreInCall scene (Locked p ∷ [])
+        lock_in_call = record { own = (refl, tt); fresh = tt; longer = λ start w. refl }
+
         set_does : set_invariant.Does (of_set scene) (words_after ws ask) (Locked p ∷ [])
         set_does = set_locks.locks (of_set scene) (inv_of_set scene inv) (words_after ws ask) [] set_effects.quiet_none tt tt tt nobody less new
 
         -- for the machine of the container the lock does what it does for that of the set
         does : (y : Party T) → KeepsInvariant scene (words_after ws ask) scene.states y (Locked p ∷ [])
         does y =
-            locks scene inv start (at_stage this) tt here y (words_after ws ask)
-            (rest_set scene inv start (at_stage this) tt here y (words_after ws ask) 0 locked (omega arith) new)
-            (wide_set scene inv start (at_stage this) tt here y (words_after ws ask) 0 locked new) set_does
+            locks (as_given removing this here) y (rest_set scene 0 locked (omega arith) new) (wide_set scene 0 locked new) set_does
             (was_well_formed scene start tt here.span (words_after ws ask) y (Locked p ∷ []) (refl, tt)) (owes_none scene y here refl)
 
         -- the event of the lock may stand in this remove, which has freed its index
@@ -394,7 +407,7 @@ module _ {T : Type 0} (removing : Removing T) where
         left_then y =
             let h = has_left freed in
             let same : count_at c (words_after ws ask) index ≡ count_in code c (before scene) index =
-            rest_set scene inv start (at_stage this) tt here y (words_after ws ask) 0 locked (omega arith) new
+            rest_set scene 0 locked (omega arith) new
             (count_word c index) (omega arith) in
             record {
               within = h.within;
@@ -415,44 +428,51 @@ module _ {T : Type 0} (removing : Removing T) where
             (StillStands code c index count (after scene (words_after ws ask) y (Locked p ∷ [])))
             (after scene (words_after ws ask) y (Locked p ∷ []))
         stands_then y =
-            stands_on scene start tt here.span owner (words_after ws ask) y (Locked p ∷ []) (refl, tt) tt (λ start w. refl) frees_none index count
-            (rest_set scene inv start (at_stage this) tt here y (words_after ws ask) 0 locked (omega arith) new (count_word c index) (omega arith))
+            stands_on (freeing removing this here) (words_after ws ask) y lock_in_call frees_none index count
+            (rest_set scene 0 locked (omega arith) new (count_word c index) (omega arith))
             (fold-append (contents_after index) None events (Locked p ∷ [])) (stands_still freed)
 
     -- what the release of the set leads to as part of a remove: one field for each kind of step of the
     -- release, and for each of its ends
-    caller : Caller (of_set scene) (inv_of_set scene inv) index owner mode fits below lives began 1 LeadsInRemove
+    caller : Caller releasing LeadsInRemove
     -- the release goes on in a step that leaves all words but the counter
     caller =
         record {
           quiet = λ next ask back stays at known few.
-              stays_on this (removes.Releases count next) here refl ask back stays (omega arith)
-              (below, at, nothing) (known, left_next next ask back stays at, hides_next next ask back stays at);
+              stays_on this here refl (removes.Releases count next) ask back (record {
+                stays = stays;
+                few = omega arith;
+                stands = (below, at, nothing);
+                known = (known, left_next next ask back stays at, hides_next next ask back stays at);
+              });
           freed = λ ask new does none known few.
               let next = removes.Releases count (releases.Raises raises.LoadsCounter) in
               let party_after = then_at next ask false in
               let written : List (Event T) = FreedOf p index owner ∷ [] in
-              let rest = rest_set scene inv start (at_stage this) tt here party_after (words_after ws ask) (cell_word index) empty (omega arith) new in
+              let rest = rest_set scene (cell_word index) empty (omega arith) new in
               let same : count_at c (words_after ws ask) index ≡ count_in code c (before scene) index = rest (count_word c index) (omega arith) in
-              goes_on scene start (at_stage next) ask false scene.states written here.span (λ start w. refl)
-              (frees scene inv start (at_stage this) tt here party_after (words_after ws ask) rest
-              (wide_set scene inv start (at_stage this) tt here party_after (words_after ws ask) (cell_word index) empty new)
-              index owner does
-              (was_well_formed scene start tt here.span (words_after ws ask) party_after written (refl, tt))
-              (owes_none scene party_after here refl)
-              (subst (FreedBy scene.terms.by p index owner events) (sym here.span) tt))
-              ((refl, refl, none), tt) (omega arith)
-              (refl, given_is, fits, (below, ap (λ d. d ++ Frees index owner ∷ []) none, ap (λ (d : List (Act T)). d ++ []) nothing)) (
-                known,
-                record {
-                  within = below;
-                  below = low same;
-                  left = λ holds is. fold-append (left_after index) true events written ∙ set_effects.at_same index index true (left_of index events) refl;
-                },
-                hidden_freed scene start tt here.span owner inv index count below (words_after ws ask) party_after same
-                    (λ holds i was. absurd (no_more was.before (Frees i owner) was.after (sym none ∙ was.is)))
-                    (λ earlier holds. covers none earlier (acts.stays earlier.kept) (began holds.calm).1),
-              );
+              goes_on scene (at_stage next) ask false here.span (record {
+                longer = λ start w. refl;
+                does =
+                    frees (as_given removing this here) party_after rest (wide_set scene (cell_word index) empty new) does
+                    (was_well_formed scene start tt here.span (words_after ws ask) party_after written (refl, tt))
+                    (owes_none scene party_after here refl)
+                    (subst (FreedBy scene.terms.by p index owner events) (sym here.span) tt);
+                follows = ((refl, refl, none), tt);
+                few = omega arith;
+                stands = (refl, given_is, fits, (below, ap (λ d. d ++ Frees index owner ∷ []) none, ap (λ (d : List (Act T)). d ++ []) nothing));
+                known = (
+                  known,
+                  record {
+                    within = below;
+                    below = low same;
+                    left = λ holds is. fold-append (left_after index) true events written ∙ set_effects.at_same index index true (left_of index events) refl;
+                  },
+                  hidden_freed (freeing removing this here) index count below (words_after ws ask) party_after same
+                      (λ holds i was. absurd (no_more was.before (Frees i owner) was.after (sym none ∙ was.is)))
+                      (λ earlier holds. covers none earlier (acts.stays earlier.kept) (began holds.calm).1),
+                );
+              });
           refused = λ ask same other none paid few. refuses this here refl ask same other none (omega arith) few;
           ended = λ state ask back stays why freed paid few. released state ask back stays why freed paid few;
           locks = λ ask may_lock nobody less new freed paid few. locked_by ask may_lock nobody less new freed paid few;
@@ -470,5 +490,5 @@ module _ {T : Type 0} (removing : Removing T) where
         → steps ≤ 1 + release_number c mode stage backs
         → StepOf scene start (at_stage (removes.Releases count stage))
     release_step knows few_steps =
-        held_step (of_set scene) (inv_of_set scene inv) index owner mode fits below lives began 1 LeadsInRemove caller
+        held_step releasing LeadsInRemove caller
         stage now_at knows few_steps

@@ -1,16 +1,16 @@
 -- The steps of a replace from the one on at which it has found its owner in the cell: it loads the number of
--- the element, hides what stands there, stores the words of its value, places it and counts the change. At
--- last, any step of a replace. What a step has to show is said by `StepOf` and `Leads` of `Stages`.
+-- the element, hides what stands there, stores the words of its value, places it and counts the change. What
+-- a step has to show is said by `StepOf` and `Leads` of `Stages`.
 use Rattle.laws_container.proofs.Names.{◌≡◌, ◌≢◌, ⊎_elim, inl, inr, ℕ, ◌+◌, ◌%◌, ◌<◌, ◌≤◌, ◌==◌, if◌then◌else◌}
-use Rattle.laws_container.proofs.Names.{nat_lt, Bool, false, true, Option, Some, None, is_some, List, [], ◌∷◌, ◌++◌}
+use Rattle.laws_container.proofs.Names.{nat_lt, false, true, Option, Some, None, is_some, List, [], ◌∷◌, ◌++◌}
 use Rattle.laws_container.proofs.Names.{get_or, set, fold, refl, sym, ap, subst, ◌∙◌, append-nil, arith, cases_eq}
-use Rattle.laws_container.proofs.Names.{nat_tests, fold-append, Ask, After, GoOn, ContainerHandleNotOwnedByContainer}
+use Rattle.laws_container.proofs.Names.{nat_tests, fold-append, Ask, After, GoOn}
 use Rattle.laws_container.proofs.Names.{ReplaceStage, change_word, count_word, element_word, is_even, Replaced}
-use Rattle.laws_container.proofs.Names.{at_replace, empty, one_more, went_on, Answer, Event, Placed, Hidden, Finished}
-use Rattle.laws_container.proofs.Names.{Container, ContainerStart, ContainerFlight, Party, place_of, replaced}
-use Rattle.laws_container.proofs.Names.{StandsWellFormed, Hides, places, contents_after, contents_of, announced_after}
-use Rattle.laws_container.proofs.Names.{announced_of, IsFilledWith, SetAct, settled_after, as_it_is, BeginsNone, put}
-use Rattle.laws_container.proofs.Names.{as_call, words_after, held_later, AreOwn, at_same, at_other, quiet_end}
+use Rattle.laws_container.proofs.Names.{at_replace, one_more, went_on, Answer, Event, Placed, Hidden, Finished}
+use Rattle.laws_container.proofs.Names.{Container, ContainerStart, ContainerFlight, Party, replaced}
+use Rattle.laws_container.proofs.Names.{Hides, places, contents_after, contents_of, announced_after}
+use Rattle.laws_container.proofs.Names.{announced_of, IsFilledWith, SetAct, settled_after, as_it_is, put}
+use Rattle.laws_container.proofs.Names.{as_call, words_after, held_later, at_same, at_other, quiet_end}
 use Rattle.laws_container.proofs.Names.{calm_less, gone_less, loads_same, exchanges, fails_same}
 use Rattle.steps.specs.declared.ask.After.TheVariants.{Done}
 use Rattle.steps.specs.declared.container.replace.Replace as replace_calls
@@ -18,28 +18,28 @@ use Rattle.steps.specs.declared.container.replace.ReplaceStage.TheVariants as re
 use Rattle.model.specs.declared.event.Answer.TheVariants as answers
 use Rattle.model.specs.declared.families.container.ContainerStart.TheVariants.{Replace}
 use Rattle.model.specs.declared.families.container.calls.ContainerFlight.TheVariants as calls
-use Rattle.laws_robust.proofs.Effects as set_effects
 use Rattle.laws_robust.proofs.Stages as set_stages
 use Rattle.laws_container.proofs.AddWrites.{placed_once}
 use Rattle.laws_container.proofs.Contents.{store_writes}
 use Rattle.laws_container.proofs.Core.{count_at, count_set}
-use Rattle.laws_container.proofs.Invariant.{Scene, Inv, ActsFor, before, after, of_set, inv_of_set, view}
+use Rattle.laws_container.proofs.Invariant.{before, after, inv_of_set}
 use Rattle.laws_container.proofs.Keeping.{replacing}
-use Rattle.laws_container.proofs.Knows.{View, ReplaceKnows, Covers, Writes, HasPlaced, Stood, ReplacesKnow, Knows}
+use Rattle.laws_container.proofs.Knows.{View, ReplaceKnows, Covers, Writes, HasPlaced, Stood, Knows}
 use Rattle.laws_container.proofs.Left.{left_after, left_of}
 use Rattle.laws_container.proofs.WellFormed.{IsWellFormedSoFar, well_formed_before}
 use Rattle.laws_container.proofs.Replacers.{replacer_after}
 use Rattle.laws_container.proofs.Replaces.{ReplaceOwns, earlier}
 use Rattle.laws_container.proofs.Sets.{leaves_behind}
-use Rattle.laws_container.proofs.Stages.{IsUnderWay, Lengthens, all, done, sees_now, then_sees, StepOf, Leads}
-use Rattle.laws_container.proofs.Stages.{none_lengthens, party_then, since_then, changes_then, backs_then, acts_more}
-use Rattle.laws_container.proofs.Stages.{goes_on, goes_calmly, ends, owes_none}
-use Rattle.laws_container.proofs.CallProgress.{replace_at, replace_number, ReplaceAt, MayHaveHidden, place_is}
-use Rattle.laws_container.proofs.Steps.{stores_word, hides, places as places_it, misplaces, ends_counted, ends_calmly}
+use Rattle.laws_container.proofs.Stages.{sees_calmly, AreInCall, none_in_call, IsUnderWay, all, done, sees_now, then_sees, StepOf, Leads}
+use Rattle.laws_container.proofs.Stages.{none_lengthens, party_then, acts_more}
+use Rattle.laws_container.proofs.Stages.{goes_on, goes_calmly, ends}
+use Rattle.laws_container.proofs.CallProgress.{replace_at, replace_number, ReplaceAt, MayHaveHidden}
+use Rattle.laws_container.proofs.Steps.{StoresWord, stores_word, hides, places as places_it, misplaces, end_does, ends_counted}
 use Rattle.laws_container.proofs.Turns.{WellFormed, replace_owes, count_in}
 use Rattle.laws_container.proofs.Writers.{IsWriter, one_writer}
 use Rattle.laws_container.proofs.Writing.{even_is, odd_is, adds_one, stores_to, adds_to_count, adds_to_change, hides_count}
-use Rattle.laws_container.proofs.ReplaceSteps.{Replacing, calm_step, cell_step, found_calm, found_then, given_is, stands_if, was_calm, was_going}
+use Rattle.laws_container.proofs.ReplaceSteps.{Replacing, as_given, calm_step, found_calm, found_then, given_is}
+use Rattle.laws_container.proofs.ReplaceSteps.{stands_if, was_calm, was_going}
 use Rattle.laws_robust.proofs.Cases.{on_bool}
 
 -- a replace is under way: of the value at `index`, with the handle's `owner`, by party `p` of the scene
@@ -80,8 +80,7 @@ module _ {T : Type 0} (replacing : Replacing T) where
   -- what the replace sees after a step that writes nothing and leads to stage `next`
   abbrev SeesCalmly : ReplaceStage → Ask → View T
   SeesCalmly next ask =
-      view scene.terms (words_after ws (Some ask)) scene.states (put p (then_at next (Some ask)) latest) events p
-      (since_then scene (Some ask)) (changes_then scene (Some ask)) (backs_then scene false)
+      sees_calmly scene (Some ask) false scene.states (then_at next (Some ask))
 
   -- ---- it has found him
 
@@ -109,7 +108,7 @@ module _ {T : Type 0} (replacing : Replacing T) where
 
     -- the party writes the events `es`, which begin none of its calls, and change neither for whom the index
     -- is settled nor whose replace of it is the latest
-    module _ (es : List (Event T)) (own : AreOwn p es) (none : BeginsNone p es) (longer : Lengthens es)
+    module _ {es : List (Event T)} (written : AreInCall scene es)
         (settled : (o : Option ℕ) → fold (settled_after i) o es ≡ o)
         (replacer : (o : Option ℕ) → fold (replacer_after i owner) o es ≡ o) where
       -- after events that leave the set, the replace has its right to the index as before
@@ -117,7 +116,7 @@ module _ {T : Type 0} (replacing : Replacing T) where
       owns_then calm lives may =
           let h =
           knows.owns (calm_less scene.terms.by events es calm) (gone_less scene.terms.by owner events es lives)
-          (earlier none may).may in
+          (earlier written.fresh may).may in
           record {
             settled = fold-append (settled_after i) None events es ∙ (settled _ ∙ h.settled);
             latest = fold-append (replacer_after i owner) None events es ∙ (replacer _ ∙ h.latest);
@@ -132,8 +131,8 @@ module _ {T : Type 0} (replacing : Replacing T) where
                 omega arith;
             within = below;
             owns = owns_then;
-            found = found_then replacing stage next here ask es own longer;
-            filled = held_later p (IsFilledWith owner index) events es none knows.filled;
+            found = found_then replacing stage next here ask written;
+            filled = held_later p (IsFilledWith owner index) events es written.fresh knows.filled;
           }
 
     -- where the number of the element is even, a replace that has stored no word knows that none
@@ -165,26 +164,35 @@ module _ {T : Type 0} (replacing : Replacing T) where
 
       -- the step in which a replace loads the number of the element: it goes on to hide the element if the
       -- number is odd, and to store its first word if it is even
-      count_step : StepOf scene start (at_stage replaces.LoadsCount)
+      pub count_step : StepOf scene start (at_stage replaces.LoadsCount)
       count_step =
           on_bool (λ b. Leads scene start (Some (set_stages.loads (count_word c i))) false scene.states []
           (as_replace (if b then GoOn (at_replace first (replaces.Stores 0)) else GoOn (at_replace first (replaces.Hides number)))))
           (is_even number)
           (λ t.
           let some = inv.elements.coded.some in
-          calm_step replacing replaces.LoadsCount (replaces.Stores 0) load_it (loads_same ws (count_word c i)) here knows.filled refl (omega arith)
-          (below, none_done, inl nothing, omega arith) (
-            knows_calm replaces.LoadsCount (replaces.Stores 0) here load_it,
-            first_word replaces.LoadsCount (replaces.Stores 0) here load_it
-                (loads_same ws (count_word c i)) (λ holds. even_is number t),
-          ))
+          calm_step replacing replaces.LoadsCount here knows.filled (replaces.Stores 0) load_it (record {
+            same = loads_same ws (count_word c i);
+            owes = refl;
+            few = omega arith;
+            stands = (below, none_done, inl nothing, omega arith);
+            known = (
+              knows_calm replaces.LoadsCount (replaces.Stores 0) here load_it,
+              first_word replaces.LoadsCount (replaces.Stores 0) here load_it
+                  (loads_same ws (count_word c i)) (λ holds. even_is number t),
+            );
+          }))
           (λ t.
-          calm_step replacing replaces.LoadsCount (replaces.Hides number) load_it
-          (loads_same ws (count_word c i)) here knows.filled refl (omega arith)
-          (below, none_done, nothing, odd_is number t) (
-            knows_calm replaces.LoadsCount (replaces.Hides number) here load_it,
-            (λ holds lives. inl (ap (λ w. count_at c w i) (loads_same ws (count_word c i)))),
-          ))
+          calm_step replacing replaces.LoadsCount here knows.filled (replaces.Hides number) load_it (record {
+            same = loads_same ws (count_word c i);
+            owes = refl;
+            few = omega arith;
+            stands = (below, none_done, nothing, odd_is number t);
+            known = (
+              knows_calm replaces.LoadsCount (replaces.Hides number) here load_it,
+              (λ holds lives. inl (ap (λ w. count_at c w i) (loads_same ws (count_word c i)))),
+            );
+          }))
 
     -- ---- what stands there is hidden
 
@@ -199,7 +207,7 @@ module _ {T : Type 0} (replacing : Replacing T) where
 
       -- the step in which a replace hides what stands at the index: it goes on to its first word, whether it
       -- finds the loaded number or another one
-      hide_step : StepOf scene start (at_stage (replaces.Hides count))
+      pub hide_step : StepOf scene start (at_stage (replaces.Hides count))
       hide_step =
           on_bool (λ b. Leads scene start (Some (exchanges (count_word c i) count (one_more count))) false scene.states
           ((if b then Hidden p i ∷ [] else []) ++ []) (GoOn (at_stage (replaces.Stores 0))))
@@ -210,42 +218,51 @@ module _ {T : Type 0} (replacing : Replacing T) where
           let some = inv.elements.coded.some in
           let wide = inv.elements.wide in
           let party_after = then_at (replaces.Stores 0) (Some hide_it) in
-          let told_now = Hidden p i ∷ [] in
+          let told_now : List (Event T) = Hidden p i ∷ [] in
+          let in_call : AreInCall scene told_now = record { own = (refl, tt); fresh = tt; longer = λ start w. refl } in
           let new = hides_count inv i count below same_count in
           let now_odd : now_at % 2 ≡ 1 = ap (λ n. n % 2) same_count ∙ odd in
           let well_formed =
-          was_going replacing (replaces.Hides count) here knows.filled (words_after ws (Some hide_it)) party_after told_now
-          (refl, tt) tt (λ start w. refl) (omega arith) in
+          was_going replacing (replaces.Hides count) here knows.filled (words_after ws (Some hide_it)) party_after in_call (omega arith) in
           let after : count_at c (words_after ws (Some hide_it)) i ≡ one_more now_at =
           ap (λ w. count_at c w i) new ∙ count_set c code.size ws i (one_more now_at) (omega arith) in
-          goes_on scene start (at_stage (replaces.Stores 0)) (Some hide_it) false scene.states told_now here.span (λ start w. refl)
-          (hides scene inv start (at_stage (replaces.Hides count)) tt here party_after
-          (words_after ws (Some hide_it)) i below new refl now_odd
-          (λ holds q ne o theirs fresh. nobody_else holds q ne o theirs) well_formed)
-          ((refl, nothing), tt) (omega arith) (
-            refl,
-            given_is replacing,
-            fits,
-            (below, ap (λ (d : List SetAct). d ++ []) none_done, inr (ap (λ d. d ++ Hides i ∷ []) nothing), omega arith),
-          ) (
-            knows_then told_now (refl, tt) tt (λ start w. refl) (λ o. refl) (λ o. refl)
-                (replaces.Hides count) (replaces.Stores 0) here hide_it,
-            record {
-              few = omega arith;
-              has = λ holds lives. record { even = ap (λ n. n % 2) after ∙ omega arith; written = λ j js. absurd (omega arith) };
-            },
-          ))
+          goes_on scene (at_stage (replaces.Stores 0)) (Some hide_it) false here.span (record {
+            longer = λ start w. refl;
+            does =
+                hides (as_given replacing (replaces.Hides count) here) party_after (record { below = below; new = new; owed = refl }) now_odd
+                (λ holds q ne o theirs fresh. nobody_else holds q ne o theirs) well_formed;
+            follows = ((refl, nothing), tt);
+            few = omega arith;
+            stands = (
+              refl,
+              given_is replacing,
+              fits,
+              (below, ap (λ (d : List SetAct). d ++ []) none_done, inr (ap (λ d. d ++ Hides i ∷ []) nothing), omega arith),
+            );
+            known = (
+              knows_then in_call (λ o. refl) (λ o. refl) (replaces.Hides count) (replaces.Stores 0) here hide_it,
+              record {
+                few = omega arith;
+                has = λ holds lives. record { even = ap (λ n. n % 2) after ∙ omega arith; written = λ j js. absurd (omega arith) };
+              },
+            );
+          }))
           -- the number is another one: another call has hidden what stood there, and the step changes nothing
           (λ t.
           let other : now_at ≢ count = grind (arith, nat_tests) in
           let some = inv.elements.coded.some in
           let same = fails_same ws (count_word c i) count (one_more count) other in
-          calm_step replacing (replaces.Hides count) (replaces.Stores 0) hide_it same here
-          knows.filled refl (omega arith) (below, none_done, inl nothing, omega arith) (
-            knows_calm (replaces.Hides count) (replaces.Stores 0) here hide_it,
-            first_word (replaces.Hides count) (replaces.Stores 0) here hide_it same
-                (λ holds. ⊎_elim (λ e. absurd (other e)) (λ even. even) (covers holds (acts.stays holds.kept))),
-          ))
+          calm_step replacing (replaces.Hides count) here knows.filled (replaces.Stores 0) hide_it (record {
+            same = same;
+            owes = refl;
+            few = omega arith;
+            stands = (below, none_done, inl nothing, omega arith);
+            known = (
+              knows_calm (replaces.Hides count) (replaces.Stores 0) here hide_it,
+              first_word (replaces.Hides count) (replaces.Stores 0) here hide_it same
+                  (λ holds. ⊎_elim (λ e. absurd (other e)) (λ even. even) (covers holds (acts.stays holds.kept))),
+            );
+          }))
 
     -- ---- a word is stored
 
@@ -262,14 +279,20 @@ module _ {T : Type 0} (replacing : Replacing T) where
           → Knows code c (at_stage next) (SeesCalmly next store_it)
           → Leads scene start (Some store_it) false scene.states [] (GoOn (at_stage next))
       store_to next owe few stands known =
-          goes_calmly scene start (at_stage next) (Some store_it) false scene.states here.span
-          (stores_word scene inv start (at_stage (replaces.Stores at)) tt here
-          (then_at next (Some store_it)) below ats owner mine
-          (λ holds. has_stored.has holds (acts.stays holds.kept)) refl
-          (was_going replacing (replaces.Stores at) here knows.filled (words_after ws (Some store_it))
-          (then_at next (Some store_it)) [] tt tt none_lengthens (omega arith))
-          (λ was. owe))
-          few (refl, given_is replacing, fits, stands) known
+          goes_calmly scene (at_stage next) (Some store_it) false here.span (record {
+            does =
+                stores_word (as_given replacing (replaces.Stores at) here) (then_at next (Some store_it)) word_stored
+                (was_going replacing (replaces.Stores at) here knows.filled (words_after ws (Some store_it))
+                (then_at next (Some store_it)) (none_in_call scene) (omega arith))
+                (λ was. owe);
+            few = few;
+            stands = (refl, given_is replacing, fits, stands);
+            known = known;
+          })
+        where
+          word_stored : StoresWord (as_given replacing (replaces.Stores at) here) (then_at next (Some store_it))
+              (words_after ws (Some store_it)) i at value owner
+          word_stored = record { below = below; word = ats; mine = mine; writing = λ holds. has_stored.has holds (acts.stays holds.kept); new = refl }
 
       -- after the store of a word, one word more of the value is written
       one_more_word : (next : ReplaceStage) → Writes code c owner i value (at + 1) (SeesCalmly next store_it)
@@ -283,7 +306,7 @@ module _ {T : Type 0} (replacing : Replacing T) where
           }
 
       -- the step in which a replace stores a word: it goes on to the next word, or to placing the value
-      store_step : StepOf scene start (at_stage (replaces.Stores at))
+      pub store_step : StepOf scene start (at_stage (replaces.Stores at))
       store_step =
           on_bool (λ b. Leads scene start (Some (stores_to (element_word c code.size i at) (get_or (code.words_of value) at 0)))
           false scene.states []
@@ -323,49 +346,58 @@ module _ {T : Type 0} (replacing : Replacing T) where
       new = adds_to_count inv i below
 
       -- the step in which a replace raises the number to an odd one places its value
-      place_step : StepOf scene start (at_stage replaces.AddsCount)
+      pub place_step : StepOf scene start (at_stage replaces.AddsCount)
       place_step =
           on_bool (λ b. Leads scene start (Some (adds_one (count_word c i))) false scene.states
           ((if b then Placed p i value ∷ [] else []) ++ []) (GoOn (at_stage replaces.AddsChange)))
           (is_even count_now)
           -- the number is even: the step places the value
           (λ t.
-          let es = Placed p i value ∷ [] in
+          let es : List (Event T) = Placed p i value ∷ [] in
+          let in_call : AreInCall scene es = record { own = (refl, tt); fresh = tt; longer = λ start has_stored. refl } in
           let well_formed =
-          was_going replacing replaces.AddsCount here knows.filled (words_after ws (Some add_it)) y es (refl, tt)
-          tt (λ start has_stored. refl) (omega arith) in
-          goes_on scene start (at_stage replaces.AddsChange) (Some add_it) false scene.states es here.span (λ start has_stored. refl)
-          (places_it scene inv start (at_stage replaces.AddsCount) tt here y
-          (words_after ws (Some add_it)) i below new refl value owner acts mine
-          (λ holds. has_stored.has holds (acts.stays holds.kept)) well_formed)
-          ((refl, refl, hidden), tt) (omega arith) (refl, given_is replacing, fits, (below, ap (λ (d : List SetAct). d ++ []) none_done)) (
-            knows_then es (refl, tt) tt (λ start has_stored. refl) (λ o. refl) (λ o. refl) replaces.AddsCount
-                replaces.AddsChange here add_it,
-            (λ holds. ap (λ a. places a) (acts_more scene start here.span es (refl, tt) (λ start has_stored. refl)) ∙ placed_once (done scene) i value hidden),
-            (λ holds lives. (
-              fold-append (left_after i) true events es ∙ at_same i i false (left_of i events) refl,
-              ap is_some (fold-append (contents_after i) None events es ∙ at_same i i (Some value) (contents_of i events) refl),
-            )),
-          ))
+          was_going replacing replaces.AddsCount here knows.filled (words_after ws (Some add_it)) y in_call (omega arith) in
+          goes_on scene (at_stage replaces.AddsChange) (Some add_it) false here.span (record {
+            longer = λ start has_stored. refl;
+            does =
+                places_it (as_given replacing replaces.AddsCount here) y (record { below = below; new = new; owed = refl }) acts mine
+                (λ holds. has_stored.has holds (acts.stays holds.kept)) well_formed;
+            follows = ((refl, refl, hidden), tt);
+            few = omega arith;
+            stands = (refl, given_is replacing, fits, (below, ap (λ (d : List SetAct). d ++ []) none_done));
+            known = (
+              knows_then in_call (λ o. refl) (λ o. refl) replaces.AddsCount replaces.AddsChange here add_it,
+              (λ holds. ap (λ a. places a) (acts_more scene start here.span es (refl, tt) (λ start has_stored. refl))
+                  ∙ placed_once (done scene) i value hidden),
+              (λ holds lives. (
+                fold-append (left_after i) true events es ∙ at_same i i false (left_of i events) refl,
+                ap is_some (fold-append (contents_after i) None events es ∙ at_same i i (Some value) (contents_of i events) refl),
+              )),
+            );
+          }))
           -- the number is odd: a well-formed run has no such step, so nothing is to be said of what stands
           (λ t.
           let well_formed =
-          was_going replacing replaces.AddsCount here knows.filled (words_after ws (Some add_it)) y [] tt tt none_lengthens (omega arith) in
+          was_going replacing replaces.AddsCount here knows.filled (words_after ws (Some add_it)) y (none_in_call scene) (omega arith) in
           let ill_formed =
           λ (holds : WellFormed (after scene (words_after ws (Some add_it)) y [])).
           let even = (has_stored.has (well_formed holds) (acts.stays holds.kept)).even in
           let odd = odd_is count_now t in
           absurd {A = ⊥} (omega arith) in
-          goes_calmly scene start (at_stage replaces.AddsChange) (Some add_it) false scene.states here.span
-          (misplaces scene inv start (at_stage replaces.AddsCount) tt here y
-          (words_after ws (Some add_it)) i below new refl well_formed ill_formed)
-          (omega arith) (refl, given_is replacing, fits, (below, none_done)) (
-            knows_calm replaces.AddsCount replaces.AddsChange here add_it,
-            (λ holds. absurd
-                (ill_formed (subst (λ es. IsWellFormedSoFar scene.terms (put p y latest) es) (sym (append-nil events)) holds))),
-            (λ holds lives. absurd
-                (ill_formed (subst (λ es. IsWellFormedSoFar scene.terms (put p y latest) es) (sym (append-nil events)) holds))),
-          ))
+          let never = λ (holds : IsWellFormedSoFar scene.terms (put p y latest) events).
+          ill_formed (subst (λ es. IsWellFormedSoFar scene.terms (put p y latest) es) (sym (append-nil events)) holds) in
+          goes_calmly scene (at_stage replaces.AddsChange) (Some add_it) false here.span (record {
+            does =
+                misplaces (as_given replacing replaces.AddsCount here) y {i = i} (record { below = below; new = new; owed = refl })
+                well_formed ill_formed;
+            few = omega arith;
+            stands = (refl, given_is replacing, fits, (below, none_done));
+            known = (
+              knows_calm replaces.AddsCount replaces.AddsChange here add_it,
+              (λ holds. absurd (never holds)),
+              (λ holds lives. absurd (never holds)),
+            );
+          }))
 
     -- ---- the change is counted, and the call ends
 
@@ -376,93 +408,33 @@ module _ {T : Type 0} (replacing : Replacing T) where
       end_it = adds_one (change_word c)
 
       -- the step in which a replace counts its change ends the replace
-      end_step : StepOf scene start (at_stage replaces.AddsChange)
+      pub end_step : StepOf scene start (at_stage replaces.AddsChange)
       end_step =
           let party_after = party_then scene start (Some end_it) false (Done answers.Done) in
-          let written = Finished p (Container start) answers.Done ∷ [] in
+          let written : List (Event T) = Finished p (Container start) answers.Done ∷ [] in
           let well_formed =
           well_formed_before scene.terms p party_after latest events written (refl, tt) (λ h. stands_if replacing replaces.AddsChange here
           (λ few. h.replaced events [] (Finished p (Container start) answers.Done) refl)) in
           let new = adds_to_change inv in
-          ends scene start answers.Done (Some end_it) false scene.states [] here.span none_lengthens
-          (ends_counted scene inv start (at_stage replaces.AddsChange) tt here party_after answers.Done
-          (set_effects.quietly (of_set scene) (inv_of_set scene inv) (words_after ws (Some end_it)) written
-          (leaves_behind (inv_of_set scene inv) (words_after ws (Some end_it)) (change_word c) _ (omega arith) new)
-          (quiet_end p (Container start) answers.Done (λ i o. refl) (λ i r. refl))
-          (refl, tt) (tt, tt) (tt, tt))
-          (below, knows.filled) well_formed (λ holds. placed (well_formed holds)) new says)
-          ((refl, none_done), tt) (omega arith) (let paid = knows.paid in omega arith)
+          ends scene answers.Done (Some end_it) false here.span (record {
+            longer = none_lengthens;
+            does = ends_counted (as_given replacing replaces.AddsChange here) party_after (record {
+              set_does =
+                  end_does (as_given replacing replaces.AddsChange here) party_after
+                  (leaves_behind (inv_of_set scene inv) (words_after ws (Some end_it)) (change_word c) _ (omega arith) new)
+                  (quiet_end p (Container start) answers.Done (λ i o. refl) (λ i r. refl));
+              answers = (below, knows.filled);
+              placed = λ holds. placed (well_formed holds);
+              well_formed = well_formed;
+            })
+                new says;
+            follows = ((refl, none_done), tt);
+            few = omega arith;
+            paid = let paid = knows.paid in omega arith;
+          })
         where
           -- an index that is announced once the replace has ended has a value
           says : WellFormed (before scene) → (a : ℕ)
               → announced_after a (announced_of a events) (Finished p (Container (Replace index value owner)) answers.Done) ≡ true
               → is_some (contents_of a events) ≡ true
           says = grind (arith, is_some, at_other, cases_eq)
-
--- ---- any step of a replace
-
--- a replace of this value at `index` for `owner` is under way in the turn of the scene
-module _ {T : Type 0} {scene : Scene T} (inv : Inv scene) (index : ℕ) (value : T) {owner : ℕ} (fits : owner < empty) (acts : ActsFor scene owner) where
-  open scene use {coding as code, capacity as c, party as p, steps as steps, backs as backs, events as events, latest as latest}
-
-  -- a step of the replace at this stage, of the place `at`, keeps the invariant
-  abbrev StepShows : ReplaceStage → ℕ → Type 0
-  StepShows stage at =
-      IsUnderWay scene (Replace index value owner) (replace_at c at value owner stage)
-      → ReplacesKnow code c at value owner stage (sees_now scene) → steps ≤ replace_number code.size stage
-      → StepOf scene (Replace index value owner) (replace_at c at value owner stage)
-
-  -- a replace whose index is not below the capacity ends with the answer that its handle
-  -- is not the container's
-  refuses : (at : ℕ) → c ≤ index → all scene ≡ [] → done scene ≡ [] → StepShows replaces.Refuses at
-  refuses at past none_done nothing here paid s =
-      let start = Replace index value owner in
-      let party_after = party_then scene start None false (Done (answers.NotRemoved ContainerHandleNotOwnedByContainer)) in
-      let written = Finished p (Container start) (answers.NotRemoved ContainerHandleNotOwnedByContainer) ∷ [] in
-      let well_formed =
-      well_formed_before scene.terms p party_after latest events written (refl, tt)
-      (λ h. subst (λ o. StandsWellFormed p o events) (sym here.found)
-      (λ index' owner' value' wrote' span few found. let taken = here.taken in absurd (omega arith))) in
-      ends scene start (answers.NotRemoved ContainerHandleNotOwnedByContainer) None false scene.states [] here.span none_lengthens
-      (ends_calmly scene inv start (replace_at c at value owner replaces.Refuses) tt here party_after
-      (answers.NotRemoved ContainerHandleNotOwnedByContainer)
-      (set_effects.quietly (of_set scene) (inv_of_set scene inv) scene.words written
-      (set_effects.stays_same (of_set scene) (inv_of_set scene inv) scene.words refl).leaves
-      (quiet_end p (Container start) (answers.NotRemoved ContainerHandleNotOwnedByContainer)
-      (λ i o. refl) (λ i r. refl))
-      (refl, tt) (tt, tt) (tt, tt))
-      (inl past) well_formed (λ holds. tt) refl (λ i b. refl) (owes_none scene party_after here refl))
-      ((refl, (none_done, nothing)), tt) (omega arith) (omega arith)
-
-  -- the record of a replace whose index is below the capacity, and which has done nothing to the set
-  abbrev now : index < c → all scene ≡ [] → Replacing T
-  now below none_done =
-      record {
-        scene = scene;
-        inv = inv;
-        index = index;
-        value = value;
-        owner = owner;
-        fits = fits;
-        acts = acts;
-        below = below;
-        none_done = none_done;
-      }
-
-  -- any step of a replace, at whatever stage, keeps the invariant
-  pub replace_step : (stage : ReplaceStage) → ReplaceAt c code.size (all scene) (done scene) index stage → StepShows stage (place_of c index)
-  replace_step replaces.Refuses stands = refuses (place_of c index) stands.0 stands.1 stands.2
-  replace_step replaces.LoadsCell stands =
-      subst (StepShows replaces.LoadsCell) (sym (place_is c index stands.0)) (λ here k s. cell_step (now stands.0 stands.1) here stands.2 k.0 k.1 s)
-  replace_step replaces.LoadsCount stands =
-      subst (StepShows replaces.LoadsCount) (sym (place_is c index stands.0)) (λ here k s. count_step (now stands.0 stands.1) k here stands.2 s)
-  replace_step (replaces.Hides count) stands =
-      subst (StepShows (replaces.Hides count)) (sym (place_is c index stands.0))
-      (λ here k s. hide_step (now stands.0 stands.1) k.0 here stands.2 stands.3 k.1 s)
-  replace_step (replaces.Stores word) stands =
-      subst (StepShows (replaces.Stores word)) (sym (place_is c index stands.0))
-      (λ here k s. store_step (now stands.0 stands.1) k.0 here stands.2 stands.3 k.1 s)
-  replace_step replaces.AddsCount stands =
-      subst (StepShows replaces.AddsCount) (sym (place_is c index stands.0)) (λ here k s. place_step (now stands.0 stands.1) k.0 here stands.2 k.1 s)
-  replace_step replaces.AddsChange stands =
-      subst (StepShows replaces.AddsChange) (sym (place_is c index stands.0)) (λ here k s. end_step (now stands.0 stands.1) k.0 here k.1 k.2 s)

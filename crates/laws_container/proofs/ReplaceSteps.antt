@@ -1,15 +1,15 @@
 -- The steps of a replace up to the load of its cell, and what its other steps need. Once it has found its
 -- owner in the cell it may write at its index until it ends, in a well-formed run. What a step has to show is
 -- said by `StepOf` and `Leads` of `Stages`.
-use Rattle.laws_container.proofs.Names.{◌≡◌, ◌≢◌, inr, ℕ, ◌+◌, ◌<◌, ◌≤◌, ◌==◌, if◌then◌else◌, Bool, false, true}
+use Rattle.laws_container.proofs.Names.{◌≡◌, ◌≢◌, inr, ℕ, ◌+◌, ◌<◌, ◌≤◌, ◌==◌, if◌then◌else◌, false, true}
 use Rattle.laws_container.proofs.Names.{Option, Some, List, [], ◌∷◌, ◌++◌, fold, refl, sym, ap, subst, ◌∙◌}
 use Rattle.laws_container.proofs.Names.{append-nil, arith, Err, nat_tests, Ask, After, GoOn}
 use Rattle.laws_container.proofs.Names.{ContainerHandleNotOwnedByContainer, Replacement, ReplaceStage, Replaced}
 use Rattle.laws_container.proofs.Names.{at_replace, cell_word, empty, went_on, Answer, Event, Finished, Container}
 use Rattle.laws_container.proofs.Names.{ContainerStart, ContainerFlight, Party, place_of, replaced, StandsWellFormed}
-use Rattle.laws_container.proofs.Names.{MayReplace, cell_of, IsFilledWith, as_it_is, BeginsNone, HeldSometime}
+use Rattle.laws_container.proofs.Names.{MayReplace, cell_of, IsFilledWith, as_it_is, HeldSometime}
 use Rattle.laws_container.proofs.Names.{party_of, put, Open, own_after, span_of, as_call, words_after, held_now}
-use Rattle.laws_container.proofs.Names.{held_later, party_put_same, AreOwn, span_of-own, cell, filled_by, quiet_end}
+use Rattle.laws_container.proofs.Names.{held_later, party_put_same, span_of-own, cell, filled_by, quiet_end}
 use Rattle.laws_container.proofs.Names.{loads_same}
 use Rattle.steps.specs.declared.ask.After.TheVariants.{Done}
 use Rattle.steps.specs.declared.container.replace.Replace as replace_calls
@@ -19,15 +19,15 @@ use Rattle.model.specs.declared.families.container.ContainerStart.TheVariants.{R
 use Rattle.model.specs.declared.families.container.calls.ContainerFlight.TheVariants as calls
 use Rattle.laws_robust.proofs.Effects as set_effects
 use Rattle.laws_robust.proofs.Stages as set_stages
-use Rattle.laws_container.proofs.Invariant.{Scene, Inv, ActsFor, before, after, of_set, inv_of_set, view, wrote_of}
+use Rattle.laws_container.proofs.Invariant.{Scene, Inv, ActsFor, before, after, of_set, inv_of_set, wrote_of}
 use Rattle.laws_container.proofs.Knows.{View, HasFound, IsPaid, Knows}
 use Rattle.laws_container.proofs.WellFormed.{IsWellFormedSoFar, well_formed_before}
 use Rattle.laws_container.proofs.Replaces.{ReplaceOwns, earlier}
-use Rattle.laws_container.proofs.Stages.{IsUnderWay, Lengthens, all, done, sees_now, then_sees, StepOf, Leads}
-use Rattle.laws_container.proofs.Stages.{none_lengthens, party_then, since_then, changes_then, backs_then}
+use Rattle.laws_container.proofs.Stages.{sees_calmly, Call, AreInCall, none_in_call, IsUnderWay, all, done, sees_now, then_sees, StepOf, Leads}
+use Rattle.laws_container.proofs.Stages.{none_lengthens, party_then}
 use Rattle.laws_container.proofs.Stages.{goes_calmly, ends, owes_none}
 use Rattle.laws_container.proofs.CallProgress.{replace_at, replace_number, ReplaceAt, place_is}
-use Rattle.laws_container.proofs.Steps.{loads, ends_calmly}
+use Rattle.laws_container.proofs.Steps.{loads, end_does, ends_calmly}
 use Rattle.laws_container.proofs.Turns.{WellFormed, replace_owes}
 use Rattle.laws_robust.proofs.Cases.{on_bool}
 
@@ -79,6 +79,10 @@ module _ {T : Type 0} (replacing : Replacing T) where
   abbrev IsAtStage : ReplaceStage → Type 0
   IsAtStage stage = IsUnderWay scene (Replace index value owner) (replace_at c index value owner stage)
 
+  -- the replace at this stage, as a call of the container
+  abbrev pub as_given : (stage : ReplaceStage) → IsAtStage stage → Call T
+  as_given stage here = record { scene = scene; inv = inv; start = start; flight = at_stage stage; no_look = tt; here = here }
+
   -- the party after the step by which the replace comes to stage `next`
   abbrev then_at : ReplaceStage → Option Ask → Party T
   then_at next ask = party_then scene start ask false (GoOn (at_stage next))
@@ -97,49 +101,48 @@ module _ {T : Type 0} (replacing : Replacing T) where
   -- where the run is well-formed after a step of a replace that had its owner in the cell, the replace was
   -- begun where it might replace
   may_before : (stage : ReplaceStage) → IsAtStage stage → HeldSometime p (IsFilledWith owner index) events
-      → (y : Party T) (es : List (Event T)) → AreOwn p es → BeginsNone p es → Lengthens es → 1 ≤ y.steps
+      → (y : Party T) {es : List (Event T)} → AreInCall scene es → 1 ≤ y.steps
       → IsWellFormedSoFar scene.terms (put p y latest) (events ++ es) → MayReplace p index owner events
-  may_before stage here filled y es own none longer few well_formed_so_far =
+  may_before stage here filled y {es} written few well_formed_so_far =
       let span : span_of p (events ++ es) ≡ Open (Container (Replace index value owner)) (wrote_of p events ++ es) =
-      span_of-own p events es own ∙ (ap (λ s. fold own_after s es) here.span ∙ longer start (wrote_of p events)) in
+      span_of-own p events es written.own ∙ (ap (λ s. fold own_after s es) here.span ∙ written.longer start (wrote_of p events)) in
       let stands : StandsWellFormed p (Some y) (events ++ es) =
       subst (λ o. StandsWellFormed p o (events ++ es)) (party_put_same p y latest) (well_formed_so_far.replaces p) in
-      (earlier none
-      (stands index owner value (wrote_of p events ++ es) span few (held_later p (IsFilledWith owner index) events es none filled))).may
+      (earlier written.fresh
+      (stands index owner value (wrote_of p events ++ es) span few (held_later p (IsFilledWith owner index) events es written.fresh filled))).may
 
   -- the run was well-formed before a step of a replace that has found its owner, if it is after it
   pub was_going : (stage : ReplaceStage) → IsAtStage stage → HeldSometime p (IsFilledWith owner index) events
-      → (words' : List ℕ) (y : Party T) (es : List (Event T)) → AreOwn p es → BeginsNone p es → Lengthens es
+      → (words' : List ℕ) (y : Party T) {es : List (Event T)} → AreInCall scene es
       → 1 ≤ y.steps → WellFormed (after scene words' y es) → WellFormed (before scene)
-  was_going stage here filled words' y es own none longer few =
-      well_formed_before scene.terms p y latest events es own (λ h. stands_if stage here (λ s. may_before stage here filled y es own none longer few h))
+  was_going stage here filled words' y {es} written few =
+      well_formed_before scene.terms p y latest events es written.own
+      (λ h. stands_if stage here (λ s. may_before stage here filled y written few h))
 
   -- the run was well-formed before a step that writes nothing, of a replace that has found its owner, if it
   -- is after it
   pub was_calm : (stage : ReplaceStage) → IsAtStage stage → HeldSometime p (IsFilledWith owner index) events → (y : Party T)
       → 1 ≤ y.steps → IsWellFormedSoFar scene.terms (put p y latest) events → WellFormed (before scene)
   was_calm stage here filled y few well_formed_so_far =
-      was_going stage here filled ws y [] tt tt none_lengthens few
+      was_going stage here filled ws y (none_in_call scene) few
       (subst (λ es. IsWellFormedSoFar scene.terms (put p y latest) es) (sym (append-nil events)) well_formed_so_far)
 
   -- after a step the party's call is still this replace, which has taken a step
-  pub found_then : (stage next : ReplaceStage) → IsAtStage stage → (ask : Ask) (es : List (Event T)) → AreOwn p es
-      → Lengthens es
+  pub found_then : (stage next : ReplaceStage) → IsAtStage stage → (ask : Ask) {es : List (Event T)} → AreInCall scene es
       → HasFound index owner value (then_sees scene (Some ask) false scene.states (then_at next (Some ask)) es)
-  found_then stage next here ask es own longer =
+  found_then stage next here ask {es} written =
       record {
         party = then_at next (Some ask);
         found = party_put_same p (then_at next (Some ask)) latest;
         steps = omega arith;
         wrote = wrote_of p events ++ es;
-        span = span_of-own p events es own ∙ (ap (λ s. fold own_after s es) here.span ∙ longer start (wrote_of p events));
+        span = span_of-own p events es written.own ∙ (ap (λ s. fold own_after s es) here.span ∙ written.longer start (wrote_of p events));
       }
 
   -- after a step that writes nothing the party's call is still this replace, which has taken a step
   pub found_calm : (stage next : ReplaceStage) → IsAtStage stage → (ask : Ask)
       → HasFound index owner value
-      (view scene.terms (words_after ws (Some ask)) scene.states (put p (then_at next (Some ask)) latest) events p
-      (since_then scene (Some ask)) (changes_then scene (Some ask)) (backs_then scene false))
+      (sees_calmly scene (Some ask) false scene.states (then_at next (Some ask)))
   found_calm stage next here ask =
       record {
         party = then_at next (Some ask);
@@ -154,22 +157,30 @@ module _ {T : Type 0} (replacing : Replacing T) where
   -- what the replace sees after a step that writes nothing and leads to stage `next`
   abbrev SeesCalmly : ReplaceStage → Ask → View T
   SeesCalmly next ask =
-      view scene.terms (words_after ws (Some ask)) scene.states (put p (then_at next (Some ask)) latest) events p
-      (since_then scene (Some ask)) (changes_then scene (Some ask)) (backs_then scene false)
+      sees_calmly scene (Some ask) false scene.states (then_at next (Some ask))
 
-  -- a step that leaves the words and writes nothing leads a replace to the stage `next`, where the conditions
-  -- of that stage hold
-  pub calm_step : (stage next : ReplaceStage) (ask : Ask) → words_after ws (Some ask) ≡ ws → IsAtStage stage
-      → HeldSometime p (IsFilledWith owner index) events → replace_owes next ≡ true
-      → steps + 1 ≤ replace_number code.size next → ReplaceAt c code.size (all scene) (done scene) index next
-      → Knows code c (at_stage next) (SeesCalmly next ask)
-      → Leads scene start (Some ask) false scene.states [] (GoOn (at_stage next))
-  calm_step stage next ask same here filled owe few stands known =
-      goes_calmly scene start (at_stage next) (Some ask) false scene.states here.span
-      (loads scene inv start (at_stage stage) tt here (then_at next (Some ask)) same
-      (was_going stage here filled (words_after ws (Some ask)) (then_at next (Some ask)) [] tt tt none_lengthens (omega arith))
-      (λ was. owe))
-      few (refl, given_is, fits, stands) known
+  -- What has to be shown of a step that leaves the words and writes nothing, by which the replace comes to the stage `next`, where
+  -- it owes the changes a raise: after it the replace is within its steps, stands at that stage and knows what it tells.
+  pub record GoesTo (next : ReplaceStage) (ask : Ask) : Type 0 where
+    pub same : words_after ws (Some ask) ≡ ws
+    pub owes : replace_owes next ≡ true
+    pub few : steps + 1 ≤ replace_number code.size next
+    pub stands : ReplaceAt c code.size (all scene) (done scene) index next
+    pub known : Knows code c (at_stage next) (SeesCalmly next ask)
+
+  -- such a step leads a replace that has found its owner to the stage `next`
+  pub calm_step : (stage : ReplaceStage) → IsAtStage stage → HeldSometime p (IsFilledWith owner index) events
+      → (next : ReplaceStage) (ask : Ask) → GoesTo next ask → Leads scene start (Some ask) false scene.states [] (GoOn (at_stage next))
+  calm_step stage here filled next ask goes =
+      goes_calmly scene (at_stage next) (Some ask) false here.span (record {
+        does =
+            loads (as_given stage here) (then_at next (Some ask)) goes.same
+            (was_going stage here filled (words_after ws (Some ask)) (then_at next (Some ask)) (none_in_call scene) (omega arith))
+            (λ was. goes.owes);
+        few = goes.few;
+        stands = (refl, given_is, fits, goes.stands);
+        known = goes.known;
+      })
 
   -- ---- its owner is looked for
 
@@ -184,21 +195,27 @@ module _ {T : Type 0} (replacing : Replacing T) where
     fails : cell ws index ≢ owner → Leads scene start (Some load_cell) false scene.states [] (Done (answers.NotRemoved ContainerHandleNotOwnedByContainer))
     fails other =
         let party_after = party_then scene start (Some load_cell) false (Done (answers.NotRemoved ContainerHandleNotOwnedByContainer)) in
-        let written = Finished p (Container start) (answers.NotRemoved ContainerHandleNotOwnedByContainer) ∷ [] in
+        let written : List (Event T) = Finished p (Container start) (answers.NotRemoved ContainerHandleNotOwnedByContainer) ∷ [] in
         let same = loads_same ws (cell_word index) in
         let well_formed =
         well_formed_before scene.terms p party_after latest events written (refl, tt)
         (λ h. stands_if replaces.LoadsCell here (λ few. absurd (omega arith))) in
-        ends scene start (answers.NotRemoved ContainerHandleNotOwnedByContainer) (Some load_cell) false scene.states [] here.span none_lengthens
-        (ends_calmly scene inv start (at_stage replaces.LoadsCell) tt here party_after (answers.NotRemoved ContainerHandleNotOwnedByContainer)
-        (set_effects.quietly (of_set scene) (inv_of_set scene inv) (words_after ws (Some load_cell)) written
-        (set_effects.stays_same (of_set scene) (inv_of_set scene inv) (words_after ws (Some load_cell)) same).leaves
-        (quiet_end p (Container start)
-        (answers.NotRemoved ContainerHandleNotOwnedByContainer) (λ i o. refl) (λ i r. refl))
-        (refl, tt) (tt, tt) (tt, tt))
-        (inr (λ filled. other (inv.good.cells index below ∙ ap cell_of filled))) well_formed (λ holds. tt) same
-        (λ i b. refl) (owes_none scene party_after here refl))
-        ((refl, (none_done, nothing)), tt) (omega arith) (omega arith)
+        ends scene (answers.NotRemoved ContainerHandleNotOwnedByContainer) (Some load_cell) false here.span (record {
+          longer = none_lengthens;
+          does = ends_calmly (as_given replaces.LoadsCell here) party_after (record {
+            set_does =
+                end_does (as_given replaces.LoadsCell here) party_after
+                (set_effects.stays_same (of_set scene) (inv_of_set scene inv) (words_after ws (Some load_cell)) same).leaves
+                (quiet_end p (Container start) (answers.NotRemoved ContainerHandleNotOwnedByContainer) (λ i o. refl) (λ i r. refl));
+            answers = inr (λ filled. other (inv.good.cells index below ∙ ap cell_of filled));
+            placed = λ holds. tt;
+            well_formed = well_formed;
+          })
+              same (λ i b. refl) (owes_none scene party_after here refl);
+          follows = ((refl, (none_done, nothing)), tt);
+          few = omega arith;
+          paid = omega arith;
+        })
 
     -- a cell that has the owner now had him at a moment of the call
     found_now : cell ws index ≡ owner → HeldSometime p (IsFilledWith owner index) events
@@ -207,14 +224,18 @@ module _ {T : Type 0} (replacing : Replacing T) where
     -- a replace that finds its owner in the cell goes on to the number of the element
     finds : cell ws index ≡ owner → Leads scene start (Some load_cell) false scene.states [] (GoOn (at_stage replaces.LoadsCount))
     finds has_owner =
-        calm_step replaces.LoadsCell replaces.LoadsCount load_cell
-        (loads_same ws (cell_word index)) here (found_now has_owner) refl (omega arith) (below, none_done, nothing)
-        (record {
-          paid = omega arith;
-          within = below;
-          owns = owns;
-          found = found_calm replaces.LoadsCell replaces.LoadsCount here load_cell;
-          filled = found_now has_owner;
+        calm_step replaces.LoadsCell here (found_now has_owner) replaces.LoadsCount load_cell (record {
+          same = loads_same ws (cell_word index);
+          owes = refl;
+          few = omega arith;
+          stands = (below, none_done, nothing);
+          known = record {
+            paid = omega arith;
+            within = below;
+            owns = owns;
+            found = found_calm replaces.LoadsCell replaces.LoadsCount here load_cell;
+            filled = found_now has_owner;
+          };
         })
 
     -- the step in which a replace loads the cell: it goes on to the number of the element if it finds its

@@ -3,81 +3,76 @@
 use Rattle.laws_container.proofs.Names.{◌≡◌, ◌≢◌, ⊎_elim, ℕ, ◌+◌, ◌<◌, ◌≤◌, true, false, None, List, [], ◌∷◌, ◌++◌}
 use Rattle.laws_container.proofs.Names.{length, get_or, set, refl, ap, subst, ◌∙◌, arith, get_or-set_other, cases_eq}
 use Rattle.laws_container.proofs.Names.{length-set, fold-append, Event, Filled, Granted, FreedOf, Locked}
-use Rattle.laws_container.proofs.Names.{ContainerStart, ContainerFlight, Party, contents_after, announced_after}
+use Rattle.laws_container.proofs.Names.{Party, contents_after, announced_after}
 use Rattle.laws_container.proofs.Names.{filled_after, filled_of, settled_after, settled_of, is_gone, at_same}
 use Rattle.laws_container.proofs.Names.{at_other, some_none, IsBy}
 use Rattle.laws_container.specs.Gone.{RecoversBy}
 use Rattle.laws_robust.proofs.Invariant as set_invariant
-use Rattle.laws_container.proofs.Effects.{OwesStill, calmly, reads_same}
-use Rattle.laws_container.proofs.Invariant.{Scene, Inv, KeepsInvariant, before, after, of_set}
+use Rattle.laws_container.proofs.Effects.{OwesStill, Turn, calmly, reads_same}
+use Rattle.laws_container.proofs.Invariant.{Scene, KeepsInvariant, before, after, of_set}
 use Rattle.laws_container.proofs.Left.{left_after, left_of}
-use Rattle.laws_container.proofs.Stages.{NoLook, IsUnderWay, does_with}
+use Rattle.laws_container.proofs.Stages.{Call, does_with}
 use Rattle.laws_container.proofs.Turns.{WellFormed}
 use Rattle.laws_container.proofs.Writers.{IsWriter, Replacing}
 
--- a call that is no look is under way in the turn of the scene; `y` is the party after the step
-module _ {T : Type 0} (scene : Scene T) (inv : Inv scene) (start : ContainerStart T) (flight : ContainerFlight T)
-    (none : NoLook flight) (here : IsUnderWay scene start flight) (y : Party T) where
-  open scene use {capacity as c, party as p, events as events}
+module _ {T : Type 0} (scene : Scene T) where
+  -- the words behind the counter and the cells are those of the scene
+  abbrev pub LeavesRest : List ℕ → Type 0
+  LeavesRest words' = (n : ℕ) → 1 + scene.capacity ≤ n → get_or words' n 0 ≡ get_or scene.words n 0
 
-  abbrev ws : List ℕ
-  ws = scene.words
+  -- a store to the counter or to a cell leaves the words behind them
+  pub rest_set : {words' : List ℕ} (m x : ℕ) → m < 1 + scene.capacity → words' ≡ set scene.words m x → LeavesRest words'
+  rest_set = grind (arith, get_or-set_other)
+
+  -- a store leaves how many words there are
+  pub wide_set : {words' : List ℕ} (m x : ℕ) → words' ≡ set scene.words m x → length words' ≡ length scene.words
+  wide_set m x new = ap length new ∙ length-set scene.words m x
+
+-- `call` takes a step in the turn of the scene, after which its party is `y`
+module _ {T : Type 0} (call : Call T) (y : Party T) where
+  open call use {scene, inv}
+  open call.scene use {capacity as c, party as p, events as events}
 
   -- the run was well-formed before the step if it is after it
   abbrev WellFormedBefore : List ℕ → List (Event T) → Type 0
   WellFormedBefore words' es = WellFormed (after scene words' y es) → WellFormed (before scene)
 
-  -- the step leaves all words behind the counter and the cells
-  abbrev pub LeavesRest : List ℕ → Type 0
-  LeavesRest words' = (n : ℕ) → 1 + c ≤ n → get_or words' n 0 ≡ get_or ws n 0
-
-  -- a store to the counter or to a cell leaves the words behind them
-  pub rest_set : (words' : List ℕ) (m x : ℕ) → m < 1 + c → words' ≡ set ws m x → LeavesRest words'
-  rest_set = grind (arith, get_or-set_other)
-
-  -- a store leaves how many words there are
-  pub wide_set : (words' : List ℕ) (m x : ℕ) → words' ≡ set ws m x → length words' ≡ length ws
-  wide_set words' m x new = ap length new ∙ length-set ws m x
-
   -- the step fills or grants an index, locks the set, or frees an index, and leaves the
   -- words behind the cells
-  module _ (words' : List ℕ) (rest : LeavesRest words') (wide : length words' ≡ length ws) where
+  module _ {words' : List ℕ} (rest : LeavesRest scene words') (wide : length words' ≡ length scene.words) where
     -- filling an index keeps the invariant
     pub fills : {i owner : ℕ} → set_invariant.Does (of_set scene) words' (Filled p i owner ∷ [])
-        → (well_formed : WellFormedBefore words' (Filled p i owner ∷ []))
-        → OwesStill scene inv words' y (Filled p i owner ∷ []) well_formed
+        → WellFormedBefore words' (Filled p i owner ∷ [])
+        → OwesStill scene y
         → KeepsInvariant scene words' scene.states y (Filled p i owner ∷ [])
     fills {i} {owner} does well_formed still =
-        does_with scene inv none here
-        (calmly scene inv words' y (Filled p i owner ∷ []) well_formed rest wide
-        (reads_same scene inv words' y (Filled p i owner ∷ []) well_formed (λ j o. refl) (λ j b. refl) (λ j b. refl)) still) does
+        let turn : Turn scene words' y (Filled p i owner ∷ []) = record { inv = inv; well_formed = well_formed } in
+        does_with call (calmly turn rest wide (reads_same turn (λ j o. refl) (λ j b. refl) (λ j b. refl)) still) does
         (record { asks = (tt, tt); recovers = (tt, tt); answers = (tt, tt); contains = λ holds. (tt, tt); places = λ holds. (tt, tt) })
 
     -- granting an index keeps the invariant
-    pub grants : (i owner : ℕ) → set_invariant.Does (of_set scene) words' (Granted p i owner ∷ [])
-        → (well_formed : WellFormedBefore words' (Granted p i owner ∷ []))
-        → OwesStill scene inv words' y (Granted p i owner ∷ []) well_formed
+    pub grants : {i owner : ℕ} → set_invariant.Does (of_set scene) words' (Granted p i owner ∷ [])
+        → WellFormedBefore words' (Granted p i owner ∷ [])
+        → OwesStill scene y
         → KeepsInvariant scene words' scene.states y (Granted p i owner ∷ [])
-    grants i owner does well_formed still =
-        does_with scene inv none here
-        (calmly scene inv words' y (Granted p i owner ∷ []) well_formed rest wide
-        (reads_same scene inv words' y (Granted p i owner ∷ []) well_formed (λ j o. refl) (λ j b. refl) (λ j b. refl)) still) does
+    grants {i} {owner} does well_formed still =
+        let turn : Turn scene words' y (Granted p i owner ∷ []) = record { inv = inv; well_formed = well_formed } in
+        does_with call (calmly turn rest wide (reads_same turn (λ j o. refl) (λ j b. refl) (λ j b. refl)) still) does
         (record { asks = (tt, tt); recovers = (tt, tt); answers = (tt, tt); contains = λ holds. (tt, tt); places = λ holds. (tt, tt) })
 
     -- locking the set keeps the invariant
     pub locks : set_invariant.Does (of_set scene) words' (Locked p ∷ [])
-        → (well_formed : WellFormedBefore words' (Locked p ∷ []))
-        → OwesStill scene inv words' y (Locked p ∷ []) well_formed → KeepsInvariant scene words' scene.states y (Locked p ∷ [])
+        → WellFormedBefore words' (Locked p ∷ [])
+        → OwesStill scene y → KeepsInvariant scene words' scene.states y (Locked p ∷ [])
     locks does well_formed still =
-        does_with scene inv none here
-        (calmly scene inv words' y (Locked p ∷ []) well_formed rest wide
-        (reads_same scene inv words' y (Locked p ∷ []) well_formed (λ j o. refl) (λ j b. refl) (λ j b. refl)) still) does
+        let turn : Turn scene words' y (Locked p ∷ []) = record { inv = inv; well_formed = well_formed } in
+        does_with call (calmly turn rest wide (reads_same turn (λ j o. refl) (λ j b. refl) (λ j b. refl)) still) does
         (record { asks = (tt, tt); recovers = (tt, tt); answers = (tt, tt); contains = λ holds. (tt, tt); places = λ holds. (tt, tt) })
 
     -- ---- an index is freed
 
     -- the step frees index `i` for `owner`
-    module _ (i owner : ℕ) (does : set_invariant.Does (of_set scene) words' (FreedOf p i owner ∷ []))
+    module _ {i owner : ℕ} (does : set_invariant.Does (of_set scene) words' (FreedOf p i owner ∷ []))
         (well_formed : WellFormedBefore words' (FreedOf p i owner ∷ [])) where
       abbrev free : List (Event T)
       free = FreedOf p i owner ∷ []
@@ -109,12 +104,13 @@ module _ {T : Type 0} (scene : Scene T) (inv : Inv scene) (start : ContainerStar
           (cases_eq j i)
 
       -- freeing an index, as a party may, keeps the invariant
-      pub frees : OwesStill scene inv words' y free well_formed
+      pub frees : OwesStill scene y
           → RecoversBy scene.terms.by events (FreedOf p i owner)
           → KeepsInvariant scene words' scene.states y (FreedOf p i owner ∷ [])
       frees still right =
-          does_with scene inv none here
-          (calmly scene inv words' y free well_formed rest wide
+          let turn : Turn scene words' y free = record { inv = inv; well_formed = well_formed } in
+          does_with call
+          (calmly turn rest wide
           (record {
             contents = λ j. fold-append (contents_after j) None events free;
             announced = λ j. fold-append (announced_after j) false events free;

@@ -3,7 +3,7 @@
 use Rattle.laws_container.proofs.Names.{◌≡◌, ℕ, ◌+◌, ◌≤◌, false, true, None, List, [], ◌∷◌, ◌++◌, length, set}
 use Rattle.laws_container.proofs.Names.{refl, ◌∙◌, arith, get_or-set_other, length-set, fold-append}
 use Rattle.laws_container.proofs.Names.{locked, Index, Event, Placed, Hidden, Finished, Container}
-use Rattle.laws_container.proofs.Names.{holder_after, holder_of, IsCalm, cell, Quiet, gives, Scene, Inv}
+use Rattle.laws_container.proofs.Names.{holder_after, holder_of, IsCalm, cell, Quiet, GivesIndex, gives, Scene, Inv}
 use Rattle.laws_container.proofs.Names.{Good, Does}
 use Rattle.model.specs.declared.families.container.ContainerStart.TheVariants.{Add}
 use Rattle.laws_robust.proofs.Effects.{Leaves}
@@ -50,6 +50,13 @@ module _ {T : Type 0} {scene : Scene T} (inv : Inv scene) where
     -- the end of the add does to the set what a turn may
     pub settles : Does scene words' (Finished p (Container (Add value owner)) (Index i) ∷ [])
     settles =
-        gives scene inv words' es false true i owner stays (record { filled = λ j o. refl; locked = λ b. refl; dead = λ o b. refl })
-        (λ j o. refl) (λ j o. refl) (λ j r. refl) (λ calm. (mine calm).by)
-        (refl, tt) (tt, tt) (tt, tt) (λ calm. (tt, tt)) (λ same less j none. same_holder j ∙ none)
+        let given : GivesIndex scene inv words' es false true i owner =
+        record {
+          stays = stays;
+          keeps = record { filled = λ j o. refl; locked = λ b. refl; dead = λ o b. refl };
+          holders = λ j o. refl;
+          settled = λ j o. refl;
+          rights = λ j r. refl;
+          mine = λ calm. (mine calm).by;
+        } in
+        gives scene inv given (refl, tt) (tt, tt) (tt, tt) (λ calm. (tt, tt)) (λ same less j none. same_holder j ∙ none)

@@ -2,16 +2,16 @@
 -- and the end of any call but an add and a replace.
 use Rattle.laws_container.proofs.Names.{◌≡◌, ℕ, Bool, Option, List, [], ◌∷◌, ◌++◌, length, get_or, fold, refl, ap}
 use Rattle.laws_container.proofs.Names.{◌∙◌, arith, AllByRecursion, Event, Asked, Told, Copied, Shown, Finished}
-use Rattle.laws_container.proofs.Names.{Container, ContainerStart, ContainerFlight, Party, contents_after}
+use Rattle.laws_container.proofs.Names.{Container, ContainerStart, Party, contents_after}
 use Rattle.laws_container.proofs.Names.{announced_after, locked_after, SetDoes, HoldsRight, filled_after}
 use Rattle.laws_container.proofs.Names.{holder_after, settled_after, dead_after, AreOwn, AreRight, GoneBy, AnswersBy}
 use Rattle.laws_container.proofs.Names.{IsWorn, Quiet, stays_same, quietly, Right, right_after}
 use Rattle.model.specs.declared.families.container.ContainerStart.TheVariants.{Add, Replace}
 use Rattle.laws_robust.proofs.Invariant as set_invariant
-use Rattle.laws_container.proofs.Effects.{OwesStill, calmly, reads_same}
+use Rattle.laws_container.proofs.Effects.{OwesStill, Turn, calmly, reads_same}
 use Rattle.laws_container.proofs.Invariant.{Scene, Inv, KeepsElements, AreAllRight, KeepsInvariant, before, after, of_set, inv_of_set}
 use Rattle.laws_container.proofs.Left.{left_after}
-use Rattle.laws_container.proofs.Stages.{NoLook, IsUnderWay, does_with}
+use Rattle.laws_container.proofs.Stages.{Call, does_with}
 use Rattle.laws_container.proofs.Turns.{WellFormed}
 
 module _ {T : Type 0} where
@@ -104,18 +104,19 @@ module _ {T : Type 0} {scene : Scene T} (inv : Inv scene) (words' : List ℕ) (s
       (answers_right scene.terms.by (IsWorn scene.terms.by words') c) events es silent)
 
   -- a step that leaves the words and writes silent events does nothing to the elements
-  pub silent_changes : (well_formed : WellFormed (after scene words' y es) → WellFormed (before scene))
-      → OwesStill scene inv words' y es well_formed → KeepsElements scene words' y es
+  pub silent_changes : (WellFormed (after scene words' y es) → WellFormed (before scene)) → OwesStill scene y → KeepsElements scene words' y es
   silent_changes well_formed still =
-      calmly scene inv words' y es well_formed (λ n behind. ap (λ w. get_or w n 0) same) (ap length same)
-      (reads_same scene inv words' y es well_formed (λ i. fold_stays (contents_after i) (contents_stay i) es silent)
+      let turn : Turn scene words' y es = record { inv = inv; well_formed = well_formed } in
+      calmly turn (λ n behind. ap (λ w. get_or w n 0) same) (ap length same)
+      (reads_same turn (λ i. fold_stays (contents_after i) (contents_stay i) es silent)
       (λ i. fold_stays (announced_after i) (announced_stays i) es silent) (λ i. fold_stays (left_after i) (left_stays i) es silent))
       still
 
-  -- a step that leaves the words and writes silent events, of a call that is no look, keeps the invariant
-  pub silently : {start : ContainerStart T} {flight : ContainerFlight T} (none : NoLook flight) (here : IsUnderWay scene start flight)
-      → (well_formed : WellFormed (after scene words' y es) → WellFormed (before scene))
-      → OwesStill scene inv words' y es well_formed → AreAllRight scene words' y es
-      → KeepsInvariant scene words' scene.states y es
-  silently {start} {flight} none here well_formed still right =
-      does_with scene inv none here (silent_changes well_formed still) silent_set right
+-- a step of a call that is no look, which leaves the words and writes silent events, keeps the invariant
+pub silently : {T : Type 0} (call : Call T) {words' : List ℕ} → words' ≡ call.scene.words
+    → {y : Party T} {es : List (Event T)} → AllByRecursion Silent es → AreOwn call.scene.party es
+    → (WellFormed (after call.scene words' y es) → WellFormed (before call.scene))
+    → OwesStill call.scene y → AreAllRight call.scene words' y es
+    → KeepsInvariant call.scene words' call.scene.states y es
+silently call {words'} same {y} {es} silent own well_formed still right =
+    does_with call (silent_changes call.inv words' same y es silent own well_formed still) (silent_set call.inv words' same y es silent own) right

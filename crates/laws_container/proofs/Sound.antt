@@ -130,7 +130,16 @@ module _ {T : Type 0} where
       → t.world.turns < 2 ^ 64 - 2 → MayGoOn terms t
   may_go_on terms code c t sound small = let by_few_room = few_room in grind arith
 
--- `c` is the capacity, `t` the run up to this turn, and `s` that it is sound
+-- a run of a container that is sound and may go on, where all that is to be shown of its turns is shown
+pub record SoundRun (T : Type 0) : Type 0 where
+  pub shown : Shown T
+  pub terms : Terms
+  pub code : Coding T
+  pub trace : Trace T
+  pub sound : frame.Sound (family_by terms code trace.world.capacity) trace
+  pub may : MayGoOn terms trace
+
+-- `c` is the capacity, and `t` the run up to this turn, which is sound
 module _ {T : Type 0} (shown : Shown T) (terms : Terms) (code : Coding T) (c : ℕ) (t : Trace T) (sound : frame.Sound (family_by terms code c) t) where
   abbrev pub kept_now : Registry T
   kept_now = registries.Container sound.state.dead sound.state.states
@@ -213,10 +222,8 @@ module _ {T : Type 0} (shown : Shown T) (terms : Terms) (code : Coding T) (c : �
         record {
           state = _;
           fit = record { kept = refl; words = refl };
-          holds = holds_more (scene_of p x since) _ _ (Open (Container start) (wrote_of p t.events)) _ _ _ moves sound.state state_is sound.holds sound.inv;
-          owes =
-              owes (scene_of p x since) _ _ (Open (Container start) (wrote_of p t.events)) _ _ _ moves sound.state
-              state_is sound.holds sound.inv there.here.span;
+          holds = holds_more (scene_of p x since) moves sound.state state_is sound.holds sound.inv;
+          owes = owes (scene_of p x since) moves sound.state state_is sound.holds sound.inv there.here.span;
         }
     comes may rightly rows_pass stands_there = absurd stands_there.at
 
@@ -235,10 +242,8 @@ module _ {T : Type 0} (shown : Shown T) (terms : Terms) (code : Coding T) (c : �
         record {
           state = _;
           fit = record { kept = refl; words = refl };
-          holds = holds_more (scene_of p x since) _ _ (Open (Container start) (wrote_of p t.events)) _ _ _ moves sound.state state_is sound.holds sound.inv;
-          owes =
-              owes (scene_of p x since) _ _ (Open (Container start) (wrote_of p t.events)) _ _ _ moves sound.state
-              state_is sound.holds sound.inv there.here.span;
+          holds = holds_more (scene_of p x since) moves sound.state state_is sound.holds sound.inv;
+          owes = owes (scene_of p x since) moves sound.state state_is sound.holds sound.inv there.here.span;
         }
     decides may said asks stands_there = absurd stands_there.at
 
@@ -284,12 +289,8 @@ module _ {T : Type 0} (shown : Shown T) (terms : Terms) (code : Coding T) (c : �
         record {
           state = then_is scene sound.state.words states' party_after (Begun p (Container start) ∷ []);
           fit = record { kept = refl; words = refl };
-          holds =
-              holds_more scene sound.state.words states' (span_of p t.events) party_after (Begun p (Container start) ∷ [])
-              t.world.changes shows sound.state state_is sound.holds sound.inv;
-          owes =
-              owes scene sound.state.words states' (span_of p t.events) party_after (Begun p (Container start) ∷ []) t.world.changes
-              shows sound.state state_is sound.holds sound.inv refl;
+          holds = holds_more scene shows sound.state state_is sound.holds sound.inv;
+          owes = owes scene shows sound.state state_is sound.holds sound.inv refl;
         }
 
     abbrev pub MayRecoverIn : Start T → Type 0

@@ -9,7 +9,7 @@ use Rattle.laws_container.proofs.Names.{StandsWellFormed, promise, Act, act, act
 use Rattle.laws_container.proofs.Names.{questions, SetAct, set_act, set_acts, set_acts_of, party_of, put}
 use Rattle.laws_container.proofs.Names.{doing_of, flight_of, Stands, Open, own_after, span_of, as_call, answer_in}
 use Rattle.laws_container.proofs.Names.{old_of, words_after, change_of, step_count, number_of, party_after, ending_of}
-use Rattle.laws_container.proofs.Names.{one_if, AreOwn, AllFollow, span_of-own, both_ways, is_seen}
+use Rattle.laws_container.proofs.Names.{one_if, BeginsNone, AreOwn, AllFollow, span_of-own, both_ways, is_seen}
 use Rattle.steps.specs.declared.ask.After.TheVariants.{Done}
 use Rattle.model.specs.declared.families.Flight.TheVariants as flights
 use Rattle.model.specs.declared.families.Registry.TheVariants as registries
@@ -47,6 +47,9 @@ module _ {T : Type 0} where
   abbrev pub NoLook : ContainerFlight T → Type 0
   NoLook (calls.Look which call) = ⊥
   NoLook flight = Unit {0}
+
+  no_look : (flight : ContainerFlight T) → NoLook flight → is_looking (Some (flights.Container flight)) ≡ false
+  no_look flight is_no_look = grind arith
 
 -- `scene` is a turn of party `p` with the machine before it
 module _ {T : Type 0} (scene : Scene T) where
@@ -112,6 +115,11 @@ module _ {T : Type 0} (scene : Scene T) where
   then_sees ask back states' y es =
       view scene.terms (words_after ws ask) states' (put p y latest) (events ++ es) p (since_then ask) (changes_then ask) (backs_then back)
 
+  -- what it sees after a step that leaves these states and writes nothing
+  abbrev pub sees_calmly : Option Ask → Bool → List (ℕ × ContainerState T) → Party T → View T
+  sees_calmly ask back states' y =
+      view scene.terms (words_after ws ask) states' (put p y latest) events p (since_then ask) (changes_then ask) (backs_then back)
+
   -- what has to be shown of a step with the operation `ask` that leaves these states and writes the events
   -- `es`, by what becomes of the call
   abbrev pub ShowsThen : ContainerStart T → Option Ask → Bool → List (ℕ × ContainerState T) → List (Event T) → After (ContainerFlight T) (Answer T) → Type 0
@@ -153,76 +161,113 @@ module _ {T : Type 0} (scene : Scene T) where
     pub acts_more : acts_of p (events ++ es) ≡ acts_of p events ++ acts es
     acts_more = ap acts wrote_more ∙ flat_map-append act (wrote_of p events) es
 
+  -- the events are the party's own, and neither begin nor end a call of it
+  pub record AreInCall (es : List (Event T)) : Type 0 where
+    pub own : AreOwn p es
+    pub fresh : BeginsNone p es
+    pub longer : Lengthens es
+
+  -- it holds of the empty list of events
+  pub none_in_call : AreInCall []
+  none_in_call = record { own = tt; fresh = tt; longer = none_lengthens }
+
   -- ---- the call goes on, or is done
 
-  -- a call goes on to the next stage, if the step keeps the invariant, and the call stands there within its
-  -- steps and knows what the stage tells
-  pub goes_on :
-      (start : ContainerStart T) (flight : ContainerFlight T) (ask : Option Ask) (back : Bool)
-      (states' : List (ℕ × ContainerState T)) (did : List (Event T))
-      → span_of p events ≡ Open (Container start) (wrote_of p events) → Lengthens did
-      → KeepsInvariant scene (words_after ws ask) states' (party_then start ask back (GoOn flight)) did
-      → AllFollow (Stands promise c) (Open (Container start) (wrote_of p events)) did
-      → steps + step_count ask ≤ standing.number_of c code.size flight (backs_then back)
-      → At c code.size (set_acts_of p events ++ set_acts did) (acts_of p events ++ acts did) start flight
-      → Knows code c flight (then_sees ask back states' (party_then start ask back (GoOn flight)) did)
+  -- What has to be shown of a step with the operation `ask` after which the call goes on at the stage of `flight`: it writes the events
+  -- `did`, which do not end the call and may stand in it, it keeps the invariant, and after it the call is within its steps, stands at
+  -- its stage and knows what that stage tells.
+  pub record GoesOn (start : ContainerStart T) (flight : ContainerFlight T) (ask : Option Ask) (back : Bool)
+      (states' : List (ℕ × ContainerState T)) (did : List (Event T)) : Type 0 where
+    pub longer : Lengthens did
+    pub does : KeepsInvariant scene (words_after ws ask) states' (party_then start ask back (GoOn flight)) did
+    pub follows : AllFollow (Stands promise c) (Open (Container start) (wrote_of p events)) did
+    pub few : steps + step_count ask ≤ standing.number_of c code.size flight (backs_then back)
+    pub stands : At c code.size (set_acts_of p events ++ set_acts did) (acts_of p events ++ acts did) start flight
+    pub known : Knows code c flight (then_sees ask back states' (party_then start ask back (GoOn flight)) did)
+
+  -- a call goes on to the next stage, where the conditions of that stage hold
+  pub goes_on : {start : ContainerStart T} (flight : ContainerFlight T) (ask : Option Ask) (back : Bool)
+      {states' : List (ℕ × ContainerState T)} {did : List (Event T)}
+      → span_of p events ≡ Open (Container start) (wrote_of p events) → GoesOn start flight ask back states' did
       → ShowsThen start ask back states' did (GoOn flight)
-  goes_on start flight ask back states' did span longer does stands few at known =
+  goes_on {start} flight ask back {did = did} span goes =
+      let own = goes.does.set.own in
       record {
-        does = does;
-        stands = stands;
+        does = goes.does;
+        stands = goes.follows;
         here =
             record {
-              span = longer start (wrote_of p events) ∙ ap (λ es. Open (Container start) es) (sym (wrote_more start span did does.set.own longer));
-              steps = few;
-              at = subst (λ d. At c code.size d (acts_of p (events ++ did)) start flight) (sym (set_acts_more start span did does.set.own longer))
-                  (subst (λ a. At c code.size (set_acts_of p events ++ set_acts did) a start flight) (sym (acts_more start span did does.set.own longer)) at);
+              span =
+                  goes.longer start (wrote_of p events)
+                  ∙ ap (λ es. Open (Container start) es) (sym (wrote_more start span did own goes.longer));
+              steps = goes.few;
+              at = subst (λ d. At c code.size d (acts_of p (events ++ did)) start flight) (sym (set_acts_more start span did own goes.longer))
+                  (subst (λ a. At c code.size (set_acts_of p events ++ set_acts did) a start flight)
+                  (sym (acts_more start span did own goes.longer)) goes.stands);
             };
-        knows = known;
+        knows = goes.known;
         seen = is_seen ws ask changes;
       }
 
-  -- a call ends, and writes its end last, if the step keeps the invariant, and the call is within the steps
-  -- of its name and has paid for its turns back
-  pub ends :
-      (start : ContainerStart T) (answer : Answer T) (ask : Option Ask) (back : Bool)
-      (states' : List (ℕ × ContainerState T)) (did : List (Event T))
-      → span_of p events ≡ Open (Container start) (wrote_of p events) → Lengthens did
-      → KeepsInvariant scene (words_after ws ask) states' (party_then start ask back (Done answer)) (did ++ Finished p (Container start) answer ∷ [])
-      → AllFollow (Stands promise c) (Open (Container start) (wrote_of p events)) (did ++ Finished p (Container start) answer ∷ [])
-      → steps + step_count ask ≤ most_steps c code.size start (backs_then back)
-      → backs_then back ≤ changes_then ask - since_then ask
+  -- What has to be shown of a step with the operation `ask` that ends the call with `answer`: it writes the events `did` and then the end,
+  -- which may stand in the call, it keeps the invariant, and the call is within the steps of its name and has paid for its turns back.
+  pub record Ends (start : ContainerStart T) (answer : Answer T) (ask : Option Ask) (back : Bool)
+      (states' : List (ℕ × ContainerState T)) (did : List (Event T)) : Type 0 where
+    pub longer : Lengthens did
+    pub does : KeepsInvariant scene (words_after ws ask) states' (party_then start ask back (Done answer)) (did ++ Finished p (Container start) answer ∷ [])
+    pub follows : AllFollow (Stands promise c) (Open (Container start) (wrote_of p events)) (did ++ Finished p (Container start) answer ∷ [])
+    pub few : steps + step_count ask ≤ most_steps c code.size start (backs_then back)
+    pub paid : backs_then back ≤ changes_then ask - since_then ask
+
+  -- a call ends, and writes its end last, where the conditions of that hold
+  pub ends : {start : ContainerStart T} (answer : Answer T) (ask : Option Ask) (back : Bool)
+      {states' : List (ℕ × ContainerState T)} {did : List (Event T)}
+      → span_of p events ≡ Open (Container start) (wrote_of p events) → Ends start answer ask back states' did
       → ShowsThen start ask back states' (did ++ Finished p (Container start) answer ∷ []) (Done answer)
-  ends start answer ask back states' did span longer does stands few paid =
+  ends {start} answer ask back {did = did} span ending =
       record {
-        does = does;
-        stands = stands;
+        does = ending.does;
+        stands = ending.follows;
         here =
             record {
               answer = answer;
               wrote = wrote_of p events ++ did;
               span =
                   fold-append own_after (Open (Container start) (wrote_of p events)) did (Finished p (Container start) answer ∷ [])
-                  ∙ ap (λ s. own_after s (Finished p (Container start) answer)) (longer start (wrote_of p events));
-              steps = few;
+                  ∙ ap (λ s. own_after s (Finished p (Container start) answer)) (ending.longer start (wrote_of p events));
+              steps = ending.few;
             };
-        knows = paid;
+        knows = ending.paid;
         seen = is_seen ws ask changes;
       }
 
-  -- a step that writes nothing leads a call to its next stage, if it keeps the invariant, and the call stands
-  -- there and knows what the stage tells
-  pub goes_calmly :
-      (start : ContainerStart T) (flight : ContainerFlight T) (ask : Option Ask) (back : Bool) (states' : List (ℕ × ContainerState T))
-      → span_of p events ≡ Open (Container start) (wrote_of p events)
-      → KeepsInvariant scene (words_after ws ask) states' (party_then start ask back (GoOn flight)) []
-      → steps + step_count ask ≤ standing.number_of c code.size flight (backs_then back)
-      → At c code.size (set_acts_of p events) (acts_of p events) start flight
-      → Knows code c flight
-      (view scene.terms (words_after ws ask) states' (put p (party_then start ask back (GoOn flight)) latest) events
-      p (since_then ask) (changes_then ask) (backs_then back))
+  -- What has to be shown of a step that writes nothing, after which the call goes on at the stage of `flight`. No event is
+  -- added here to what the call has done and sees, so this is `GoesOn` without its empty lists.
+  pub record GoesCalmly (start : ContainerStart T) (flight : ContainerFlight T) (ask : Option Ask) (back : Bool)
+      (states' : List (ℕ × ContainerState T)) : Type 0 where
+    pub does : KeepsInvariant scene (words_after ws ask) states' (party_then start ask back (GoOn flight)) []
+    pub few : steps + step_count ask ≤ standing.number_of c code.size flight (backs_then back)
+    pub stands : At c code.size (set_acts_of p events) (acts_of p events) start flight
+    pub known : Knows code c flight (sees_calmly ask back states' (party_then start ask back (GoOn flight)))
+
+  -- a step that writes nothing leads a call to its next stage, where the conditions of that stage hold
+  pub goes_calmly : {start : ContainerStart T} (flight : ContainerFlight T) (ask : Option Ask) (back : Bool) {states' : List (ℕ × ContainerState T)}
+      → span_of p events ≡ Open (Container start) (wrote_of p events) → GoesCalmly start flight ask back states'
       → ShowsThen start ask back states' [] (GoOn flight)
-  goes_calmly = grind (arith, goes_on, none_lengthens, append-nil, view, put)
+  goes_calmly {start} flight ask back {states'} span goes =
+      goes_on flight ask back span (record {
+        longer = none_lengthens;
+        does = goes.does;
+        follows = tt;
+        few = goes.few;
+        stands = subst (λ d. At c code.size d (acts_of p events ++ []) start flight) (sym (append-nil (set_acts_of p events)))
+            (subst (λ a. At c code.size (set_acts_of p events) a start flight) (sym (append-nil (acts_of p events))) goes.stands);
+        known = subst
+            (λ es. Knows code c flight
+            (view scene.terms (words_after ws ask) states' (put p (party_then start ask back (GoOn flight)) latest) es
+            p (since_then ask) (changes_then ask) (backs_then back)))
+            (sym (append-nil events)) goes.known;
+      })
 
   -- ---- what it owes the changes
 
@@ -261,28 +306,35 @@ module _ {T : Type 0} (scene : Scene T) where
   was_well_formed_calmly start none span y well_formed_so_far =
       was_well_formed start none span ws y [] tt (subst (λ es. IsWellFormedSoFar scene.terms (put p y latest) es) (sym (append-nil events)) well_formed_so_far)
 
-  -- ---- the states of the parties, where the call is no look
+-- A call of the container that is no look and is under way in the turn of the scene, with what holds of the machine before the turn.
+-- A step of it leaves the states of the parties as they are.
+pub record Call (T : Type 0) : Type 0 where
+  pub scene : Scene T
+  pub inv : Inv scene
+  pub start : ContainerStart T
+  pub flight : ContainerFlight T
+  pub no_look : NoLook flight
+  pub here : IsUnderWay scene start flight
 
-  no_look : (flight : ContainerFlight T) → NoLook flight → is_looking (Some (flights.Container flight)) ≡ false
-  no_look flight is_no_look = grind arith
+module _ {T : Type 0} (call : Call T) where
+  open call use {scene, inv, start, flight, here}
+  open call.scene use {coding as code, capacity as c, party as p, latest as latest}
 
-  -- the call under way is no look
-  module _ (inv : Inv scene) {start : ContainerStart T} {flight : ContainerFlight T} (none : NoLook flight) (here : IsUnderWay start flight) where
-    pub is_idle_now : is_looking (flight_of (doing_of (party_of p latest))) ≡ false
-    is_idle_now = grind (arith, no_look)
+  pub is_idle_now : is_looking (flight_of (doing_of (party_of p latest))) ≡ false
+  is_idle_now = let not = no_look flight call.no_look in grind arith
 
-    -- a turn that leaves the parties' states keeps the invariant, if it keeps what holds of the set, of the
-    -- elements and of the events
-    pub does_with : {words' : List ℕ} {y : Party T} {es : List (Event T)} → invariant.KeepsElements scene words' y es
-        → set_invariant.Does (invariant.of_set scene) words' es → AreAllRight scene words' y es
-        → KeepsInvariant scene words' scene.states y es
-    does_with {words'} {y} {es} changes set right =
-        record {
-          set = set;
-          changes = changes;
-          right = right;
-          others = λ q ne. refl;
-          rests =
-              λ s idle found. rests_later code c es refl
-              changes.passes p s (inv.elements.rests p s is_idle_now found);
-        }
+  -- a turn that leaves the parties' states keeps the invariant, if it keeps what holds of the set, of the
+  -- elements and of the events
+  pub does_with : {words' : List ℕ} {y : Party T} {es : List (Event T)} → invariant.KeepsElements scene words' y es
+      → set_invariant.Does (invariant.of_set scene) words' es → AreAllRight scene words' y es
+      → KeepsInvariant scene words' scene.states y es
+  does_with {words'} {y} {es} changes set right =
+      record {
+        set = set;
+        changes = changes;
+        right = right;
+        others = λ q ne. refl;
+        rests =
+            λ s idle found. rests_later code c es refl
+            changes.passes p s (inv.elements.rests p s is_idle_now found);
+      }

@@ -3,29 +3,26 @@
 use Rattle.laws_container.proofs.Names.{◌≡◌, ◌≢◌, ⊎_elim, ℕ, ◌%◌, ◌<◌, Bool, true, false, Some, None, is_some, List}
 use Rattle.laws_container.proofs.Names.{[], ◌∷◌, ◌++◌, length, get_or, set, refl, sym, ap, subst, ◌∙◌, arith}
 use Rattle.laws_container.proofs.Names.{cases_eq, fold-append, change_word, count_word, element_word, one_more}
-use Rattle.laws_container.proofs.Names.{Answer, Event, Placed, Hidden, Finished, Container, ContainerStart}
-use Rattle.laws_container.proofs.Names.{ContainerFlight, Party, contents_after, contents_of, announced_after}
+use Rattle.laws_container.proofs.Names.{Answer, Event, Placed, Hidden, Finished, Container}
+use Rattle.laws_container.proofs.Names.{Party, contents_after, contents_of, announced_after}
 use Rattle.laws_container.proofs.Names.{announced_of, filled_of, flight_of, is_gone, at_same, at_other, both_ways}
 use Rattle.laws_robust.proofs.Effects as set_effects
 use Rattle.laws_robust.proofs.Invariant as set_invariant
 use Rattle.laws_container.specs.Gone.{AnswersBy}
 use Rattle.laws_container.proofs.Contents.{IsWhole, Writing, place_none, place_whole, hide_some, hide_whole}
-use Rattle.laws_container.proofs.Effects.{OwesStill, LeavesReadings, calmly, counts_change, stores, IsCounted, counts_one, reads_same}
+use Rattle.laws_container.proofs.Effects.{OwesStill, Turn, LeavesReadings, calmly, counts_change, stores, IsCounted, counts_one, reads_same}
 use Rattle.laws_container.proofs.HiddenKnows.{EndsRight}
-use Rattle.laws_container.proofs.Invariant.{Scene, Inv, ActsFor, Elements, AreAllRight, KeepsInvariant, before, after, of_set, inv_of_set, wrote_of}
+use Rattle.laws_container.proofs.Invariant.{right_end, ActsFor, Elements, AreAllRight, KeepsInvariant, before, after, of_set, inv_of_set}
 use Rattle.laws_container.proofs.Left.{left_after, left_of}
 use Rattle.laws_container.proofs.Sets.{leaves_behind, quiet_placed, quiet_hidden}
-use Rattle.laws_container.proofs.Stages.{NoLook, IsUnderWay, does_with}
+use Rattle.laws_container.proofs.Stages.{Call, does_with}
 use Rattle.laws_container.proofs.Turns.{owes, WellFormed, count_in, change_in}
 use Rattle.laws_container.proofs.Writers.{IsWriter, one_writer}
 
--- a call that is no look is under way in the turn of the scene; `y` is the party after the step
-module _ {T : Type 0} (scene : Scene T) (inv : Inv scene) (start : ContainerStart T) (flight : ContainerFlight T)
-    (none : NoLook flight) (here : IsUnderWay scene start flight) (y : Party T) where
-  open scene use {coding as code, capacity as c, party as p, turns as turns, events as events}
-
-  abbrev ws : List ℕ
-  ws = scene.words
+-- `call` takes a step in the turn of the scene, after which its party is `y`
+module _ {T : Type 0} (call : Call T) (y : Party T) where
+  open call use {scene, inv, start, here}
+  open call.scene use {coding as code, capacity as c, party as p, turns as turns, events as events}
 
   e : Elements code c (before scene) scene.states turns
   e = inv.elements
@@ -36,22 +33,29 @@ module _ {T : Type 0} (scene : Scene T) (inv : Inv scene) (start : ContainerStar
 
   -- of the empty list of events all are right
   pub right_none : {words' : List ℕ} → AreAllRight scene words' y []
-  right_none =
-      record { asks = tt; recovers = tt; answers = tt; contains = λ well_formed. tt; places = λ well_formed. tt }
+  right_none = record { asks = tt; recovers = tt; answers = tt; contains = λ well_formed. tt; places = λ well_formed. tt }
 
   -- to write nothing changes no reading of the elements
-  pub calm_none : (words' : List ℕ) (well_formed : WellFormedBefore words' []) → LeavesReadings scene inv words' y [] well_formed
-  calm_none = grind (arith, reads_same)
+  pub calm_none : {words' : List ℕ} (turn : Turn scene words' y []) → LeavesReadings turn
+  calm_none turn = reads_same turn (λ i o. refl) (λ i b. refl) (λ i b. refl)
+
+  -- the end of this call, which the set does not read, does nothing to the set
+  pub end_does : {words' : List ℕ} {answer : Answer T} → set_effects.Leaves (of_set scene) words'
+      → set_effects.Quiet (Finished p (Container start) answer ∷ [])
+      → set_invariant.Does (of_set scene) words' (Finished p (Container start) answer ∷ [])
+  end_does {words'} {answer} leaves quiet =
+      set_effects.quietly (of_set scene) (inv_of_set scene inv) words' (Finished p (Container start) answer ∷ []) leaves quiet
+      (refl, tt) (tt, tt) (tt, tt)
 
   -- ---- it changes nothing, and writes nothing
 
   -- a step that leaves the words and writes nothing keeps the invariant, if a raise that is owed to the
   -- changes is owed still
-  pub loads : {words' : List ℕ} → words' ≡ ws → (well_formed : WellFormedBefore words' [])
-      → OwesStill scene inv words' y [] well_formed → KeepsInvariant scene words' scene.states y []
+  pub loads : {words' : List ℕ} → words' ≡ scene.words → WellFormedBefore words' [] → OwesStill scene y → KeepsInvariant scene words' scene.states y []
   loads {words'} same well_formed still =
-      does_with scene inv none here
-      (calmly scene inv words' y [] well_formed (λ n behind. ap (λ w. get_or w n 0) same) (ap length same) (calm_none words' well_formed) still)
+      let turn : Turn scene words' y [] = record { inv = inv; well_formed = well_formed } in
+      does_with call
+      (calmly turn (λ n behind. ap (λ w. get_or w n 0) same) (ap length same) (calm_none turn) still)
       (set_effects.quietly (of_set scene) (inv_of_set scene inv) words' []
       (set_effects.stays_same (of_set scene) (inv_of_set scene inv) words' same).leaves set_effects.quiet_none tt tt
       tt)
@@ -59,32 +63,43 @@ module _ {T : Type 0} (scene : Scene T) (inv : Inv scene) (start : ContainerStar
 
   -- ---- a writer stores a word
 
+  -- the step stores word `k` of `value` at index `i`, where its party may write for this owner and has stored the words before
+  pub record StoresWord (words' : List ℕ) (i k : ℕ) (value : T) (owner : ℕ) : Type 0 where
+    pub below : i < c
+    pub word : k < code.size
+    pub mine : WellFormed (before scene) → IsWriter p i owner events
+    pub writing : WellFormed (before scene) → Writing code c scene.words i value k
+    pub new : words' ≡ set scene.words (element_word c code.size i k) (get_or (code.words_of value) k 0)
+
   -- a store of the next word of a value, by a party that may write there, keeps the invariant
-  pub stores_word :
-      {words' : List ℕ} {i : ℕ} (below : i < c) {k : ℕ} (ks : k < code.size) {value : T} (owner : ℕ)
-      → (WellFormed (before scene) → IsWriter p i owner events)
-      → (WellFormed (before scene) → Writing code c ws i value k)
-      → words' ≡ set ws (element_word c code.size i k) (get_or (code.words_of value) k 0)
-      → (well_formed : WellFormedBefore words' []) → OwesStill scene inv words' y [] well_formed → KeepsInvariant scene words' scene.states y []
-  stores_word {words'} {i} below {k} ks {value} owner mine writing new well_formed still =
-      does_with scene inv none here
-      (stores scene inv words' y [] well_formed below ks owner mine writing new (calm_none words' well_formed) still)
+  pub stores_word : {words' : List ℕ} {i k : ℕ} {value : T} {owner : ℕ} → StoresWord words' i k value owner
+      → WellFormedBefore words' [] → OwesStill scene y → KeepsInvariant scene words' scene.states y []
+  stores_word {words'} {i} {k} {value} {owner} stored well_formed still =
+      let turn : Turn scene words' y [] = record { inv = inv; well_formed = well_formed } in
+      let below = stored.below in
+      does_with call
+      (stores turn stored.below stored.word owner stored.mine stored.writing stored.new (calm_none turn) still)
       (set_effects.quietly (of_set scene) (inv_of_set scene inv) words' []
-      (leaves_behind (inv_of_set scene inv) words' (element_word c code.size i k) _ (omega arith) new)
+      (leaves_behind (inv_of_set scene inv) words' (element_word c code.size i k) _ (omega arith) stored.new)
       set_effects.quiet_none tt tt tt)
       (right_none)
 
   -- ---- the number of an element changes
 
-  -- the step raises the number of the element at index `i` by one
-  module _ (words' : List ℕ) (i : ℕ) (below : i < c)
-      (new : words' ≡ set ws (count_word c i) (one_more (count_in code c (before scene) i)))
-      (owed : owes (flight_of (Some y.doing)) ≡ true) where
+  -- the step raises the number of the element at index `i` by one, and its party owes the changes a raise after it
+  pub record RaisesNumber (words' : List ℕ) (i : ℕ) : Type 0 where
+    pub below : i < c
+    pub new : words' ≡ set scene.words (count_word c i) (one_more (count_in code c (before scene) i))
+    pub owed : owes (flight_of (Some y.doing)) ≡ true
+
+  module _ {words' : List ℕ} {i : ℕ} (raises : RaisesNumber words' i) where
+    open raises use {below, new, owed}
+
     abbrev n : ℕ
     n = count_in code c (before scene) i
 
     leaves : set_effects.Leaves (of_set scene) words'
-    leaves = leaves_behind (inv_of_set scene inv) words' (count_word c i) (one_more n) (omega arith) new
+    leaves = let low = raises.below in leaves_behind (inv_of_set scene inv) words' (count_word c i) (one_more n) (omega arith) new
 
     -- the number is odd, so the step hides what stands at the index
     module _ (odd : n % 2 ≡ 1)
@@ -93,8 +108,11 @@ module _ {T : Type 0} (scene : Scene T) (inv : Inv scene) (start : ContainerStar
       hidden_here : contents_of i (events ++ Hidden p i ∷ []) ≡ None
       hidden_here = grind (arith, fold-append, at_same)
 
+      abbrev hides_turn : Turn scene words' y (Hidden p i ∷ [])
+      hides_turn = record { inv = inv; well_formed = well_formed }
+
       -- an odd number that is made even, with the event that the element is hidden, is counted right
-      counted : IsCounted scene inv words' y (Hidden p i ∷ []) well_formed i below new (refl, tt) (Container start) (wrote_of p events) here.span owed
+      counted : IsCounted hides_turn below new (refl, tt) here.span owed
       counted =
           record {
             contents = λ a ne. fold-append (contents_after a) None events (Hidden p i ∷ []) ∙ at_other i a None (contents_of a events) ne;
@@ -114,7 +132,7 @@ module _ {T : Type 0} (scene : Scene T) (inv : Inv scene) (start : ContainerStar
             lost = λ holds o dead filled. odd;
             whole =
                 λ holds. subst (λ w. IsWhole code c w (events ++ Hidden p i ∷ [])) (sym new)
-                (hide_whole code c ws events (e.whole (well_formed holds)) e.wide i below p (one_more n) (omega arith));
+                (hide_whole code c scene.words events (e.whole (well_formed holds)) e.wide i below p (one_more n) (omega arith));
           }
         where
           -- nothing at the index is announced after it was hidden
@@ -124,25 +142,28 @@ module _ {T : Type 0} (scene : Scene T) (inv : Inv scene) (start : ContainerStar
       -- hiding what stands at an index keeps the invariant
       pub hides : KeepsInvariant scene words' scene.states y (Hidden p i ∷ [])
       hides =
-          does_with scene inv none here
-          (counts_one scene inv words' y (Hidden p i ∷ []) well_formed i below new (refl, tt) (Container start) (wrote_of p events) here.span owed counted)
+          does_with call
+          (counts_one hides_turn below new (refl, tt) here.span owed counted)
           (set_effects.quietly (of_set scene) (inv_of_set scene inv) words' (Hidden p i ∷ []) leaves
           (quiet_hidden (inv_of_set scene inv) i) (refl, tt) (tt, tt) (tt, tt))
           (record {
             asks = (tt, tt);
             recovers = (tt, tt);
             answers = (tt, tt);
-            contains = λ holds. (hide_some code c ws events (e.whole (well_formed holds)) e.wide i below odd, tt);
+            contains = λ holds. (hide_some code c scene.words events (e.whole (well_formed holds)) e.wide i below odd, tt);
             places = λ holds. (tt, tt);
           })
 
     -- the party has stored all words of its value, and the number is even, so the step places the value
-    module _ (value : T) (owner : ℕ) (acts : ActsFor scene owner)
+    module _ {value : T} {owner : ℕ} (acts : ActsFor scene owner)
         (mine : WellFormed (before scene) → IsWriter p i owner events)
-        (writing : WellFormed (before scene) → Writing code c ws i value code.size)
+        (writing : WellFormed (before scene) → Writing code c scene.words i value code.size)
         (well_formed : WellFormedBefore words' (Placed p i value ∷ [])) where
+      abbrev places_turn : Turn scene words' y (Placed p i value ∷ [])
+      places_turn = record { inv = inv; well_formed = well_formed }
+
       nothing : WellFormed (before scene) → contents_of i events ≡ None
-      nothing holds = place_none code c ws events (e.whole holds) e.wide i below (writing holds)
+      nothing holds = place_none code c scene.words events (e.whole holds) e.wide i below (writing holds)
 
       no_other : {A : Type 0} → WellFormed (before scene) → (q : ℕ) → q ≢ p → (o : ℕ) → IsWriter q i o events → A
       no_other = grind (arith, one_writer)
@@ -152,7 +173,7 @@ module _ {T : Type 0} (scene : Scene T) (inv : Inv scene) (start : ContainerStar
       fills_it holds o dead filled = grind arith
 
       -- an even number that is made odd, with the event that the value is placed, is counted right
-      placed_one : IsCounted scene inv words' y (Placed p i value ∷ []) well_formed i below new (refl, tt) (Container start) (wrote_of p events) here.span owed
+      placed_one : IsCounted places_turn below new (refl, tt) here.span owed
       placed_one =
           record {
             contents = λ a ne. fold-append (contents_after a) None events (Placed p i value ∷ []) ∙ at_other i a (Some value) (contents_of a events) ne;
@@ -169,7 +190,7 @@ module _ {T : Type 0} (scene : Scene T) (inv : Inv scene) (start : ContainerStar
                 let w = writing (well_formed holds) in
                 let even = w.even in
                 subst (λ w. IsWhole code c w (events ++ Placed p i value ∷ [])) (sym new)
-                (place_whole code c ws events (e.whole (well_formed holds)) e.wide i below p (one_more n) value w (omega arith));
+                (place_whole code c scene.words events (e.whole (well_formed holds)) e.wide i below p (one_more n) value w (omega arith));
           }
         where
           unannounced : WellFormed (before scene) → (a : ℕ) → a ≡ i → announced_of a events ≡ true → ⊥
@@ -178,9 +199,8 @@ module _ {T : Type 0} (scene : Scene T) (inv : Inv scene) (start : ContainerStar
       -- placing a value, by a party that may write there, keeps the invariant
       pub places : KeepsInvariant scene words' scene.states y (Placed p i value ∷ [])
       places =
-          does_with scene inv none here
-          (counts_one scene inv words' y (Placed p i value ∷ []) well_formed i below new (refl, tt)
-          (Container start) (wrote_of p events) here.span owed placed_one)
+          does_with call
+          (counts_one places_turn below new (refl, tt) here.span owed placed_one)
           (set_effects.quietly (of_set scene) (inv_of_set scene inv) words' (Placed p i value ∷ []) leaves
           (quiet_placed (inv_of_set scene inv)) (refl, tt) (tt, tt) (tt, tt))
           (record {
@@ -193,15 +213,18 @@ module _ {T : Type 0} (scene : Scene T) (inv : Inv scene) (start : ContainerStar
 
     -- the run is not well-formed after the step, so nothing has to be said of what stands
     module _ (well_formed : WellFormedBefore words' []) (ill_formed : WellFormed (after scene words' y []) → ⊥) where
-      miscounted : IsCounted scene inv words' y [] well_formed i below new tt (Container start) (wrote_of p events) here.span owed
+      abbrev odd_turn : Turn scene words' y []
+      odd_turn = record { inv = inv; well_formed = well_formed }
+
+      miscounted : IsCounted odd_turn below new tt here.span owed
       miscounted = grind (arith, fold-append, left_after)
 
       -- a step that raises a number and writes nothing keeps the invariant, if the run is not
       -- well-formed after it
       pub misplaces : KeepsInvariant scene words' scene.states y []
       misplaces =
-          does_with scene inv none here
-          (counts_one scene inv words' y [] well_formed i below new tt (Container start) (wrote_of p events) here.span owed miscounted)
+          does_with call
+          (counts_one odd_turn below new tt here.span owed miscounted)
           (set_effects.quietly (of_set scene) (inv_of_set scene inv) words' [] leaves set_effects.quiet_none tt tt tt)
           (right_none)
 
@@ -209,20 +232,27 @@ module _ {T : Type 0} (scene : Scene T) (inv : Inv scene) (start : ContainerStar
 
   -- the words after the number of changes is raised
   abbrev pub changed_words : List ℕ
-  changed_words = set ws (change_word c) (one_more (change_in code c (before scene)))
+  changed_words = set scene.words (change_word c) (one_more (change_in code c (before scene)))
 
   -- the step ends the call with `answer`, and keeps what holds of the set
-  module _ {words' : List ℕ} (answer : Answer T)
-      (set_does : set_invariant.Does (of_set scene) words' (Finished p (Container start) answer ∷ []))
-      (answers : AnswersBy scene.terms.by (set_invariant.IsWorn scene.terms.by words') c events (Finished p (Container start) answer))
-      (well_formed : WellFormedBefore words' (Finished p (Container start) answer ∷ []))
-      (placed : WellFormed (after scene words' y (Finished p (Container start) answer ∷ []))
-      → EndsRight events (Finished p (Container start) answer)) where
+  pub record EndsAs (words' : List ℕ) (answer : Answer T) : Type 0 where
+    pub set_does : set_invariant.Does (of_set scene) words' (Finished p (Container start) answer ∷ [])
+    -- the answer is right, and a call that has to place a value has placed it
+    pub answers : AnswersBy scene.terms.by (set_invariant.IsWorn scene.terms.by words') c events (Finished p (Container start) answer)
+    pub placed : WellFormed (after scene words' y (Finished p (Container start) answer ∷ [])) → EndsRight events (Finished p (Container start) answer)
+    pub well_formed : WellFormedBefore words' (Finished p (Container start) answer ∷ [])
+
+  module _ {words' : List ℕ} {answer : Answer T} (ends : EndsAs words' answer) where
+    open ends use {set_does, answers, placed, well_formed}
+
     abbrev finish : List (Event T)
     finish = Finished p (Container start) answer ∷ []
 
-    right_end : AreAllRight scene words' y finish
-    right_end = grind arith
+    abbrev end_turn : Turn scene words' y finish
+    end_turn = record { inv = inv; well_formed = well_formed }
+
+    end_right : AreAllRight scene words' y finish
+    end_right = right_end scene answers placed
 
     -- an end that raises the number of changes keeps the invariant, if all that is announced then stands
     pub ends_counted : words' ≡ changed_words
@@ -231,21 +261,21 @@ module _ {T : Type 0} (scene : Scene T) (inv : Inv scene) (start : ContainerStar
         → is_some (contents_of i events) ≡ true)
         → KeepsInvariant scene words' scene.states y finish
     ends_counted new says =
-        does_with scene inv none here
-        (counts_change scene inv words' y finish well_formed new
+        does_with call
+        (counts_change end_turn new
         (λ i. fold-append (contents_after i) None events finish)
         (λ i. fold-append (left_after i) true events finish)
         (λ holds i said. says (well_formed holds) i (sym (fold-append (announced_after i) false events finish) ∙ said)))
-        set_does right_end
+        set_does end_right
 
     -- an end that changes no word and announces nothing keeps the invariant, if a raise that is owed to the
     -- changes is owed still
-    pub ends_calmly : words' ≡ ws
+    pub ends_calmly : words' ≡ scene.words
         → ((i : ℕ) (b : Bool) → announced_after i b (Finished p (Container start) answer) ≡ b)
-        → OwesStill scene inv words' y finish well_formed → KeepsInvariant scene words' scene.states y finish
+        → OwesStill scene y → KeepsInvariant scene words' scene.states y finish
     ends_calmly same quiet still =
-        does_with scene inv none here
-        (calmly scene inv words' y finish well_formed (λ n behind. ap (λ w. get_or w n 0) same) (ap length same)
+        does_with call
+        (calmly end_turn (λ n behind. ap (λ w. get_or w n 0) same) (ap length same)
         (record {
           contents = λ i. fold-append (contents_after i) None events finish;
           announced = λ i. fold-append (announced_after i) false events finish ∙ quiet i (announced_of i events);
@@ -253,4 +283,4 @@ module _ {T : Type 0} (scene : Scene T) (inv : Inv scene) (start : ContainerStar
           spares = λ holds q ne i o lives mine was. fold-append (left_after i) true events finish ∙ was;
         })
         still)
-        set_does right_end
+        set_does end_right

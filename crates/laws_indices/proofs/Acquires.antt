@@ -220,11 +220,18 @@ module _ {T : Type 0} (scene : Scene T IndexSet) (inv : Inv outline scene) where
     -- where the flag was clear, the acquire has claimed the index and ends with it
     claim_succeeds : has_flag old i ≡ false → steps + 1 ≤ 4 + c + backs_then scene false * max 2 c → StepKeeps stage claim false (Done (Ok i))
     claim_succeeds clear low =
-        claims_index scene inv i (Some claim) below
-        (was_free c ws hs i below (busy scene) clear good_before) (unlocked_for c ws hs (busy scene) good_before at_work)
-        (λ busy' e.
-        let busy_is : busy scene ≡ busy' + 1 = omega arith in claims c ws hs i below p busy' clear (rw (← busy_is) good_before))
-        refl refl refl head_same low paid
+        claims_index inv i (Some claim) (record {
+          below = below;
+          none = was_free c ws hs i below (busy scene) clear good_before;
+          unlocked = unlocked_for c ws hs (busy scene) good_before at_work;
+          good = λ busy' e. let busy_is : busy scene ≡ busy' + 1 = omega arith in claims c ws hs i below p busy' clear (rw (← busy_is) good_before);
+          head_same = head_same;
+          takes_before = refl;
+          gives_before = refl;
+          wrote_before = refl;
+          steps = low;
+          paid = paid;
+        })
 
     -- where the flag stood already, the acquire goes on to another stage
     tries_on : has_flag old i ≡ true → (back : Bool) (stage' : AcquireStage) → acquire_counts stage' ≡ 1
@@ -233,10 +240,17 @@ module _ {T : Type 0} (scene : Scene T IndexSet) (inv : Inv outline scene) where
         (backs_then scene back) stage'
         → StepKeeps stage claim back (GoOn (at_acquire (call_at stage) stage'))
     tries_on stood back stage' heavy' at low knows =
-        goes_on scene inv Acquire (acquire_at c stage) (acquire_at c stage') (Some claim) back
-        (λ busy' e.
-        let busy_is : busy scene ≡ busy' = omega arith in claims_again c ws hs i below busy' stood (rw (← busy_is) good_before))
-        refl refl refl (ap says_locked head_same) tt low (refl, at) knows
+        goes_on inv Acquire (acquire_at c stage) (acquire_at c stage') (Some claim) back (record {
+          good = λ busy' e. let busy_is : busy scene ≡ busy' = omega arith in claims_again c ws hs i below busy' stood (rw (← busy_is) good_before);
+          takes_same = refl;
+          gives_same = refl;
+          wrote_same = refl;
+          lock_same = ap says_locked head_same;
+          straight = tt;
+          steps = low;
+          at = (refl, at);
+          knows = knows;
+        })
 
   -- the claim of the proposed index ends the acquire, or leads to a scan from index 0 on
   -- where that flag stands
@@ -248,8 +262,9 @@ module _ {T : Type 0} (scene : Scene T IndexSet) (inv : Inv outline scene) where
       let some = good_before.some in
       by_test (StepKeeps stage (claim stage i below here refl paid) false) (has_flag (get_or ws (flag_word c i) 0) i)
       (GoOn (at_acquire (call_at stage) (acquires.Scans 0))) (Done (Ok i))
-      (λ stood. tries_on stage i below here refl paid stood false (acquires.Scans 0) refl (omega arith)
-      (omega arith) (inl (λ j less. absurd (omega arith), omega arith)))
+      (λ stood.
+      let from_here = tries_on stage i below here refl paid in
+      from_here stood false (acquires.Scans 0) refl (omega arith) (omega arith) (inl (λ j less. absurd (omega arith), omega arith)))
       (λ clear. claim_succeeds stage i below here refl paid clear (omega arith))
 
   -- the acquire scans the flags, and is at the index `i`
@@ -278,7 +293,8 @@ module _ {T : Type 0} (scene : Scene T IndexSet) (inv : Inv outline scene) where
     -- where the flag stood and indices follow, the scan goes on to the next index
     scans_on : is_claimed c ws i ≡ true → i + 1 < c → StepKeeps scanning scan false (GoOn (at_acquire (call_at scanning) (acquires.Scans (i + 1))))
     scans_on stood more =
-        tries_on scanning i below here refl scan_paid stood false (acquires.Scans (i + 1)) refl more (omega arith)
+        let from_here = tries_on scanning i below here refl scan_paid in
+        from_here stood false (acquires.Scans (i + 1)) refl more (omega arith)
         (unless_then scene (Some scan) (AllClaimed c ws i) (AllClaimed c flags_then (i + 1))
         (λ all j less. still_claimed c ws hs i below (busy scene) j good_before (one_more stood all j less)) knows)
 
@@ -292,8 +308,8 @@ module _ {T : Type 0} (scene : Scene T IndexSet) (inv : Inv outline scene) where
         ⊎_elim (λ k. absurd (some_free c ws hs (busy scene) good_before (at_work scanning i below here refl scan_paid)
         (subst (AllClaimed c ws) end (one_more stood k.0))))
         (λ k. k) knows in
-        tries_on scanning i below here refl scan_paid stood true (acquires.Scans 0) refl (omega arith)
-        (omega arith) (inl (λ j less. absurd (omega arith), omega arith))
+        let from_here = tries_on scanning i below here refl scan_paid in
+        from_here stood true (acquires.Scans 0) refl (omega arith) (omega arith) (inl (λ j less. absurd (omega arith), omega arith))
 
     -- the step in which an acquire scans a flag leads to its end, to the next flag, or back to the first flag
     pub scans : StepOf scene Acquire (acquire_at c scanning)

@@ -157,7 +157,7 @@ module _ (c : ℕ) (words : List ℕ) (holders : List (Option ℕ)) where
         let more = held_below_set holders c i (Some p) below good.long in
         moves_flag (bit_or old (flag i)) (Some p) (claim_sets c words i in_words) (claim_leaves c words i in_words) (omega arith) good
 
-    -- a claim of a flag that stands already leaves the flags that stand
+    -- a claim of a flag, whether it stands already or not, leaves the flags that stand
     pub still_claimed : (busy j : ℕ) → Good c words holders busy → is_claimed c words j ≡ true → is_claimed c (set words place (bit_or old (flag i))) j ≡ true
     still_claimed = grind (arith, set, flag, claim_sets, within, claim_leaves, cases_eq)
 

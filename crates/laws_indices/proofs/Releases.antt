@@ -144,10 +144,21 @@ module _ {T : Type 0} (scene : Scene T IndexSet) (inv : Inv outline scene) (inde
     -- the clear of its flag frees the index, and leads to the load of the head
     default_clears : holder hs index ≡ Some p → steps ≤ 0 → StepOf scene started (default releases.ClearsFlag)
     default_clears holds few_steps =
-        frees_index scene inv Default
-        (default releases.LoadsHead) (Some clear) below holds
-        (λ busy' e. good_freed holds (omega arith)) refl refl refl refl refl clear_head (omega arith)
-        (omega arith) (refl, refl, below, tt) (omega arith)
+        frees_index inv Default (default releases.LoadsHead) (Some clear) (record {
+          below = below;
+          held = holds;
+          good = λ busy' e. good_freed holds (omega arith);
+          head_same = clear_head;
+          takes_same = refl;
+          gives_before = refl;
+          gives_after = refl;
+          wrote_before = refl;
+          wrote_after = refl;
+          straight = omega arith;
+          steps = omega arith;
+          at = (refl, refl, below, tt);
+          knows = omega arith;
+        })
 
     -- the load of the head leads to the store of the next index
     default_loads : steps ≤ 1 → StepOf scene started (default releases.LoadsHead)
@@ -156,10 +167,17 @@ module _ {T : Type 0} (scene : Scene T IndexSet) (inv : Inv outline scene) (inde
     -- the store of the next index leads to the exchange of the head
     default_stores : (head : ℕ) → steps ≤ 2 → StepOf scene started (default (releases.StoresNext head))
     default_stores head few_steps =
-        goes_on scene inv started (default (releases.StoresNext head))
-        (default (releases.ExchangesHead head)) (Some (store head)) false
-        (λ busy' e. good_stored head (omega arith)) refl refl refl (ap says_locked (store_head head))
-        (omega arith) (omega arith) (refl, refl, below, tt) (omega arith)
+        goes_on inv started (default (releases.StoresNext head)) (default (releases.ExchangesHead head)) (Some (store head)) false (record {
+          good = λ busy' e. good_stored head (omega arith);
+          takes_same = refl;
+          gives_same = refl;
+          wrote_same = refl;
+          lock_same = ap says_locked (store_head head);
+          straight = omega arith;
+          steps = omega arith;
+          at = (refl, refl, below, tt);
+          knows = omega arith;
+        })
 
     -- the exchange of the head ends the release, or leads to the subtraction where the head has moved
     default_exchanges : (head : ℕ) → IsHere scene (default (releases.ExchangesHead head)) → steps ≤ 3
@@ -182,27 +200,47 @@ module _ {T : Type 0} (scene : Scene T IndexSet) (inv : Inv outline scene) (inde
             let goes : after {T = T} stage (head_of ws) ≡ Done (State Unlocked) = rw t refl in
             let new : words_after ws (Some (exchange false head)) ≡ set ws 0 (head_given_back (head_of ws) index) =
             rw t (ap (λ h. set ws 0 (head_given_back h index)) (sym same_head)) in
-            rw goes (ends scene inv started stage (State Unlocked) (Some (exchange false head)) false
-            (λ busy' e. good_given (exchange false head) new (omega arith)) told refl tt
-            (given_open works (exchange false head) new) (omega arith) (omega arith) (omega arith))
+            rw goes (ends inv started stage (State Unlocked) (Some (exchange false head)) false (record {
+              good = λ busy' e. good_given (exchange false head) new (omega arith);
+              tally = told;
+              done = refl;
+              right = tt;
+              lock_same = given_open works (exchange false head) new;
+              straight = omega arith;
+              steps = omega arith;
+              paid = omega arith;
+            }))
         -- the head has moved: the release goes on to the subtraction
         go false t =
             let goes : after {T = T} stage (head_of ws) ≡ GoOn (default releases.Subtracts) = rw t refl in
             let same : words_after ws (Some (exchange false head)) ≡ ws = rw t (set-get_or ws 0 0) in
-            rw goes (goes_on scene inv started stage (default releases.Subtracts) (Some (exchange false head))
-            false (λ busy' e. good_same (exchange false head) busy' same (omega arith)) refl refl refl
-            (ap (λ w. says_locked (head_of w)) same) (omega arith) (omega arith) (refl, refl, below, tt)
-            (omega arith))
+            rw goes (goes_on inv started stage (default releases.Subtracts) (Some (exchange false head)) false (record {
+              good = λ busy' e. good_same (exchange false head) busy' same (omega arith);
+              takes_same = refl;
+              gives_same = refl;
+              wrote_same = refl;
+              lock_same = ap (λ w. says_locked (head_of w)) same;
+              straight = omega arith;
+              steps = omega arith;
+              at = (refl, refl, below, tt);
+              knows = omega arith;
+            }))
 
     -- the subtraction from the head ends the release
     default_subtracts : IsHere scene (default releases.Subtracts) → steps ≤ 4 → StepOf scene started (default releases.Subtracts)
     default_subtracts here few_steps =
         let works = default_works releases.Subtracts here refl in
         let x : ℕ = (head_of ws + (2 ^ 64 - 1)) % 2 ^ 64 in
-        ends scene inv started (default releases.Subtracts) (State Unlocked) (Some subtract) false
-        (λ busy' e. subtracts c ws hs busy' (one_less busy' (omega arith))) told refl tt
-        (still_open works subtract x refl (less_number (head_of ws) (some_number works).0)) (omega arith)
-        (omega arith) (omega arith)
+        ends inv started (default releases.Subtracts) (State Unlocked) (Some subtract) false (record {
+          good = λ busy' e. subtracts c ws hs busy' (one_less busy' (omega arith));
+          tally = told;
+          done = refl;
+          right = tt;
+          lock_same = still_open works subtract x refl (less_number (head_of ws) (some_number works).0);
+          straight = omega arith;
+          steps = omega arith;
+          paid = omega arith;
+        })
 
     -- any step of a release in mode Default keeps the invariant
     pub default_step : (stage : ReleaseStage) → IsHere scene (default stage) → ReleaseAt hs p index stage
@@ -225,10 +263,21 @@ module _ {T : Type 0} (scene : Scene T IndexSet) (inv : Inv outline scene) (inde
   -- the clear of its flag frees the index, and leads to the load of the head
   lock_clears : holder hs index ≡ Some p → IsPaid since changes backs → steps ≤ 0 → StepOf scene started_lock (locking releases.ClearsFlag)
   lock_clears holds paid few_steps =
-      frees_index scene inv LockIfLastIndex
-      (locking releases.LoadsHead) (Some clear) below holds
-      (λ busy' e. good_freed holds (omega arith)) refl refl refl refl refl clear_head tt (omega arith)
-      (refl, refl, below, tt) (omega arith)
+      frees_index inv LockIfLastIndex (locking releases.LoadsHead) (Some clear) (record {
+        below = below;
+        held = holds;
+        good = λ busy' e. good_freed holds (omega arith);
+        head_same = clear_head;
+        takes_same = refl;
+        gives_before = refl;
+        gives_after = refl;
+        wrote_before = refl;
+        wrote_after = refl;
+        straight = tt;
+        steps = omega arith;
+        at = (refl, refl, below, tt);
+        knows = omega arith;
+      })
 
   -- the load of the head leads to the store of the next index
   lock_loads : IsPaid since changes backs → steps ≤ 1 → StepOf scene started_lock (locking releases.LoadsHead)
@@ -238,11 +287,18 @@ module _ {T : Type 0} (scene : Scene T IndexSet) (inv : Inv outline scene) (inde
   lock_stores : (head : ℕ) → PaidUnless (head_of ws ≡ head) since changes backs → steps ≤ 2 + backs * 2
       → StepOf scene started_lock (locking (releases.StoresNext head))
   lock_stores head knows few_steps =
-      goes_on scene inv started_lock (locking (releases.StoresNext head))
-      (locking (releases.ExchangesHead head)) (Some (store head)) false
-      (λ busy' e. good_stored head (omega arith)) refl refl refl (ap says_locked (store_head head)) tt
-      (omega arith) (refl, refl, below, tt)
-      (unless_then scene (Some (store head)) (head_of ws ≡ head) (head_of (words_after ws (Some (store head))) ≡ head) (λ e. store_head head ∙ e) knows)
+      goes_on inv started_lock (locking (releases.StoresNext head)) (locking (releases.ExchangesHead head)) (Some (store head)) false (record {
+        good = λ busy' e. good_stored head (omega arith);
+        takes_same = refl;
+        gives_same = refl;
+        wrote_same = refl;
+        lock_same = ap says_locked (store_head head);
+        straight = tt;
+        steps = omega arith;
+        at = (refl, refl, below, tt);
+        knows =
+            unless_then scene (Some (store head)) (head_of ws ≡ head) (head_of (words_after ws (Some (store head))) ≡ head) (λ e. store_head head ∙ e) knows;
+      })
 
   -- the release may lock, and is to exchange the head `head`
   module _ (head : ℕ) (here : IsHere scene (locking (releases.ExchangesHead head)))
@@ -270,10 +326,17 @@ module _ {T : Type 0} (scene : Scene T IndexSet) (inv : Inv outline scene) (inde
         let wide = good_before.wide in
         let is : head_of (words_after ws (Some (exchange true head))) ≡ head_locked (head_of ws) index =
         ap head_of new ∙ get_or-set_same ws 0 (head_locked (head_of ws) index) 0 (omega arith) in
-        locks_set scene inv (Some (exchange true head))
-        (last_given c ws hs (others works) (one_less (others works) (is_others works)) one) (not_locked works)
-        (λ busy' e. rw new (shuts c ws hs busy' (one_less busy' (omega arith)) index one))
-        refl refl refl (ap borrowed is ∙ locked_number (head_of ws) index) (omega arith) paid
+        locks_set inv (Some (exchange true head)) (record {
+          none = last_given c ws hs (others works) (one_less (others works) (is_others works)) one;
+          unlocked = not_locked works;
+          good = λ busy' e. rw new (shuts c ws hs busy' (one_less busy' (omega arith)) index one);
+          shut = ap borrowed is ∙ locked_number (head_of ws) index;
+          takes_before = refl;
+          gives_before = refl;
+          wrote_before = refl;
+          steps = omega arith;
+          paid = paid;
+        })
 
     -- where the head counts another index, the exchange ends the release and leaves the set open
     leaves_set : words_after ws (Some (exchange true head)) ≡ set ws 0 (head_given_back (head_of ws) index)
@@ -284,10 +347,16 @@ module _ {T : Type 0} (scene : Scene T IndexSet) (inv : Inv outline scene) (inde
         let some = (some_number works).0 in
         let all = all_in_use scene here in
         let known = paid in
-        ends scene inv started_lock exchanging (State Unlocked) (Some (exchange true head)) false
-        (λ busy' e. good_given (exchange true head) new (omega arith)) told refl
-        (rw inv.holds.tally (omega arith)) (given_open works (exchange true head) new) tt (omega arith)
-        (omega arith)
+        ends inv started_lock exchanging (State Unlocked) (Some (exchange true head)) false (record {
+          good = λ busy' e. good_given (exchange true head) new (omega arith);
+          tally = told;
+          done = refl;
+          right = rw inv.holds.tally (omega arith);
+          lock_same = given_open works (exchange true head) new;
+          straight = tt;
+          steps = omega arith;
+          paid = omega arith;
+        })
 
     -- where the head has moved, the release turns back to the store of the next index
     goes_back_to : words_after ws (Some (exchange true head)) ≡ ws → head_of ws ≢ head

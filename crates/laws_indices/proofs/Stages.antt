@@ -197,156 +197,220 @@ module _ {T : Type 0} (scene : Scene T IndexSet) where
   abbrev pub StepOf : IndexStart → IndexFlight → Type 0
   StepOf start flight = Comes start flight (ask_of (want flight)) (goes_back flight (old_for flight)) (after flight (old_for flight))
 
-  module _ (inv : Inv outline scene) where
-    -- a step with which the call goes on and writes nothing preserves what holds of the set
-    pub goes_on :
-        (start : IndexStart) (flight flight' : IndexFlight) (ask : Option Ask) (back : Bool)
-        → ((busy' : ℕ) → busy' + counts flight ≡ busy + counts flight' → Good c (words_after words ask) holders busy')
-        → takes flight' ≡ takes flight → gives flight' ≡ gives flight → flight_wrote {T = T} p flight' ≡ flight_wrote p flight
-        → says_locked (head_of (words_after words ask)) ≡ says_locked (head_of words)
-        → GoesStraight {T = T} (Indices start) (backs_then back)
-        → scene.steps + step_count ask ≤ number_of c flight' (backs_then back)
-        → At c holders p start flight'
-        → FlightKnows c (words_after words ask) (since_then ask) (changes_then ask) (backs_then back) flight'
-        → Leaves holders [] start flight ask back (GoOn flight')
-    goes_on x0 x1 x2 x3 x4 x5 x6 x7 x8 x9 x10 x11 x12 = let seen = is_seen words x3 scene.changes in grind arith
+-- What a step shows with which the call `flight` goes on to `next` and writes nothing.
+pub record GoingOn {T : Type 0} (scene : Scene T IndexSet) (start : IndexStart) (flight next : IndexFlight) (ask : Option Ask) (back : Bool) : Type 0 where
+  -- the words are right for the calls at work after the step; what the call takes, gives and has written stays, and so does the lock
+  pub good : (busy' : ℕ) → busy' + counts flight ≡ busy scene + counts next
+      → Good scene.capacity (words_after (words scene) ask) (holders scene) busy'
+  pub takes_same : takes next ≡ takes flight
+  pub gives_same : gives next ≡ gives flight
+  pub wrote_same : flight_wrote {T = T} scene.party next ≡ flight_wrote scene.party flight
+  pub lock_same : says_locked (head_of (words_after (words scene) ask)) ≡ says_locked (head_of (words scene))
+  -- its turns back and its steps are within their bounds, and it stands at its next stage and knows what the stage says
+  pub straight : GoesStraight {T = T} (Indices start) (backs_then scene back)
+  pub steps : scene.steps + step_count ask ≤ number_of scene.capacity next (backs_then scene back)
+  pub at : At scene.capacity (holders scene) scene.party start next
+  pub knows : FlightKnows scene.capacity (words_after (words scene) ask) (since_then scene ask) (changes_then scene ask) (backs_then scene back) next
 
-    -- a step that ends the call, and frees, claims and locks nothing, preserves what holds of the set
-    pub ends :
-        (start : IndexStart) (flight : IndexFlight) (answer : Answer T) (ask : Option Ask) (back : Bool)
-        → ((busy' : ℕ) → busy' + counts flight ≡ busy + 0 → Good c (words_after words ask) holders busy')
-        → ((h t g t' g' : ℕ) → t' + takes flight ≡ t + 0 → g' + gives flight ≡ g + 0
-        → tally_after (record { held = h; taking = t; giving = g }) (Finished p (Indices start) answer) ≡ record { held = h; taking = t'; giving = g' })
-        → done_by start answer ≡ Some (set_acts (flight_wrote {T = T} p flight))
-        → AnswersFew c events (Finished p (Indices start) answer)
-        → says_locked (head_of (words_after words ask)) ≡ says_locked (head_of words)
-        → GoesStraight {T = T} (Indices start) (backs_then back)
-        → scene.steps + step_count ask ≤ most_steps c start (backs_then back)
-        → backs_then back ≤ changes_then ask - since_then ask
-        → Leaves holders (Finished p (Indices start) answer ∷ []) start flight ask back (Done answer)
-    ends start flight answer ask back good told done right lock straight steps paid =
-        record {
-          preserves =
-              record {
-                seats = refl;
-                right = (tt, tt);
-                answers = (right, tt);
-                good = good;
-                tally = λ taking' giving' a b. told _ _ _ taking' giving' a b;
-                holders = λ i. refl;
-                lock = sym lock;
-                straight = straight;
-                seen = is_seen words ask scene.changes;
-                keeps = λ q ne index h. h;
-              };
-          own = (refl, tt);
-          stands = ((refl, done), tt);
-          here = record { answer = answer; wrote = flight_wrote p flight; span = refl; steps = steps };
-          knows = paid;
-        }
+-- What a step shows that ends the call with `answer`, and frees, claims and locks nothing.
+pub record Ending {T : Type 0} (scene : Scene T IndexSet) (start : IndexStart) (flight : IndexFlight)
+    (answer : Answer T) (ask : Option Ask) (back : Bool) : Type 0 where
+  -- the words are right for the calls at work after the step, and so is the tally of the events
+  pub good : (busy' : ℕ) → busy' + counts flight ≡ busy scene + 0 → Good scene.capacity (words_after (words scene) ask) (holders scene) busy'
+  pub tally : (h t g t' g' : ℕ) → t' + takes flight ≡ t + 0 → g' + gives flight ≡ g + 0
+      → tally_after (record { held = h; taking = t; giving = g }) (Finished scene.party (Indices start) answer) ≡ record { held = h; taking = t'; giving = g' }
+  -- the answer goes with what the call has written and tells the truth, and the lock stays
+  pub done : done_by start answer ≡ Some (set_acts (flight_wrote {T = T} scene.party flight))
+  pub right : AnswersFew scene.capacity scene.events (Finished scene.party (Indices start) answer)
+  pub lock_same : says_locked (head_of (words_after (words scene) ask)) ≡ says_locked (head_of (words scene))
+  -- its turns back and its steps are within their bounds
+  pub straight : GoesStraight {T = T} (Indices start) (backs_then scene back)
+  pub steps : scene.steps + step_count ask ≤ most_steps scene.capacity start (backs_then scene back)
+  pub paid : backs_then scene back ≤ changes_then scene ask - since_then scene ask
 
-    -- a step in which a release frees its index preserves what holds of the set
-    pub frees_index :
-        {index : ℕ} (mode : ReleaseMode) {flight : IndexFlight} (flight' : IndexFlight) (ask : Option Ask) → index < c → holder holders index ≡ Some p
-        → ((busy' : ℕ) → busy' + counts flight ≡ busy + counts flight' → Good c (words_after words ask) (set holders index None) busy')
-        → takes flight' ≡ takes flight → gives flight ≡ 0 → gives flight' ≡ 1 → flight_wrote {T = T} p flight ≡ []
-        → flight_wrote {T = T} p flight' ≡ Freed p index ∷ []
-        → head_of (words_after words ask) ≡ head_of words
-        → GoesStraight {T = T} (Indices (Release index mode)) (backs_then false)
-        → scene.steps + step_count ask ≤ number_of c flight' (backs_then false)
-        → At c (set holders index None) p (Release index mode) flight'
-        → FlightKnows c (words_after words ask) (since_then ask) (changes_then ask) (backs_then false) flight'
-        → Leaves (set holders index None) (Freed p index ∷ []) (Release index mode) flight ask false (GoOn flight')
-    frees_index {index} mode flight' ask below holds good takes_same none one before after head straight steps at knows =
-        let long = inv.holds.good.long in
-        let less = held_below_set holders c index None below long in
-        let mine : one_held (holder holders index) ≡ 1 = ap one_held holds in
-        record {
-          preserves =
-              record {
-                seats = refl;
-                right = (inv.holds.holders index ∙ holds, tt);
-                answers = (tt, tt);
-                good = good;
-                tally = λ taking' giving' a b. same_tally _ _ _ _ _ _ (omega arith) (omega arith) (omega arith);
-                holders = λ i. holder_set holders index None i (omega arith);
-                lock = ap says_locked (sym head);
-                straight = straight;
-                seen = is_seen words ask scene.changes;
-                keeps =
-                    λ q ne i h. get_or-set_other holders index i None None
-                    (λ e. clash (holder holders index) p q ne holds (ap (holder holders) (sym e) ∙ h))
-                    ∙ h;
-              };
-          own = (refl, tt);
-          stands = rw before ((refl, refl), tt);
-          here = rw before (record { span = ap (λ es. Open (Indices (Release index mode)) es) (sym after); steps = steps; at = at });
-          knows = knows;
-        }
+-- What a step shows in which the release `flight` frees its index and goes on to `next`.
+pub record Freeing {T : Type 0} (scene : Scene T IndexSet) (index : ℕ) (mode : ReleaseMode) (flight next : IndexFlight) (ask : Option Ask) : Type 0 where
+  -- the party holds the index, and the words are right once nobody does
+  pub below : index < scene.capacity
+  pub held : holder (holders scene) index ≡ Some scene.party
+  pub good : (busy' : ℕ) → busy' + counts flight ≡ busy scene + counts next
+      → Good scene.capacity (words_after (words scene) ask) (set (holders scene) index None) busy'
+  pub head_same : head_of (words_after (words scene) ask) ≡ head_of (words scene)
+  -- what the call counts for, and what it has written, before and after
+  pub takes_same : takes next ≡ takes flight
+  pub gives_before : gives flight ≡ 0
+  pub gives_after : gives next ≡ 1
+  pub wrote_before : flight_wrote {T = T} scene.party flight ≡ []
+  pub wrote_after : flight_wrote {T = T} scene.party next ≡ Freed scene.party index ∷ []
+  -- its turns back and its steps are within their bounds, and it stands at its next stage and knows what the stage says
+  pub straight : GoesStraight {T = T} (Indices (Release index mode)) (backs_then scene false)
+  pub steps : scene.steps + step_count ask ≤ number_of scene.capacity next (backs_then scene false)
+  pub at : At scene.capacity (set (holders scene) index None) scene.party (Release index mode) next
+  pub knows : FlightKnows scene.capacity (words_after (words scene) ask) (since_then scene ask) (changes_then scene ask) (backs_then scene false) next
 
-    -- a step in which an acquire claims an index and ends preserves what holds of the set
-    pub claims_index :
-        (index : ℕ) {flight : IndexFlight} (ask : Option Ask) → index < c → holder holders index ≡ None → counted_in words ≢ locked
-        → ((busy' : ℕ) → busy' + counts flight ≡ busy + 0 → Good c (words_after words ask) (set holders index (Some p)) busy')
-        → takes flight ≡ 1 → gives flight ≡ 0 → flight_wrote {T = T} p flight ≡ []
-        → head_of (words_after words ask) ≡ head_of words
-        → scene.steps + step_count ask ≤ most_steps c Acquire (backs_then false)
-        → IsPaid scene.since scene.changes scene.backs
-        → Leaves (set holders index (Some p)) (Claimed p index ∷ Finished p (Indices Acquire) (Index index) ∷ []) Acquire flight ask false (Done (Index index))
-    claims_index index ask below none unlocked good one zero wrote head steps paid =
-        let long = inv.holds.good.long in
-        let more = held_below_set holders c index (Some p) below long in
-        let free : one_held (holder holders index) ≡ 0 = ap one_held none in
-        record {
-          preserves =
-              record {
-                seats = refl;
-                right = ((below, inv.holds.holders index ∙ none, inv.holds.lock ∙ open_says (head_of words) unlocked), (tt, tt));
-                answers = (tt, (tt, tt));
-                good = good;
-                tally = λ taking' giving' a b. same_tally _ _ _ _ _ _ (omega arith) (omega arith) (omega arith);
-                holders = λ i. holder_set holders index (Some p) i (omega arith);
-                lock = ap says_locked (sym head);
-                straight = tt;
-                seen = is_seen words ask scene.changes;
-                keeps =
-                    λ q ne i h. get_or-set_other holders index i (Some p) None
-                    (λ e. nobody (holder holders index) q none (ap (holder holders) (sym e) ∙ h))
-                    ∙ h;
-              };
-          own = (refl, (refl, tt));
-          stands = rw wrote (refl, ((refl, refl), tt));
-          here = rw wrote (record { answer = Index index; wrote = Claimed p index ∷ []; span = refl; steps = steps });
-          knows = omega arith;
-        }
+-- What a step shows in which the acquire `flight` claims the index `index` and ends.
+pub record Claiming {T : Type 0} (scene : Scene T IndexSet) (index : ℕ) (flight : IndexFlight) (ask : Option Ask) : Type 0 where
+  -- nobody holds the index, the set is not locked, and the words are right once the party holds it
+  pub below : index < scene.capacity
+  pub none : holder (holders scene) index ≡ None
+  pub unlocked : counted_in (words scene) ≢ locked
+  pub good : (busy' : ℕ) → busy' + counts flight ≡ busy scene + 0
+      → Good scene.capacity (words_after (words scene) ask) (set (holders scene) index (Some scene.party)) busy'
+  pub head_same : head_of (words_after (words scene) ask) ≡ head_of (words scene)
+  -- what the call counts for, and has written, before
+  pub takes_before : takes flight ≡ 1
+  pub gives_before : gives flight ≡ 0
+  pub wrote_before : flight_wrote {T = T} scene.party flight ≡ []
+  -- its steps are within their bound, and its turns back are paid for
+  pub steps : scene.steps + step_count ask ≤ most_steps scene.capacity Acquire (backs_then scene false)
+  pub paid : IsPaid scene.since scene.changes scene.backs
 
-    -- a step in which a release locks the set and ends preserves what holds of the set
-    pub locks_set :
-        {index : ℕ} {flight : IndexFlight} (ask : Option Ask) → ((i : ℕ) → holder holders i ≡ None) → counted_in words ≢ locked
-        → ((busy' : ℕ) → busy' + counts flight ≡ busy + 0 → Good c (words_after words ask) holders busy')
-        → takes flight ≡ 0 → gives flight ≡ 1 → flight_wrote {T = T} p flight ≡ Freed p index ∷ []
-        → counted_in (words_after words ask) ≡ locked
-        → scene.steps + step_count ask ≤ most_steps c (Release index LockIfLastIndex) (backs_then false)
-        → IsPaid scene.since scene.changes scene.backs
-        → Leaves holders (Locked p ∷ Finished p (Indices (Release index LockIfLastIndex)) (State states.Locked) ∷ [])
-        (Release index LockIfLastIndex) flight ask false (Done (State states.Locked))
-    locks_set {index} ask none unlocked good zero one wrote shut steps paid =
-        record {
-          preserves =
-              record {
-                seats = refl;
-                right = ((λ i. inv.holds.holders i ∙ none i, inv.holds.lock ∙ open_says (head_of words) unlocked), (tt, tt));
-                answers = (tt, (fold-append locked_after false events (Locked p ∷ []), tt));
-                good = good;
-                tally = λ taking' giving' a b. same_tally _ _ _ _ _ _ refl (omega arith) (omega arith);
-                holders = λ i. refl;
-                lock = sym (shut_says (head_of (words_after words ask)) shut);
-                straight = tt;
-                seen = is_seen words ask scene.changes;
-                keeps = λ q ne i h. h;
-              };
-          own = (refl, (refl, tt));
-          stands = rw wrote (refl, ((refl, refl), tt));
-          here = rw wrote (record { answer = State states.Locked; wrote = Freed p index ∷ Locked p ∷ []; span = refl; steps = steps });
-          knows = omega arith;
-        }
+-- What a step shows in which the release `flight` of the index `index` locks the set and ends.
+pub record Locking {T : Type 0} (scene : Scene T IndexSet) (index : ℕ) (flight : IndexFlight) (ask : Option Ask) : Type 0 where
+  -- nobody holds an index, the set is not locked, and the words are right once it is
+  pub none : (i : ℕ) → holder (holders scene) i ≡ None
+  pub unlocked : counted_in (words scene) ≢ locked
+  pub good : (busy' : ℕ) → busy' + counts flight ≡ busy scene + 0 → Good scene.capacity (words_after (words scene) ask) (holders scene) busy'
+  pub shut : counted_in (words_after (words scene) ask) ≡ locked
+  -- what the call counts for, and has written, before
+  pub takes_before : takes flight ≡ 0
+  pub gives_before : gives flight ≡ 1
+  pub wrote_before : flight_wrote {T = T} scene.party flight ≡ Freed scene.party index ∷ []
+  -- its steps are within their bound, and its turns back are paid for
+  pub steps : scene.steps + step_count ask ≤ most_steps scene.capacity (Release index LockIfLastIndex) (backs_then scene false)
+  pub paid : IsPaid scene.since scene.changes scene.backs
+
+-- the invariant holds before the step
+module _ {T : Type 0} {scene : Scene T IndexSet} (inv : Inv outline scene) where
+  open scene use {capacity as c, party as p, latest as latest, events as events}
+
+  -- a step with which the call goes on and writes nothing preserves what holds of the set
+  pub goes_on : (start : IndexStart) (flight next : IndexFlight) (ask : Option Ask) (back : Bool) → GoingOn scene start flight next ask back
+      → Leaves scene (holders scene) [] start flight ask back (GoOn next)
+  goes_on start flight next ask back on = let seen = is_seen (words scene) ask scene.changes in grind arith
+
+  -- a step that ends the call, and frees, claims and locks nothing, preserves what holds of the set
+  pub ends : (start : IndexStart) (flight : IndexFlight) (answer : Answer T) (ask : Option Ask) (back : Bool) → Ending scene start flight answer ask back
+      → Leaves scene (holders scene) (Finished p (Indices start) answer ∷ []) start flight ask back (Done answer)
+  ends start flight answer ask back end =
+      record {
+        preserves =
+            record {
+              seats = refl;
+              right = (tt, tt);
+              answers = (end.right, tt);
+              good = end.good;
+              tally = λ taking' giving' a b. end.tally _ _ _ taking' giving' a b;
+              holders = λ i. refl;
+              lock = sym end.lock_same;
+              straight = end.straight;
+              seen = is_seen (words scene) ask scene.changes;
+              keeps = λ q ne index h. h;
+            };
+        own = (refl, tt);
+        stands = ((refl, end.done), tt);
+        here = record { answer = answer; wrote = flight_wrote p flight; span = refl; steps = end.steps };
+        knows = end.paid;
+      }
+
+  -- a step in which a release frees its index preserves what holds of the set
+  pub frees_index : {index : ℕ} (mode : ReleaseMode) {flight : IndexFlight} (next : IndexFlight) (ask : Option Ask)
+      → Freeing scene index mode flight next ask
+      → Leaves scene (set (holders scene) index None) (Freed p index ∷ []) (Release index mode) flight ask false (GoOn next)
+  frees_index {index} mode next ask frees =
+      let long = inv.holds.good.long in
+      let below = frees.below in
+      let less = held_below_set (holders scene) c index None below long in
+      let mine : one_held (holder (holders scene) index) ≡ 1 = ap one_held frees.held in
+      let takes_same = frees.takes_same in
+      let none = frees.gives_before in
+      let one = frees.gives_after in
+      record {
+        preserves =
+            record {
+              seats = refl;
+              right = (inv.holds.holders index ∙ frees.held, tt);
+              answers = (tt, tt);
+              good = frees.good;
+              tally = λ taking' giving' a b. same_tally _ _ _ _ _ _ (omega arith) (omega arith) (omega arith);
+              holders = λ i. holder_set (holders scene) index None i (omega arith);
+              lock = ap says_locked (sym frees.head_same);
+              straight = frees.straight;
+              seen = is_seen (words scene) ask scene.changes;
+              keeps =
+                  λ q ne i h. get_or-set_other (holders scene) index i None None
+                  (λ e. clash (holder (holders scene) index) p q ne frees.held (ap (holder (holders scene)) (sym e) ∙ h))
+                  ∙ h;
+            };
+        own = (refl, tt);
+        stands = rw frees.wrote_before ((refl, refl), tt);
+        here =
+            rw frees.wrote_before
+            (record { span = ap (λ es. Open (Indices (Release index mode)) es) (sym frees.wrote_after); steps = frees.steps; at = frees.at });
+        knows = frees.knows;
+      }
+
+  -- a step in which an acquire claims an index and ends preserves what holds of the set
+  pub claims_index : (index : ℕ) {flight : IndexFlight} (ask : Option Ask) → Claiming scene index flight ask
+      → Leaves scene (set (holders scene) index (Some p))
+      (Claimed p index ∷ Finished p (Indices Acquire) (Index index) ∷ []) Acquire flight ask false
+      (Done (Index index))
+  claims_index index ask claims =
+      let below = claims.below in
+      let none = claims.none in
+      let one = claims.takes_before in
+      let zero = claims.gives_before in
+      let paid = claims.paid in
+      let long = inv.holds.good.long in
+      let more = held_below_set (holders scene) c index (Some p) below long in
+      let free : one_held (holder (holders scene) index) ≡ 0 = ap one_held none in
+      record {
+        preserves =
+            record {
+              seats = refl;
+              right = ((below, inv.holds.holders index ∙ none, inv.holds.lock ∙ open_says (head_of (words scene)) claims.unlocked), (tt, tt));
+              answers = (tt, (tt, tt));
+              good = claims.good;
+              tally = λ taking' giving' a b. same_tally _ _ _ _ _ _ (omega arith) (omega arith) (omega arith);
+              holders = λ i. holder_set (holders scene) index (Some p) i (omega arith);
+              lock = ap says_locked (sym claims.head_same);
+              straight = tt;
+              seen = is_seen (words scene) ask scene.changes;
+              keeps =
+                  λ q ne i h. get_or-set_other (holders scene) index i (Some p) None
+                  (λ e. nobody (holder (holders scene) index) q none (ap (holder (holders scene)) (sym e) ∙ h))
+                  ∙ h;
+            };
+        own = (refl, (refl, tt));
+        stands = rw claims.wrote_before (refl, ((refl, refl), tt));
+        here = rw claims.wrote_before (record { answer = Index index; wrote = Claimed p index ∷ []; span = refl; steps = claims.steps });
+        knows = omega arith;
+      }
+
+  -- a step in which a release locks the set and ends preserves what holds of the set
+  pub locks_set : {index : ℕ} {flight : IndexFlight} (ask : Option Ask) → Locking scene index flight ask
+      → Leaves scene (holders scene) (Locked p ∷ Finished p (Indices (Release index LockIfLastIndex)) (State states.Locked) ∷ [])
+      (Release index LockIfLastIndex) flight ask false (Done (State states.Locked))
+  locks_set {index} ask locks =
+      let zero = locks.takes_before in
+      let one = locks.gives_before in
+      let paid = locks.paid in
+      record {
+        preserves =
+            record {
+              seats = refl;
+              right = ((λ i. inv.holds.holders i ∙ locks.none i, inv.holds.lock ∙ open_says (head_of (words scene)) locks.unlocked), (tt, tt));
+              answers = (tt, (fold-append locked_after false events (Locked p ∷ []), tt));
+              good = locks.good;
+              tally = λ taking' giving' a b. same_tally _ _ _ _ _ _ refl (omega arith) (omega arith);
+              holders = λ i. refl;
+              lock = sym (shut_says (head_of (words_after (words scene) ask)) locks.shut);
+              straight = tt;
+              seen = is_seen (words scene) ask scene.changes;
+              keeps = λ q ne i h. h;
+            };
+        own = (refl, (refl, tt));
+        stands = rw locks.wrote_before (refl, ((refl, refl), tt));
+        here = rw locks.wrote_before (record { answer = State states.Locked; wrote = Freed p index ∷ Locked p ∷ []; span = refl; steps = locks.steps });
+        knows = omega arith;
+      }

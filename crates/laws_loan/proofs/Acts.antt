@@ -142,7 +142,7 @@ module _ {T : Type 0} (m : Underway T) (p : ℕ) where
       → AddsOne (submission_word t.world.capacity) t.world.words asked
   writes_on write read index same asks =
       by_words submission_word (ask_of (shifted (submission_word slots) (push_asks queue (overflow_pushes.StoresWrite write read) index))) asks
-      (rw same (adds_write slots queue k busy s.holds.parts reached read index))
+      (rw same (adds_write s.holds.parts reached read index))
 
   -- what the exchange of the read position finds
   abbrev moved : ℕ → ℕ
@@ -153,10 +153,10 @@ module _ {T : Type 0} (m : Underway T) (p : ℕ) where
       → asked ≡ ask_of (shifted (submission_word slots) (move 1 read))
       → AddsOne (read_word t.world.capacity) t.world.words asked
   moves_on read unmoved asks =
-      let found = finds_read slots queue k busy s.holds.parts reached read in
+      let found = finds_read s.holds.parts reached read in
       let same : read ≡ k.submission.read = grind (arith, nat_tests) in
       by_words read_word (ask_of (shifted (submission_word slots) (move 1 read))) asks
-      (rw same (adds_read slots queue k busy s.holds.parts reached))
+      (rw same (adds_read s.holds.parts reached))
 
   -- a step that writes no act has nothing to justify
   pub silent_right : (effect : Effect) → Silent effect → Right (acts_of p effect)
@@ -224,7 +224,7 @@ module _ {T : Type 0} (m : Underway T) (p : ℕ) where
 
       -- the load finds the write position of the submission queue
       found : old ≡ k.submission.write
-      found = submission_old slots queue k busy s.holds.parts (load 0) (omega arith)
+      found = submission_old s.holds.parts (load 0) (omega arith)
 
       -- the step loads the write position of the submission queue
       at_first : asked ≡ Some (record { word = submission_word t.world.capacity; op = Load })

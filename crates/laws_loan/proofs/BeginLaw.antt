@@ -1,7 +1,7 @@
 -- A begin that no row refuses keeps what holds of a loan channel.
-use Rattle.laws_loan.proofs.Names.{◌≡◌, ℕ, ◌+◌, ◌≤◌, ◌==◌, Bool, false, not, Some, None, List, [], ◌∷◌, ◌++◌, get_or}
+use Rattle.laws_loan.proofs.Names.{◌≡◌, ℕ, ◌+◌, ◌≤◌, ◌==◌, Bool, false, not, Some, None, [], ◌∷◌, ◌++◌, get_or}
 use Rattle.laws_loan.proofs.Names.{refl, sym, ap, subst, ◌∙◌, nat_tests, submission_word, Begun, Start, Flight, Book}
-use Rattle.laws_loan.proofs.Names.{LoanStart, LoanFlight, Send, Receive, Reclaim, Party, Coding, first_of}
+use Rattle.laws_loan.proofs.Names.{LoanStart, LoanFlight, Send, Receive, Reclaim, Coding, first_of}
 use Rattle.laws_loan.proofs.Names.{kept_after_begin, first, loan_of, send_of, give_up_of, take_back_of, receive_of}
 use Rattle.laws_loan.proofs.Names.{give_back_of, reclaim_of, has_died, call_rows, kept_rows, is_past, asks_for}
 use Rattle.laws_loan.proofs.Names.{lacks_role, lacks_index, reclaims_early, fresh, holds, span_of, first_row, IsShut}
@@ -19,8 +19,8 @@ use Rattle.model.specs.declared.turn.Kind.TheVariants as kinds
 use Rattle.model.specs.declared.turn.Refusal.TheVariants.{BadIndex, NoRole, NotHeld, OwnerIsDead, OwnerLives}
 use Rattle.model.specs.Parties.{party_of}
 use Rattle.model.proofs.Frame as frame
-use Rattle.laws_loan.proofs.Begins.{IsFirst, after, holds_then, owes}
-use Rattle.laws_loan.proofs.Channel.{Channel, kept_is}
+use Rattle.laws_loan.proofs.Begins.{Between, IsFirst, after, holds_then, owes}
+use Rattle.laws_loan.proofs.Channel.{kept_is}
 use Rattle.laws_loan.proofs.Firsts.{is_that, is_below, has_it, loan_first, take_back_first, give_up_first, send_first}
 use Rattle.laws_loan.proofs.Firsts.{reclaim_first, receive_first, give_back_first}
 use Rattle.laws_loan.proofs.Invariant.{reclaims_in, HoldsNow, family}
@@ -59,18 +59,18 @@ module _ (slots queue : ℕ) (some : 1 ≤ queue) where
       ≡ Reclaim (record { slots = slots; queue = queue; stage = reclaims.Drains overflow_pops.LoadsRead })
   reclaim_is = rw loads_first refl
 
--- what holds of the channel before the begin of the party `p` is `holds_now`, and `p` has no call under way
-module _ {T : Type 0} (code : Coding T) (slots queue : ℕ) (s : Channel T) (latest : List (ℕ × Party T))
-    (turns changes : ℕ) (holds_now : HoldsNow slots queue s latest s.events turns) (p : ℕ)
-    (shut : IsShut (span_of p s.events)) where
+-- the channel is between two turns, and the party `p` has no call under way
+module _ {T : Type 0} (now : Between T) (p : ℕ) (shut : IsShut (span_of p now.state.events)) where
+  open now use {slots, queue, state as s, holds as holds_now}
+
   -- what a begin has to show of the first stage of its call
   abbrev First : LoanStart → LoanFlight → Type 0
-  First start flight = IsFirst code slots queue s latest turns changes p start flight
+  First start flight = IsFirst now p start flight
 
   -- a call of the sender may begin, where the sender has no other call under way
   as_sender : (start : LoanStart) (flight : LoanFlight) → not (p == 0) ≡ false
       → (p ≡ 0 → IsShut (span_of 0 s.events) → reclaims_in (span_of 0 s.events) ≡ false
-      → IsFirst code slots queue s latest turns changes 0 start flight)
+      → IsFirst now 0 start flight)
       → First start flight
   as_sender = grind arith
 
@@ -89,31 +89,31 @@ module _ {T : Type 0} (code : Coding T) (slots queue : ℕ) (s : Channel T) (lat
   pub first_is : (start : LoanStart) → first_row (call_rows slots s.book p start) ≡ None → First start (first slots s.book start)
   first_is calls.Loan not_refused =
       let rows = passed calls.Loan not_refused in
-      as_sender calls.Loan (loan_of slots) rows.1 (λ zero over idle. loan_first code slots queue s latest turns changes holds_now idle)
+      as_sender calls.Loan (loan_of slots) rows.1 (λ zero over idle. loan_first now idle)
   first_is (calls.Send index) not_refused =
       let rows = passed (calls.Send index) not_refused in
       let below = is_below slots index rows.0 in
       subst (First (calls.Send index)) (sym (ap (λ q. send_of slots q index) holds_now.parts.capacity ∙ send_is slots queue holds_now.parts.some index))
       (as_sender (calls.Send index) _ rows.1
-      (λ zero over idle. send_first code slots queue s latest turns changes holds_now idle index below
-      (has_it code slots queue s latest turns changes holds_now 0 index (mine index zero rows.2)) holds_now.parts.some))
+      (λ zero over idle. send_first now idle index below
+      (has_it now 0 index (mine index zero rows.2)) holds_now.parts.some))
   first_is (calls.GiveUp index) not_refused =
       let rows = passed (calls.GiveUp index) not_refused in
       let below = is_below slots index rows.0 in
       as_sender (calls.GiveUp index) (give_up_of slots index) rows.1
-      (λ zero over idle. give_up_first code slots queue s latest turns changes holds_now idle index below
-      (has_it code slots queue s latest turns changes holds_now 0 index (mine index zero rows.2)))
+      (λ zero over idle. give_up_first now idle index below
+      (has_it now 0 index (mine index zero rows.2)))
   first_is calls.TakeBack not_refused =
       let rows = passed calls.TakeBack not_refused in
       subst (First calls.TakeBack) (sym (ap (take_back_of slots) holds_now.parts.capacity))
-      (as_sender calls.TakeBack (take_back_of slots queue) rows.1 (λ zero over idle. take_back_first code slots queue s latest turns changes holds_now idle))
+      (as_sender calls.TakeBack (take_back_of slots queue) rows.1 (λ zero over idle. take_back_first now idle))
   first_is calls.Receive not_refused =
       let rows = passed calls.Receive not_refused in
       let is_receiver = is_that p s.book.receiver rows.1 in
       subst (First calls.Receive)
       (sym (ap (λ q. receive_of slots q s.book.receiver) holds_now.parts.capacity
       ∙ (ap (receive_of slots queue) (sym is_receiver) ∙ receive_is slots queue holds_now.parts.some p)))
-      (receive_first code slots queue s latest turns changes holds_now p is_receiver holds_now.parts.some)
+      (receive_first now p is_receiver holds_now.parts.some)
   first_is (calls.GiveBack index) not_refused =
       let rows = passed (calls.GiveBack index) not_refused in
       let is_receiver = is_that p s.book.receiver rows.1 in
@@ -121,13 +121,13 @@ module _ {T : Type 0} (code : Coding T) (slots queue : ℕ) (s : Channel T) (lat
       subst (First (calls.GiveBack index))
       (sym
       (ap (λ q. give_back_of slots q s.book.receiver index) holds_now.parts.capacity ∙ ap (λ n. give_back_of slots queue n index) (sym is_receiver)))
-      (give_back_first code slots queue s latest turns changes holds_now p is_receiver index below
-      (has_it code slots queue s latest turns changes holds_now p index rows.2))
+      (give_back_first now p is_receiver index below
+      (has_it now p index rows.2))
   first_is calls.Reclaim not_refused =
       let rows = passed calls.Reclaim not_refused in
       subst (First calls.Reclaim) (sym (ap (reclaim_of slots) holds_now.parts.capacity ∙ reclaim_is slots queue holds_now.parts.some))
       (as_sender calls.Reclaim _ rows.1
-      (λ zero over idle. reclaim_first code slots queue s latest turns changes holds_now idle over
+      (λ zero over idle. reclaim_first now idle over
       (frame.is_true (has_died s.book.receiver s.book.dead) rows.4)))
 
 -- ---- the law
@@ -178,10 +178,19 @@ module _ {T : Type 0} (code : Coding T) (slots queue : ℕ) where
       let own : first slots channel_now.book start ≡ flight =
       subst (λ n. first n channel_now.book start ≡ flight) sound.capacity
       (begins_own world.capacity channel_now.book (starts.Loan start) (flights.Loan flight) named) in
-      let known =
-      subst (λ f. IsFirst code slots queue channel_now world.latest world.turns world.changes p start f) own
-      (first_is code slots queue channel_now world.latest world.turns world.changes invariant p over start passed) in
-      let then_state = after code slots queue channel_now world.latest world.turns world.changes p start flight in
+      let now : Between T =
+      record {
+        coding = code;
+        slots = slots;
+        queue = queue;
+        state = channel_now;
+        latest = world.latest;
+        turns = world.turns;
+        changes = world.changes;
+        holds = invariant;
+      } in
+      let known = subst (λ f. IsFirst now p start f) own (first_is now p over start passed) in
+      let then_state = after now p start flight in
       subst (λ kept. frame.Comes channel t p (kept_after_begin world.coding world.capacity (starts.Loan start) p kept) world.words
       (party_at_begin (starts.Loan start) (flights.Loan flight) world.changes)
       (Begun p (starts.Loan start) ∷ []) world.changes)
@@ -191,10 +200,10 @@ module _ {T : Type 0} (code : Coding T) (slots queue : ℕ) where
         fit = (refl, kept_there.words);
         holds =
             subst (λ es. HoldsNow slots queue then_state _ (es ++ Begun p (starts.Loan start) ∷ []) (world.turns + 1)) same
-            (holds_then code slots queue channel_now world.latest world.turns world.changes p start flight invariant inv may.free known);
+            (holds_then now p start flight inv may.free known);
         owes =
             subst (λ es. frame.Owes channel then_state p _ world.latest es (Begun p (starts.Loan start) ∷ []) world.changes)
-            same (owes code slots queue channel_now world.latest world.turns world.changes p start flight invariant inv may.free known);
+            same (owes now p start flight inv may.free known);
       })
   begin_comes t p start flight sound may starts_at =
       let world = t.world in

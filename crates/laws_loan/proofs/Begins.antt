@@ -16,7 +16,7 @@ use Rattle.laws_loan.proofs.Invariant.{sends_at, counted_for, hung, reclaims_in,
 use Rattle.laws_loan.proofs.Keeping.{at_stays}
 use Rattle.laws_loan.proofs.Knows.{counts, wrote_in, At, FlightKnows}
 use Rattle.laws_loan.proofs.Placed.{Placed}
-use Rattle.laws_loan.proofs.Sender.{owes_by}
+use Rattle.laws_loan.proofs.Sender.{OwnTurn, owes_by}
 use Rattle.laws_loan.proofs.QueueEvents.{items, is_reclaiming}
 use Rattle.laws_loan.proofs.Turns.{Shows, now_more}
 
@@ -24,8 +24,21 @@ use Rattle.laws_loan.proofs.Turns.{Shows, now_more}
 pub shut_none : {T : Type 0} (index : ℕ) (span : Span T) → IsShut span → Carries index span → ⊥
 shut_none = grind arith
 
-module _ {T : Type 0} (code : Coding T) (slots queue : ℕ) (s : Channel T) (latest : List (ℕ × Party T))
-    (turns changes p : ℕ) (start : LoanStart) (flight : LoanFlight) where
+-- a loan channel between two turns, and what holds of it there
+pub record Between (T : Type 0) : Type 0 where
+  pub coding : Coding T
+  pub slots : ℕ  -- the number of indices
+  pub queue : ℕ  -- the capacity of the submission queue
+  pub state : Channel T
+  pub latest : List (ℕ × Party T)  -- each party with its latest call
+  pub turns : ℕ  -- taken so far
+  pub changes : ℕ  -- how often words have changed so far
+  pub holds : HoldsNow slots queue state latest state.events turns
+
+-- the party `p` begins the call `start`, whose first stage is to be `flight`
+module _ {T : Type 0} (now : Between T) (p : ℕ) (start : LoanStart) (flight : LoanFlight) where
+  open now use {coding as code, slots, queue, state as s, latest, turns, changes, holds}
+
   abbrev channel : frame.Family T
   channel = family code slots queue
 
@@ -72,9 +85,8 @@ module _ {T : Type 0} (code : Coding T) (slots queue : ℕ) (s : Channel T) (lat
     pub at : At slots queue after p [] start flight
     pub knows : FlightKnows slots queue after changes changes 0 flight
 
-  -- `holds` and `inv` hold before the begin of a party that has no call under way, and the call
-  -- is at its first stage
-  module _ (holds : HoldsNow slots queue s latest s.events turns) (inv : frame.Inv channel s latest s.events changes)
+  -- the invariant `inv` holds before the begin, the party has no call under way, and the call is at its first stage
+  module _ (inv : frame.Inv channel s latest s.events changes)
       (free : flight_of (doing_of (party_of p latest)) ≡ None) (first : IsFirst) where
     -- the party has no call under way
     shut : IsShut (span_of p s.events)
@@ -137,25 +149,44 @@ module _ {T : Type 0} (code : Coding T) (slots queue : ℕ) (s : Channel T) (lat
     -- the begin gives the frame what it asks of a turn
     pub owes : frame.Owes channel after p began latest s.events (begun ∷ []) changes
     owes =
-        owes_by code slots queue s after p began latest (span_of p s.events) (begun ∷ []) changes changes refl (refl, tt)
-        (λ q ne.
-        at_stays slots queue s book_then events_then q
-        (record {
-          passes = λ index e. first.stays index q e;
-          no_more = λ index e. ⊎_elim (λ (old : spot_of index s.events ≡ Passing q). old) (λ new. absurd (ne new.0)) (first.passing index q e);
-          places = first.places_stay;
-          receiver = first.receiver_stays;
-          alive = λ alive. rw (← first.dead_stay) alive;
-          dead = λ dead. rw first.dead_stay dead;
-        }))
-        (record { write = omega arith; read = omega arith; paid = omega arith }) (shut, tt)
-        (record {
-          span = ap (λ wrote. Open (starts.Loan start) wrote) (sym (ap wrote_in mine_opens));
-          steps = omega arith;
-          at = subst (λ wrote. At slots queue after p wrote start flight) (sym (ap wrote_in mine_opens)) first.at;
-        })
-        first.knows refl inv
+        let turn : OwnTurn T =
+        record {
+          coding = code;
+          slots = slots;
+          queue = queue;
+          before = s;
+          after = after;
+          changes = changes;
+          changes_then = changes;
+          party = p;
+          party_then = began;
+          from = span_of p s.events;
+          told = begun ∷ [];
+          events = refl;
+          own = (refl, tt);
+          stands = (shut, tt);
+          here =
+              record {
+                span = ap (λ wrote. Open (starts.Loan start) wrote) (sym (ap wrote_in mine_opens));
+                steps = omega arith;
+                at = subst (λ wrote. At slots queue after p wrote start flight) (sym (ap wrote_in mine_opens)) first.at;
+              };
+          knows = first.knows;
+          at_others =
+              λ q ne.
+              at_stays slots queue s book_then events_then q
+              (record {
+                passes = λ index e. first.stays index q e;
+                no_more = λ index e. ⊎_elim (λ (old : spot_of index s.events ≡ Passing q). old) (λ new. absurd (ne new.0)) (first.passing index q e);
+                places = first.places_stay;
+                receiver = first.receiver_stays;
+                alive = λ alive. rw (← first.dead_stay) alive;
+                dead = λ dead. rw first.dead_stay dead;
+              });
+          up = record { write = omega arith; read = omega arith; paid = omega arith };
+        } in
+        owes_by turn refl inv
 
     -- what holds between two turns holds after the begin
     pub holds_then : HoldsNow slots queue after (put p began latest) events_then (turns + 1)
-    holds_then = now_more slots queue s after p began latest turns (begun ∷ []) holds shows
+    holds_then = now_more holds shows

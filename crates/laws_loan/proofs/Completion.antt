@@ -9,14 +9,30 @@ use Rattle.steps.specs.declared.queues.ring.PushStage.{PushStage}
 use Rattle.steps.specs.declared.queues.ring.PushStage.TheVariants as pushes
 use Rattle.steps.specs.Queues.Ring.{cell_word, push_takes, word_at}
 use Rattle.laws_queues.proofs.Queues.Core.{Good, published, publishes, takes}
-use Rattle.laws_loan.proofs.Channel.{no_roles}
+use Rattle.laws_loan.proofs.Channel.{Channel, Holds as PartsHold, no_roles}
 
 -- a queue that has something has a first one
 pub first_of : (xs : List ℕ) → 0 < length xs → (v : ℕ) × (rest : List ℕ) × (xs ≡ v ∷ rest)
 first_of [] some = absurd (omega arith)
 first_of (x ∷ xs) some = (x, xs, refl)
 
-module _ (slots : ℕ) (some : 1 ≤ slots) (few : slots < 2 ^ 24) (k : Core ℕ) (good : Good 1 words_of_index slots k) (reached : k.write < 2 ^ 64 - 2) where
+-- the parts of the channel `s` hold what they are to hold, so its completion queue is right and has room for every slot; the write position
+-- of that queue is below 2 ^ 64 - 2
+module _ {T : Type 0} {slots queue : ℕ} {s : Channel T} {busy : ℕ} (parts : PartsHold slots queue s busy) (reached : s.completion.write < 2 ^ 64 - 2) where
+  open parts use {completion as good}
+
+  -- the completion queue
+  abbrev k : Core ℕ
+  k = s.completion
+
+  -- the channel has at least one index
+  some : 1 ≤ slots
+  some = parts.set.some
+
+  -- the channel has fewer than 2 ^ 24 indices
+  few : slots < 2 ^ 24
+  few = let low = parts.set.few in omega arith
+
   -- the words of the completion queue
   abbrev pub ws : List ℕ
   ws = layout no_roles k
@@ -41,7 +57,7 @@ module _ (slots : ℕ) (some : 1 ≤ slots) (few : slots < 2 ^ 24) (k : Core ℕ
 
   -- the first value stands in the cell of the read position
   pub first_is : (value : ℕ) (rest : List ℕ) → k.waiting ≡ value ∷ rest → get_or ws (word_at (cell_word slots 1 k.read) 0) 0 ≡ value
-  first_is value rest first = cell_is k.read ∙ front 1 words_of_index slots k value rest first good 0 (omega arith)
+  first_is value rest first = cell_is k.read ∙ front good first 0 (omega arith)
 
   -- ---- a push
 
@@ -75,11 +91,11 @@ module _ (slots : ℕ) (some : 1 ≤ slots) (few : slots < 2 ^ 24) (k : Core ℕ
 
     -- the queue with the index in its cell is right
     pub fill_good : Good 1 words_of_index slots fill
-    fill_good = fills 1 words_of_index slots k 0 v room (omega arith) good
+    fill_good = fills good 0 v room (omega arith)
 
     -- once the word is stored, the cell of the write position has the index
     pub fill_whole : Holds 1 words_of_index slots fill.cells fill.write v 1
-    fill_whole = one_filled 1 words_of_index slots k v 0 room (omega arith) good (λ i h. absurd (omega arith))
+    fill_whole = one_filled good v 0 room (omega arith) (λ i h. absurd (omega arith))
 
     -- the queue once `v` is published
     abbrev pub publish : Core ℕ
@@ -99,7 +115,7 @@ module _ (slots : ℕ) (some : 1 ≤ slots) (few : slots < 2 ^ 24) (k : Core ℕ
 
     -- where the cell of the write position has the index, the queue with it published is right
     pub publish_good : Holds 1 words_of_index slots k.cells k.write v 1 → Good 1 words_of_index slots publish
-    publish_good whole = publishes 1 words_of_index slots k v room good whole
+    publish_good whole = publishes good v room whole
 
   -- ---- a pop
 
@@ -134,4 +150,4 @@ module _ (slots : ℕ) (some : 1 ≤ slots) (few : slots < 2 ^ 24) (k : Core ℕ
 
     -- the queue without its front is right
     pub take_good : Good 1 words_of_index slots take_out
-    take_good = takes 1 words_of_index slots k value rest first good
+    take_good = takes good first

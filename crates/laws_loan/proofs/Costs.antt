@@ -36,7 +36,17 @@ use Rattle.laws_loan.proofs.Weight.{allowance, read_at, read_word, most_sending,
 abbrev pub Keeps : ℕ → List ℕ → Option Ask → Type 0
 Keeps slots words ask = read_at slots (words_after words ask) ≡ read_at slots words
 
-module _ (slots queue : ℕ) (some : 1 ≤ slots) (few : slots < locked) (fits : queue < 2 ^ 32) (words : List ℕ) where
+-- the number of indices of a channel, and the capacity of its submission queue
+pub record Sizes : Type 0 where
+  pub slots : ℕ
+  pub queue : ℕ
+  pub some : 1 ≤ slots
+  pub few : slots < locked
+  pub fits : queue < 2 ^ 32
+
+module _ (sizes : Sizes) (words : List ℕ) where
+  open sizes use {slots, queue, some, few, fits}
+
   abbrev Stays : Option Ask → Type 0
   Stays ask = Keeps slots words ask
 
@@ -89,7 +99,9 @@ gives_below slots queue s index releases.Subtracts at = at
 
 -- ---- a step of the sender
 
-module _ (T : Type 0) (slots queue : ℕ) (some : 1 ≤ slots) (few : slots < locked) (fits : queue < 2 ^ 32) (words : List ℕ) where
+module _ (T : Type 0) (sizes : Sizes) (words : List ℕ) where
+  open sizes use {slots, queue}
+
   -- a step of the sender leaves the read position and allows the sender's call no more steps, or it allows
   -- it less by two at least
   abbrev pub Costs : Flight T → Option Ask → Flight T → Type 0
@@ -120,10 +132,10 @@ module _ (T : Type 0) (slots queue : ℕ) (some : 1 ≤ slots) (few : slots < lo
       -- the cases are whether the write position is at its end
       go : (t : Bool) → (old_of words (ask_of (send_asks slots queue stage index)) == 2 ^ 64 - 1) ≡ t → CallCosts places (send_at slots queue index stage)
       go true write_greatest = rw write_greatest (inr (omega arith))
-      go false write_below = rw write_below (inl (loads slots queue some few fits words _, omega arith))
-  push_costs places index (overflow_pushes.LoadsRead write) = inl (loads slots queue some few fits words _, omega arith)
+      go false write_below = rw write_below (inl (loads sizes words _, omega arith))
+  push_costs places index (overflow_pushes.LoadsRead write) = inl (loads sizes words _, omega arith)
   push_costs places index (overflow_pushes.StoresCell write read) =
-      inl (other_word slots queue some few fits words _ _ (cell_is_other slots queue some few fits words write), omega arith)
+      inl (other_word sizes words _ _ (cell_is_other sizes words write), omega arith)
   push_costs places index (overflow_pushes.StoresWrite write read) = go (distance write read == queue) refl
     where
       stage : SendStage
@@ -131,7 +143,7 @@ module _ (T : Type 0) (slots queue : ℕ) (some : 1 ≤ slots) (few : slots < lo
 
       -- the cases are whether the queue was full
       go : (t : Bool) → (distance write read == queue) ≡ t → CallCosts places (send_at slots queue index stage)
-      go true is_full = rw is_full (inl (other_word slots queue some few fits words _ _ (λ e. absurd (omega arith)), omega arith))
+      go true is_full = rw is_full (inl (other_word sizes words _ _ (λ e. absurd (omega arith)), omega arith))
       go false not_full = rw not_full tt
   push_costs places index (overflow_pushes.MovesRead read) = go (old_of words (ask_of (send_asks slots queue stage index)) == read) refl
     where
@@ -142,7 +154,7 @@ module _ (T : Type 0) (slots queue : ℕ) (some : 1 ≤ slots) (few : slots < lo
       go : (t : Bool) → (old_of words (ask_of (send_asks slots queue stage index)) == read) ≡ t → CallCosts places (send_at slots queue index stage)
       go true read_same = rw read_same (inr (omega arith))
       go false read_moved = rw read_moved tt
-  push_costs places index (overflow_pushes.LoadsCell read) = inl (loads slots queue some few fits words _, omega arith)
+  push_costs places index (overflow_pushes.LoadsCell read) = inl (loads sizes words _, omega arith)
 
   -- any step of a send costs what `Costs` allows, where the send stands at its stage
   pub send_costs_so : (places : List Place) (s : Channel T) (index given : ℕ) (stage : SendStage) → SendAt slots queue s index stage
@@ -155,7 +167,7 @@ module _ (T : Type 0) (slots queue : ℕ) (some : 1 ≤ slots) (few : slots < lo
       go : (a : After (Release DefaultMode) ReleaseState) → back_takes slots stage (old_of words (ask_of (back_asks slots oldest stage))) ≡ a
           → CallCosts places (send_at slots queue given (sends.Releases oldest stage))
       go (GoOn release) takes_is =
-          rw takes_is (inl (release_keeps slots queue some few fits words oldest (gives_below slots queue s oldest stage at) stage, omega arith))
+          rw takes_is (inl (release_keeps sizes words oldest (gives_below slots queue s oldest stage at) stage, omega arith))
       go (Done state) takes_is = rw takes_is tt
 
   -- a step of any other call of the sender that leaves the read position costs what `Costs` allows
@@ -167,6 +179,6 @@ module _ (T : Type 0) (slots queue : ℕ) (some : 1 ≤ slots) (few : slots < lo
 
   -- an operation of a take-back leaves the read position of the submission queue
   pub take_back_keeps : (s : Channel T) (stage : TakeBackStage) → TakeBackAt slots queue s stage → Keeps slots words (ask_of (take_back_asks slots queue stage))
-  take_back_keeps s (take_backs.Pops stage found) at = pop_keeps_read slots queue some few fits words stage
+  take_back_keeps s (take_backs.Pops stage found) at = pop_keeps_read sizes words stage
   take_back_keeps s (take_backs.Releases index stage) at =
-      release_keeps slots queue some few fits words index (gives_below slots queue s index stage at) stage
+      release_keeps sizes words index (gives_below slots queue s index stage at) stage

@@ -63,7 +63,7 @@ module _ {T : Type 0} (slots queue : ℕ) (s : Channel T) (o : ℕ) where
   placed_then : Placed slots s.claims s.submission.waiting s.completion.waiting s.book s.events
       → Placed slots after.claims after.submission.waiting after.completion.waiting after.book after.events
   placed_then placed =
-      placed_on slots s.events (Died o) refl s.claims s.submission.waiting s.completion.waiting s.book after.book placed
+      placed_on s.events (Died o) refl placed
       (record {
         places = refl;
         holders = refl;
@@ -83,7 +83,7 @@ module _ {T : Type 0} (slots queue : ℕ) (s : Channel T) (o : ℕ) where
   -- the events tell of the two queues as before the death
   told_then : Told queue s.submission.waiting s.completion.waiting s.events → Told queue s.submission.waiting s.completion.waiting (s.events ++ Died o ∷ [])
   told_then told =
-      told_more queue s.submission.waiting s.submission.waiting s.completion.waiting s.completion.waiting s.events (Died o ∷ []) told
+      told_more {es = Died o ∷ []} told
       (record { book = append-nil (items s.submission.waiting); given = append-nil s.completion.waiting; goes = refl; answers = refl })
 
   -- what holds between two turns holds after the turn in which the owner dies

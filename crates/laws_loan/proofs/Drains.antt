@@ -18,7 +18,6 @@ use Rattle.model.specs.declared.families.loan.effects.Effect.TheVariants as effe
 use Rattle.model.specs.Families.Loan.Reading.{frees}
 use Rattle.laws_loan.proofs.Channel.{Channel, no_roles, words_in}
 use Rattle.laws_loan.proofs.Cuts.{IsOn}
-use Rattle.laws_loan.proofs.Invariant.{sends_at, counted_for}
 use Rattle.laws_loan.proofs.Knows.{reclaim_counts, reclaim_number, StageAt}
 use Rattle.laws_loan.proofs.Lists.{first_there}
 use Rattle.laws_loan.proofs.Parts.{submission_old, submission_words, submission_change}
@@ -83,7 +82,7 @@ module _ {T : Type 0} (scene : Scene T) (wrote : List (Event T)) (small : scene.
 
   -- what an operation of the pop finds in the whole it finds in the queue
   old_is : (stage : PopStage) → IsOn queued (pop_asks queue stage) → value stage ≡ old_of queued (ask_of (pop_asks queue stage))
-  old_is stage on = submission_old slots queue s (counted_for (sends_at latest)) holds.parts (pop_asks queue stage) on
+  old_is stage on = submission_old holds.parts (pop_asks queue stage) on
 
   -- an operation on the submission queue changes that part of the words alone, to those of
   -- the queue as it is then
@@ -91,20 +90,18 @@ module _ {T : Type 0} (scene : Scene T) (wrote : List (Event T)) (small : scene.
       → words_after queued (ask_of (pop_asks queue stage)) ≡ layout no_roles k
       → words_after (words_in s) (asks stage) ≡ s.set ++ (layout no_roles k ++ layout no_roles s.completion)
   words_are stage k on layout_is =
-      submission_words slots queue s (counted_for (sends_at latest)) holds.parts (pop_asks queue stage) on
+      submission_words holds.parts (pop_asks queue stage) on
       ∙ ap (λ ws. s.set ++ (ws ++ layout no_roles s.completion)) layout_is
 
   -- ---- the loads
 
   -- a step of the pop that changes no word, and leads to a stage where the reclaim stands,
   -- keeps the invariant
-  loads : (now : PopStage) (after_it : ReclaimStage) → IsOn queued (pop_asks queue now)
-      → words_after queued (ask_of (pop_asks queue now)) ≡ queued → reclaim_counts after_it ≡ 0
+  loads : (now : PopStage) (after_it : ReclaimStage) → words_after (words_in s) (asks now) ≡ words_in s → reclaim_counts after_it ≡ 0
       → StageAt slots s.submission s.completion s.book.places wrote after_it → x.steps + step_count (asks now) ≤ reclaim_number slots wrote after_it
       → reclaim_goes_back (drains now) (value now) ≡ false → then_of now (value now) ≡ GoOn (reclaim_at slots queue after_it)
       → effect_of now (value now) ≡ effects.Quiet → StageKeepsAt now
-  loads now after_it on words counted stands few =
-      steps.loads scene wrote under r idle (drains now) after_it (words_are now s.submission on words) counted stands few
+  loads now after_it words counted stands few = steps.loads r idle (drains now) after_it words counted stands few
 
   -- the pop at the load of the write position
   abbrev load_of_write : PopStage
@@ -123,7 +120,8 @@ module _ {T : Type 0} (scene : Scene T) (wrote : List (Event T)) (small : scene.
     loads_read : x.steps ≤ 4 * length (handed_out wrote) → StageKeepsAt pops.LoadsRead
     loads_read few =
         let on_queue : 1 < length queued = (let all = wide in omega arith) in
-        loads pops.LoadsRead (drains load_of_write) on_queue refl refl (refl, most, none_taken, none_freed) (omega arith) refl
+        loads pops.LoadsRead (drains load_of_write) (words_are pops.LoadsRead s.submission on_queue refl) refl
+        (refl, most, none_taken, none_freed) (omega arith) refl
         (ap (then_of pops.LoadsRead) (old_is pops.LoadsRead on_queue)) refl
 
     -- the load of the write position leads to the completion queue where nothing waits, and
@@ -143,20 +141,21 @@ module _ {T : Type 0} (scene : Scene T) (wrote : List (Event T)) (small : scene.
             let empty : s.submission.waiting ≡ [] = nil_from_length s.submission.waiting (omega arith) in
             let none : length (taken_back wrote) ≡ 0 = ap length none_taken in
             let within = holds.parts.completion.few in
-            loads load_of_write (reclaims.Empties ring_pops.LoadsRead) on refl refl
+            loads load_of_write (reclaims.Empties ring_pops.LoadsRead) (words_are load_of_write s.submission on refl) refl
             (tt, (omega arith), none_freed, empty) (omega arith) refl
             (ap (then_of load_of_write) (old_is load_of_write on) ∙ (rw e refl)) refl
         go false e =
             let other : s.submission.write ≢ s.submission.read = grind (arith, nat_tests) in
             let write = holds.parts.submission.write in
-            loads load_of_write (drains load_of_cell) on refl refl ((refl, omega arith), most, none_taken, none_freed) (omega arith) refl
+            loads load_of_write (drains load_of_cell) (words_are load_of_write s.submission on refl) refl
+            ((refl, omega arith), most, none_taken, none_freed) (omega arith) refl
             (ap (then_of load_of_write) (old_is load_of_write on) ∙ (rw e refl)) refl
 
     -- the load of the cell leads on to the move of the read position
     loads_cell : s.submission.read < s.submission.write → x.steps ≤ 4 * length (handed_out wrote) + 2 → StageKeepsAt load_of_cell
     loads_cell ahead few =
-        let cell_within = submission.cell_on queue holds.parts.some holds.parts.few s.submission holds.parts.submission low_write s.submission.read in
-        loads load_of_cell (drains moves) cell_within (set-get_or queued (cell_word queue s.submission.read) 0) refl
+        let cell_within = submission.cell_on holds.parts low_write s.submission.read in
+        loads load_of_cell (drains moves) (words_are load_of_cell s.submission cell_within (set-get_or queued (cell_word queue s.submission.read) 0)) refl
         ((refl, ahead), most, none_taken, none_freed) (omega arith) refl refl refl
 
     -- ---- the oldest one leaves the queue
@@ -177,7 +176,7 @@ module _ {T : Type 0} (scene : Scene T) (wrote : List (Event T)) (small : scene.
 
       -- the index is one of the channel
       below : u < slots
-      below = sent_below slots s.claims s.submission.waiting s.completion.waiting s.book s.events holds.parts.placed u rest first
+      below = sent_below holds.parts.placed u rest first
 
       -- the index at the front of the submission queue waited
       was_waiting : spot_of u s.events ≡ Waiting
@@ -190,11 +189,11 @@ module _ {T : Type 0} (scene : Scene T) (wrote : List (Event T)) (small : scene.
       -- the exchange of the read position hands the oldest index out to the reclaim, which
       -- begins its next pop
       leads : x.steps ≤ 4 * length (handed_out wrote) + 3
-          → steps.StepGoesOn scene wrote under r idle (drains moves) k s.completion (hands ∷ []) (drains pops.LoadsRead)
+          → steps.StepGoesOn r idle (drains moves) k s.completion (hands ∷ []) (drains pops.LoadsRead)
       leads few =
           let change : change_of (words_in s) (asks moves) ≡ 1 =
-          submission_change slots queue s (counted_for (sends_at latest)) holds.parts (pop_asks queue moves) on_moves
-          ∙ submission.take_changes queue holds.parts.some holds.parts.few s.submission holds.parts.submission low_write u rest first
+          submission_change holds.parts (pop_asks queue moves) on_moves
+          ∙ submission.take_changes holds.parts low_write u rest first
           in
           let shorter : length s.submission.waiting ≡ suc (length rest) = ap length first in
           let handed : length (handed_out (wrote ++ hands ∷ [])) ≡ length (handed_out wrote) + 1 =
@@ -202,12 +201,11 @@ module _ {T : Type 0} (scene : Scene T) (wrote : List (Event T)) (small : scene.
           in
           let words =
           words_are moves k on_moves
-          (submission.take_words queue holds.parts.some holds.parts.few s.submission holds.parts.submission low_write u rest first) in
-          let good = submission.take_good queue holds.parts.some holds.parts.few s.submission holds.parts.submission low_write u rest first in
-          let placed =
-          hands_it_out slots s.claims s.submission.waiting s.completion.waiting s.book s.events holds.parts.placed u below 0 rest first (inl refl) in
-          let passing = passing_before slots queue s wrote under known holds.parts.placed.keeps hands u Waiting refl was_waiting waiting_away in
-          let sent = passing_sent slots queue s wrote under known holds.parts.placed.keeps hands u Waiting refl was_waiting waiting_away in
+          (submission.take_words holds.parts low_write u rest first) in
+          let good = submission.take_good holds.parts low_write u rest first in
+          let placed = hands_it_out holds.parts.placed u below 0 rest first (inl refl) in
+          let passing = passing_before known holds.parts.placed.keeps hands u Waiting refl was_waiting waiting_away in
+          let sent = passing_sent known holds.parts.placed.keeps hands u Waiting refl was_waiting waiting_away in
           let receiver = fold-append receiver_after 1 s.events (hands ∷ []) in
           let taken_none = none_more takes_back wrote (hands ∷ []) none_taken refl in
           let freed_none = none_more frees wrote (hands ∷ []) none_freed refl in
@@ -224,23 +222,23 @@ module _ {T : Type 0} (scene : Scene T) (wrote : List (Event T)) (small : scene.
         let is_same : (s.submission.read == s.submission.read) ≡ true = grind (arith, nat_tests) in
         let found : value moves ≡ s.submission.read = old_is moves on_queue in
         let place : sent_at (submission_word slots) queue (words_in s) s.submission.read ≡ u =
-        submission_old slots queue s (counted_for (sends_at latest)) holds.parts
+        submission_old holds.parts
         (load (cell_word queue s.submission.read))
-        (submission.cell_on queue holds.parts.some holds.parts.few s.submission holds.parts.submission low_write s.submission.read)
-        ∙ submission.cell_is queue holds.parts.some holds.parts.few s.submission holds.parts.submission low_write s.submission.read
+        (submission.cell_on holds.parts low_write s.submission.read)
+        ∙ submission.cell_is holds.parts low_write s.submission.read
         in
         let is_after : then_of moves (value moves) ≡ GoOn (reclaim_at slots queue (drains pops.LoadsRead)) =
         ap (then_of moves) found ∙ (rw is_same refl) in
         let is_effect : effect_of moves (value moves) ≡ effects.HandsOut u = ap (effect_of moves) found ∙ (rw (is_same, place) refl) in
         let s_out : Channel T =
-        steps.s_on scene wrote under r idle (drains moves) (k u front.0 front.1) s.completion (hands u front.0 front.1 ∷ [])
+        steps.s_on r idle (drains moves) (k u front.0 front.1) s.completion (hands u front.0 front.1 ∷ [])
         (drains pops.LoadsRead) in
         record {
           channel_then = s_out;
           stays = ap (λ v. not (v == s.submission.read)) found ∙ ap not is_same;
           step =
               rw (is_after, is_effect) (
-                steps.leads_on scene wrote under r idle (drains moves) (k u front.0 front.1) s.completion (hands u front.0 front.1 ∷ [])
+                steps.leads_on r idle (drains moves) (k u front.0 front.1) s.completion (hands u front.0 front.1 ∷ [])
                     (drains pops.LoadsRead) (leads u front.0 front.1 few),
                 refl,
               );

@@ -22,7 +22,7 @@ use Rattle.laws_queues.proofs.Ring.Keeping.{take_keeps}
 use Rattle.laws_loan.proofs.Channel.{Channel, no_roles, words_in}
 use Rattle.laws_loan.proofs.Completion as completion
 use Rattle.laws_loan.proofs.Cuts.{IsOn}
-use Rattle.laws_loan.proofs.Invariant.{sends_at, counted_for, hung}
+use Rattle.laws_loan.proofs.Invariant.{hung}
 use Rattle.laws_loan.proofs.Knows.{reclaim_counts, reclaim_number, StageAt}
 use Rattle.laws_loan.proofs.Lists.{first_there}
 use Rattle.laws_loan.proofs.Parts.{completion_long, completion_old, completion_words}
@@ -37,7 +37,7 @@ use Rattle.laws_loan.proofs.Sender.{Steps}
 use Rattle.laws_loan.proofs.SentIndices.{ComesTo, comes_to}
 use Rattle.laws_loan.proofs.Spots.{returns_there}
 use Rattle.laws_loan.proofs.Table.{returning_away, takes_it_back}
-use Rattle.laws_loan.proofs.QueueEvents.{silent_tells}
+use Rattle.laws_loan.proofs.QueueEvents.{Tells, silent_tells}
 use Rattle.laws_loan.proofs.Waits.{cell_place}
 
 -- a reclaim that pops the completion queue, at this stage of the pop
@@ -77,7 +77,7 @@ module _ {T : Type 0} (scene : Scene T) (wrote : List (Event T)) (small : scene.
 
   -- the channel after a step that changes nothing of it
   abbrev s_still : Channel T
-  s_still = steps.s_still scene wrote under r idle
+  s_still = steps.s_still r idle
 
   -- ---- the words of the completion queue
 
@@ -99,11 +99,11 @@ module _ {T : Type 0} (scene : Scene T) (wrote : List (Event T)) (small : scene.
 
   -- the completion queue has four words and one for each index
   long : length queued ≡ 4 + slots
-  long = completion_long slots queue s (counted_for (sends_at latest)) holds.parts
+  long = completion_long holds.parts
 
   -- what an operation of the pop finds in the whole it finds in the queue
   old_is : (stage : PopStage) → IsOn queued (pop_asks stage) → value stage ≡ old_of queued (ask_of (pop_asks stage))
-  old_is stage on = completion_old slots queue s (counted_for (sends_at latest)) holds.parts (pop_asks stage) on
+  old_is stage on = completion_old holds.parts (pop_asks stage) on
 
   -- an operation on the completion queue changes that part of the words alone, to those of
   -- the queue as it is then
@@ -111,20 +111,18 @@ module _ {T : Type 0} (scene : Scene T) (wrote : List (Event T)) (small : scene.
       → words_after queued (ask_of (pop_asks stage)) ≡ layout no_roles k
       → words_after (words_in s) (asks stage) ≡ s.set ++ (layout no_roles s.submission ++ layout no_roles k)
   words_are stage k on layout_is =
-      completion_words slots queue s (counted_for (sends_at latest)) holds.parts (pop_asks stage) on
+      completion_words holds.parts (pop_asks stage) on
       ∙ ap (λ ws. s.set ++ (layout no_roles s.submission ++ ws)) layout_is
 
   -- ---- the loads
 
   -- a step of the pop that changes no word, and leads to a stage where the reclaim stands,
   -- keeps the invariant
-  loads : (now : PopStage) (after_it : ReclaimStage) → IsOn queued (pop_asks now)
-      → words_after queued (ask_of (pop_asks now)) ≡ queued → reclaim_counts after_it ≡ 0
+  loads : (now : PopStage) (after_it : ReclaimStage) → words_after (words_in s) (asks now) ≡ words_in s → reclaim_counts after_it ≡ 0
       → StageAt slots s.submission s.completion s.book.places wrote after_it → x.steps + step_count (asks now) ≤ reclaim_number slots wrote after_it
       → reclaim_goes_back (empties now) (value now) ≡ false → then_of now (value now) ≡ GoOn (reclaim_at slots queue after_it)
       → effect_of now ≡ effects.Quiet → StageKeepsAt now
-  loads now after_it on words counted stands less =
-      steps.loads scene wrote under r idle (empties now) after_it (words_are now s.completion on words) counted stands less
+  loads now after_it words counted stands less = steps.loads r idle (empties now) after_it words counted stands less
 
   -- the pop at the load of the write position
   abbrev load_of_write : PopStage
@@ -143,14 +141,17 @@ module _ {T : Type 0} (scene : Scene T) (wrote : List (Event T)) (small : scene.
     loads_read : x.steps ≤ 4 * (slots + 1) + 4 * length (taken_back wrote) → StageKeepsAt pops.LoadsRead
     loads_read less =
         let on_queue : 1 < length queued = (let all = long in omega arith) in
-        loads pops.LoadsRead (empties load_of_write) on_queue refl refl (refl, most, none_freed, drained) (omega arith) refl
+        loads pops.LoadsRead (empties load_of_write) (words_are pops.LoadsRead s.completion on_queue refl) refl
+        (refl, most, none_freed, drained) (omega arith) refl
         (ap (then_of pops.LoadsRead) (old_is pops.LoadsRead on_queue)) refl
 
     -- the load of the cell leads on to the store of the read position
     loads_cell : s.completion.read < s.completion.write → x.steps ≤ 4 * (slots + 1) + 4 * length (taken_back wrote) + 2 → StageKeepsAt load_of_cell
     loads_cell ahead less =
-        let cell_within = completion.cell_on slots some few s.completion holds.parts.completion reached s.completion.read in
-        loads load_of_cell (empties store_of_read) cell_within (set-get_or queued (word_at (cell_word slots 1 s.completion.read) 0) 0) refl
+        let cell_within = completion.cell_on holds.parts reached s.completion.read in
+        loads load_of_cell (empties store_of_read)
+        (words_are load_of_cell s.completion cell_within (set-get_or queued (word_at (cell_word slots 1 s.completion.read) 0) 0))
+        refl
         ((refl, ahead), most, none_freed, drained) (omega arith) refl refl refl
 
     -- ---- both queues are empty
@@ -173,15 +174,15 @@ module _ {T : Type 0} (scene : Scene T) (wrote : List (Event T)) (small : scene.
         -- the channel after the end of the reclaim
         abbrev ended : Channel T
         ended =
-            s_end scene wrote under r (asks load_of_write) s.set 0
+            s_end s s.set 0
 
         -- where no index is sent, the load ends the reclaim with the answer that it has released none
         ends_steps : Steps scene 0 ended (Open (start scene wrote) wrote) calls.Reclaim
             (asks load_of_write) false (Done (Number 0)) (end_of (Number 0) ∷ [])
         ends_steps =
-            reclaim_ends scene wrote under r (asks load_of_write) s.set 0
-            (keeps_all slots queue s latest (asks load_of_write) turns holds (words_are load_of_write s.completion on_write refl)
-            (steps.busy_none scene wrote under r idle) (ap (hung s.submission.read) here))
+            reclaim_ends r
+            (keeps_all holds (words_are load_of_write s.completion on_write refl)
+            (steps.busy_none r idle) (ap (hung s.submission.read) here))
             drained emptied (λ j below. none j (omega arith) below) (ap length none_freed) (omega arith) small
 
       -- the load leads the reclaim on to release the first index that is sent, or ends it where none is
@@ -191,7 +192,7 @@ module _ {T : Type 0} (scene : Scene T) (wrote : List (Event T)) (small : scene.
           record {
             channel_then = s_still;
             step = (
-              steps.goes_still scene wrote under r idle (empties load_of_write) (reclaims.Releases 0 index releases.ClearsFlag)
+              steps.goes_still r idle (empties load_of_write) (reclaims.Releases 0 index releases.ClearsFlag)
                   (words_are load_of_write s.completion on_write refl) refl (
                     first.2,
                     first.1,
@@ -221,7 +222,7 @@ module _ {T : Type 0} (scene : Scene T) (wrote : List (Event T)) (small : scene.
         go true e =
             let zero = none_zero in
             let both : (slots == 0 || s.completion.write == s.completion.read) ≡ true = rw (zero, e) refl in
-            let emptied = completion.finds_none slots some few s.completion holds.parts.completion reached e in
+            let emptied = completion.finds_none holds.parts reached e in
             let is : then_of load_of_write (value load_of_write) ≡ comes_after emptied less (next_sent s.book.places slots 0) =
             ap (then_of load_of_write) (old_is load_of_write on_write) ∙ (rw both refl)
             in
@@ -235,8 +236,9 @@ module _ {T : Type 0} (scene : Scene T) (wrote : List (Event T)) (small : scene.
         go false e =
             let zero = none_zero in
             let both : (slots == 0 || s.completion.write == s.completion.read) ≡ false = rw (zero, e) refl in
-            let ahead = completion.finds_some slots some few s.completion holds.parts.completion reached e in
-            loads load_of_write (empties load_of_cell) on_write refl refl ((refl, ahead, refl, refl), most, none_freed, drained)
+            let ahead = completion.finds_some holds.parts reached e in
+            loads load_of_write (empties load_of_cell) (words_are load_of_write s.completion on_write refl) refl
+            ((refl, ahead, refl, refl), most, none_freed, drained)
             (omega arith) refl (ap (then_of load_of_write) (old_is load_of_write on_write) ∙ (rw both refl)) refl
 
     -- ---- the first one leaves the queue
@@ -253,7 +255,7 @@ module _ {T : Type 0} (scene : Scene T) (wrote : List (Event T)) (small : scene.
 
       -- the index is one of the channel
       below : v < slots
-      below = back_below slots s.claims s.submission.waiting s.completion.waiting s.book s.events holds.parts.placed v rest first
+      below = back_below holds.parts.placed v rest first
 
       -- the index at the front of the completion queue was on its way back
       was_returning : spot_of v s.events ≡ Returning
@@ -262,21 +264,20 @@ module _ {T : Type 0} (scene : Scene T) (wrote : List (Event T)) (small : scene.
       -- the store of the next read position takes the first index back into the reclaim, which
       -- begins its next pop
       leads : x.steps ≤ 4 * (slots + 1) + 4 * length (taken_back wrote) + 3
-          → steps.StepGoesOn scene wrote under r idle (empties store_of_read) s.submission m (takes ∷ []) (empties pops.LoadsRead)
+          → steps.StepGoesOn r idle (empties store_of_read) s.submission m (takes ∷ []) (empties pops.LoadsRead)
       leads less =
           let on_queue : 1 < length queued = (let all = long in omega arith) in
           let shorter : length s.completion.waiting ≡ suc (length rest) = ap length first in
           let more : length (taken_back (wrote ++ takes ∷ [])) ≡ length (taken_back wrote) + 1 =
           ap length (flat_map-append takes_back wrote (takes ∷ [])) ∙ length-append (taken_back wrote) (v ∷ [])
           in
-          let words = words_are store_of_read m on_queue (completion.take_words slots some few s.completion holds.parts.completion reached v rest first) in
-          let good = completion.take_good slots some few s.completion holds.parts.completion reached v rest first in
-          let placed = takes_it_back slots s.claims s.submission.waiting s.completion.waiting s.book s.events holds.parts.placed v below rest first in
-          let tells =
-          silent_tells {T = T} queue true s.submission.waiting s.completion.waiting rest (takes ∷ []) refl refl refl
-          (append-nil s.completion.waiting ∙ first) in
-          let passing = passing_before slots queue s wrote under known holds.parts.placed.keeps takes v Returning refl was_returning returning_away in
-          let sent = passing_sent slots queue s wrote under known holds.parts.placed.keeps takes v Returning refl was_returning returning_away in
+          let words = words_are store_of_read m on_queue (completion.take_words holds.parts reached v rest first) in
+          let good = completion.take_good holds.parts reached v rest first in
+          let placed = takes_it_back holds.parts.placed v below rest first in
+          let tells : Tells queue true s.submission.waiting s.submission.waiting s.completion.waiting rest (takes ∷ []) =
+          silent_tells (takes ∷ []) refl refl refl (append-nil s.completion.waiting ∙ first) in
+          let passing = passing_before known holds.parts.placed.keeps takes v Returning refl was_returning returning_away in
+          let sent = passing_sent known holds.parts.placed.keeps takes v Returning refl was_returning returning_away in
           let receiver = fold-append receiver_after 1 s.events (takes ∷ []) in
           let freed_none = none_more frees wrote (takes ∷ []) none_freed refl in
           let push = take_keeps one_word slots s.completion v rest first in
@@ -291,8 +292,8 @@ module _ {T : Type 0} (scene : Scene T) (wrote : List (Event T)) (small : scene.
         let less = few in
         let all = long in
         let plain : word_at (cell_word slots 1 s.completion.read) 0 ≡ cell_word slots 1 s.completion.read = omega arith in
-        completion_old slots queue s (counted_for (sends_at latest)) holds.parts (load (cell_word slots 1 s.completion.read)) (omega arith)
-        ∙ (ap (λ n. get_or queued n 0) (sym plain) ∙ completion.first_is slots some few s.completion holds.parts.completion reached v rest first)
+        completion_old holds.parts (load (cell_word slots 1 s.completion.read)) (omega arith)
+        ∙ (ap (λ n. get_or queued n 0) (sym plain) ∙ completion.first_is holds.parts reached v rest first)
 
     -- the store of the next read position keeps the invariant, where something waits
     stores_read : s.completion.read < s.completion.write → x.steps ≤ 4 * (slots + 1) + 4 * length (taken_back wrote) + 3 → StageKeepsAt store_of_read
@@ -303,14 +304,14 @@ module _ {T : Type 0} (scene : Scene T) (wrote : List (Event T)) (small : scene.
         let rest = front.1 in
         let is_effect : effect_of store_of_read ≡ effects.TakesBack v = ap (λ n. effects.TakesBack n) (first_is v rest front.2) in
         let s_out : Channel T =
-        steps.s_on scene wrote under r idle (empties store_of_read) s.submission (m v rest front.2) (takes v rest front.2 ∷ [])
+        steps.s_on r idle (empties store_of_read) s.submission (m v rest front.2) (takes v rest front.2 ∷ [])
         (empties pops.LoadsRead) in
         record {
           channel_then = s_out;
           stays = refl;
           step =
               subst (λ e. KeepsTo s_out store_of_read (GoOn (reclaim_at slots queue (empties pops.LoadsRead))) e) (sym is_effect) (
-                steps.leads_on scene wrote under r idle (empties store_of_read) s.submission (m v rest front.2) (takes v rest front.2 ∷ [])
+                steps.leads_on r idle (empties store_of_read) s.submission (m v rest front.2) (takes v rest front.2 ∷ [])
                     (empties pops.LoadsRead) (leads v rest front.2 less),
                 refl,
               );

@@ -1,9 +1,9 @@
 -- The first stage of each call of a loan channel has the fields of `IsFirst` (Begins), where no
 -- row refuses the begin.
 use Rattle.laws_loan.proofs.Names.{MovesRight, ◌≡◌, ◌≢◌, ℕ, ◌<◌, ◌≤◌, ◌⊎◌, ◌==◌, inl, inr, ⊎_elim, nat_le, true}
-use Rattle.laws_loan.proofs.Names.{false, not, Option, Some, None, List, [], ◌∷◌, ◌++◌, get_or, refl, sym, ap, subst}
+use Rattle.laws_loan.proofs.Names.{false, not, Option, Some, None, [], ◌∷◌, ◌++◌, get_or, refl, sym, ap, subst}
 use Rattle.laws_loan.proofs.Names.{◌∙◌, cases_eq, nat_tests, submission_word, Event, Begun, LoanStart, LoanFlight}
-use Rattle.laws_loan.proofs.Names.{Send, Receive, Reclaim, Party, Coding, has_died, loan_of, give_up_of, take_back_of}
+use Rattle.laws_loan.proofs.Names.{Send, Receive, Reclaim, has_died, loan_of, give_up_of, take_back_of}
 use Rattle.laws_loan.proofs.Names.{give_back_of, asks_for, taken_from, BeginsRight, Passing, With, move_of, spot_of}
 use Rattle.laws_loan.proofs.Names.{receiver_of, reclaims_after, fresh, holds, Open, span_of, span_of-own}
 use Rattle.laws_loan.proofs.Names.{span_of-other, IsShut}
@@ -16,10 +16,10 @@ use Rattle.model.specs.declared.event.Start.TheVariants as starts
 use Rattle.model.specs.declared.families.Flight.TheVariants as flights
 use Rattle.model.specs.declared.families.loan.LoanStart.TheVariants as calls
 use Rattle.model.specs.Families.Loan.Promises.{ComesFrom}
-use Rattle.laws_loan.proofs.Begins.{IsFirst, shut_none}
+use Rattle.laws_loan.proofs.Begins.{Between, IsFirst, shut_none}
 use Rattle.laws_loan.proofs.Channel.{Channel}
-use Rattle.laws_loan.proofs.Invariant.{hung, reclaims_in, Carries, HoldsNow}
-use Rattle.laws_loan.proofs.Knows.{counts, At, FlightKnows}
+use Rattle.laws_loan.proofs.Invariant.{hung, reclaims_in, Carries}
+use Rattle.laws_loan.proofs.Knows.{counts, ReclaimAt, At, FlightKnows}
 use Rattle.laws_loan.proofs.OneMove.{OneMove, elsewhere, now_there, passes_on}
 use Rattle.laws_loan.proofs.Placed.{Placed}
 use Rattle.laws_loan.proofs.Rooms.{waits_few}
@@ -38,11 +38,13 @@ is_that = grind arith
 pub is_below : (slots index : ℕ) → nat_le slots index ≡ false → index < slots
 is_below = grind (arith, nat_tests)
 
-module _ {T : Type 0} (code : Coding T) (slots queue : ℕ) (s : Channel T) (latest : List (ℕ × Party T))
-    (turns changes : ℕ) (holds_now : HoldsNow slots queue s latest s.events turns) where
+-- a call begins while the channel is between two turns
+module _ {T : Type 0} (now : Between T) where
+  open now use {slots, queue, state as s, changes, holds as holds_now}
+
   -- what a begin has to show of the first stage of its call
   abbrev First : ℕ → LoanStart → LoanFlight → Type 0
-  First p start flight = IsFirst code slots queue s latest turns changes p start flight
+  First p start flight = IsFirst now p start flight
 
   -- a party has the index for which its begin was not refused
   pub has_it : (p index : ℕ) → not (holds (get_or s.book.holders index None) p) ≡ false → spot_of index s.events ≡ With p
@@ -60,6 +62,17 @@ module _ {T : Type 0} (code : Coding T) (slots queue : ℕ) (s : Channel T) (lat
     abbrev began : Option ℕ → Channel T
     began o = record s { book = taken_from s.book o; events = s.events ++ begun ∷ [] }
 
+    -- The first stage of the call, where it asks for the index `o` or for none: it counts for nothing in the head and is no send that waits,
+    -- its begin is right, and it stands at the stage.
+    record Opens (o : Option ℕ) (flight : LoanFlight) : Type 0 where
+      asks : asks_for start ≡ o
+      light : counts flight ≡ 0
+      calm : hung {T = T} s.submission.read (Some (flights.Loan flight)) ≡ None
+      begins : BeginsRight s.events begun
+      reclaiming : reclaims_after (is_reclaiming s.events) begun ≡ reclaims_in (span_of 0 (s.events ++ begun ∷ []))
+      at : At slots queue (began o) p [] start flight
+      knows : FlightKnows slots queue (began o) changes changes 0 flight
+
     -- the begin asks for no index, so it moves none
     module _ (none : move_of {T = T} begun ≡ None) where
       -- the begin leaves each index where it was
@@ -67,14 +80,11 @@ module _ {T : Type 0} (code : Coding T) (slots queue : ℕ) (s : Channel T) (lat
       stays_put index = spot_stays s.events begun index none
 
       -- a call that asks for no index has the fields of `IsFirst`, where its own part of it holds
-      asks_none : (flight : LoanFlight) → asks_for start ≡ None → counts flight ≡ 0
-          → hung {T = T} s.submission.read (Some (flights.Loan flight)) ≡ None → BeginsRight s.events begun
-          → reclaims_after (is_reclaiming s.events) begun ≡ reclaims_in (span_of 0 (s.events ++ begun ∷ []))
-          → At slots queue (began None) p [] start flight → FlightKnows slots queue (began None) changes changes 0 flight
-          → First p start flight
-      asks_none flight asks light calm begins reclaiming at knows =
+      asks_none : (flight : LoanFlight) → Opens None flight → First p start flight
+      asks_none flight opens =
+          let asks = opens.asks in
           let placed =
-          placed_still slots s.claims s.submission.waiting s.completion.waiting s.book s.events (begun ∷ [])
+          placed_still (begun ∷ [])
           (record { moves = none; receiver = λ r. refl; dead = λ q b. refl }, tt) holds_now.parts.placed in
           grind (arith, stays_put)
 
@@ -87,29 +97,26 @@ module _ {T : Type 0} (code : Coding T) (slots queue : ℕ) (s : Channel T) (lat
 
       -- after the begin the index is in passing in the party's call
       now_passes : spot_of index (s.events ++ begun ∷ []) ≡ Passing p
-      now_passes = now_there p index s.events (begun ∷ []) (With p) (Passing p) one_move
+      now_passes = now_there one_move
 
       -- an index in passing before the begin is so after it
       moves_it : (i q : ℕ) → spot_of i s.events ≡ Passing q → spot_of i (s.events ++ begun ∷ []) ≡ Passing q
-      moves_it i q = passes_on p index s.events (begun ∷ []) (With p) (Passing p) one_move q (with_passes p q) i
+      moves_it i q = passes_on one_move q (with_passes p q) i
 
       -- an index in passing after the begin was so before, or is the one that the begin takes
       moved_or_not : (i q : ℕ) → spot_of i (s.events ++ begun ∷ []) ≡ Passing q → (spot_of i s.events ≡ Passing q) ⊎ ((q ≡ p) × (i ≡ index))
       moved_or_not i q spot_is =
           ⊎_elim (λ (same : index ≡ i). inr (passing_same q p (sym spot_is ∙ (ap (λ n. spot_of n (s.events ++ begun ∷ [])) (sym same) ∙ now_passes)), sym same))
-          (λ (ne : index ≢ i). inl (sym (elsewhere p index s.events (begun ∷ []) (With p) (Passing p) one_move i ne) ∙ spot_is))
+          (λ (ne : index ≢ i). inl (sym (elsewhere one_move i ne) ∙ spot_is))
           (cases_eq index i)
 
       -- a call that asks for an index has the fields of `IsFirst`, where its party has the index and its
       -- own part of it holds
-      asks_one : (flight : LoanFlight) → asks_for start ≡ Some index → counts flight ≡ 0
-          → hung {T = T} s.submission.read (Some (flights.Loan flight)) ≡ None → BeginsRight s.events begun
-          → reclaims_after (is_reclaiming s.events) begun ≡ reclaims_in (span_of 0 (s.events ++ begun ∷ []))
-          → index < slots → Carries {T = T} index (Open (starts.Loan start) [])
+      asks_one : {flight : LoanFlight} → Opens (Some index) flight → index < slots → Carries {T = T} index (Open (starts.Loan start) [])
           → Placed slots s.claims s.submission.waiting s.completion.waiting (taken_from s.book (Some index)) (s.events ++ begun ∷ [])
-          → At slots queue (began (Some index)) p [] start flight → FlightKnows slots queue (began (Some index)) changes changes 0 flight
           → First p start flight
-      asks_one flight asks light calm begins reclaiming below carries placed at knows =
+      asks_one opens below carries placed =
+          let asks = opens.asks in
           let right : MovesRight slots s.events begun = subst (λ m. ComesFrom slots m s.events) (sym move_is) (below, has) in
           let passing : (i q : ℕ) → spot_of i (s.events ++ begun ∷ []) ≡ Passing q
           → (spot_of i s.events ≡ Passing q) ⊎ ((q ≡ p) × Carries {T = T} i (Open (starts.Loan start) [])) =
@@ -132,13 +139,29 @@ module _ {T : Type 0} (code : Coding T) (slots queue : ℕ) (s : Channel T) (lat
 
     -- a loan has the fields of `IsFirst`
     pub loan_first : First 0 calls.Loan (loan_of slots)
-    loan_first = asks_none 0 calls.Loan refl (loan_of slots) refl refl refl refl (not_reclaiming calls.Loan refl) (refl, refl, refl, tt) refl
+    loan_first =
+        asks_none 0 calls.Loan refl (loan_of slots) (record {
+          asks = refl;
+          light = refl;
+          calm = refl;
+          begins = refl;
+          reclaiming = not_reclaiming calls.Loan refl;
+          at = (refl, refl, refl, tt);
+          knows = refl;
+        })
 
     -- a take-back has the fields of `IsFirst`
     pub take_back_first : First 0 calls.TakeBack (take_back_of slots queue)
     take_back_first =
-        asks_none 0 calls.TakeBack refl (take_back_of slots queue) refl refl refl refl (not_reclaiming calls.TakeBack refl)
-        (refl, refl, refl, refl, omega arith) refl
+        asks_none 0 calls.TakeBack refl (take_back_of slots queue) (record {
+          asks = refl;
+          light = refl;
+          calm = refl;
+          begins = refl;
+          reclaiming = not_reclaiming calls.TakeBack refl;
+          at = (refl, refl, refl, refl, omega arith);
+          knows = refl;
+        })
 
     module _ (index : ℕ) (below : index < slots) (has : spot_of index s.events ≡ With 0) where
       -- each index is where the book and the events say, once the sender's index is in passing
@@ -146,14 +169,22 @@ module _ {T : Type 0} (code : Coding T) (slots queue : ℕ) (s : Channel T) (lat
           → Placed slots s.claims s.submission.waiting s.completion.waiting (taken_from s.book (Some index))
           (s.events ++ Begun 0 (starts.Loan start) ∷ [])
       placed_then start move_is =
-          sender_begins slots s.claims s.submission.waiting s.completion.waiting s.book s.events holds_now.parts.placed index below start move_is has
+          sender_begins holds_now.parts.placed index below start move_is has
 
       -- a give-up has the fields of `IsFirst`
       pub give_up_first : First 0 (calls.GiveUp index) (give_up_of slots index)
       give_up_first =
-          asks_one 0 (calls.GiveUp index) index refl has (give_up_of slots index) refl refl refl refl
-          (not_reclaiming (calls.GiveUp index) refl) below (refl, refl) (placed_then (calls.GiveUp index) refl)
-          (refl, refl, refl, refl, (below, now_passes 0 (calls.GiveUp index) index refl has)) refl
+          let opens : Opens 0 (calls.GiveUp index) (Some index) (give_up_of slots index) =
+          record {
+            asks = refl;
+            light = refl;
+            calm = refl;
+            begins = refl;
+            reclaiming = not_reclaiming (calls.GiveUp index) refl;
+            at = (refl, refl, refl, refl, (below, now_passes 0 (calls.GiveUp index) index refl has));
+            knows = refl;
+          } in
+          asks_one 0 (calls.GiveUp index) index refl has opens below (refl, refl) (placed_then (calls.GiveUp index) refl)
 
       -- a send at its first stage
       abbrev pub send_at : LoanFlight
@@ -167,9 +198,17 @@ module _ {T : Type 0} (code : Coding T) (slots queue : ℕ) (s : Channel T) (lat
       -- a send has the fields of `IsFirst`
       pub send_first : 1 ≤ queue → First 0 (calls.Send index) send_at
       send_first some =
-          asks_one 0 (calls.Send index) index refl has send_at refl refl refl refl
-          (not_reclaiming (calls.Send index) refl) below (inl (refl, refl)) (placed_then (calls.Send index) refl)
-          (refl, refl, refl, refl, refl, (some, (below, now_passes 0 (calls.Send index) index refl has))) refl
+          let opens : Opens 0 (calls.Send index) (Some index) send_at =
+          record {
+            asks = refl;
+            light = refl;
+            calm = refl;
+            begins = refl;
+            reclaiming = not_reclaiming (calls.Send index) refl;
+            at = (refl, refl, refl, refl, refl, (some, (below, now_passes 0 (calls.Send index) index refl has)));
+            knows = refl;
+          } in
+          asks_one 0 (calls.Send index) index refl has opens below (inl (refl, refl)) (placed_then (calls.Send index) refl)
 
     -- the reclaim at its first stage
     abbrev pub reclaim_at : LoanFlight
@@ -178,25 +217,28 @@ module _ {T : Type 0} (code : Coding T) (slots queue : ℕ) (s : Channel T) (lat
     -- a reclaim has the fields of `IsFirst`, where the receiver has died and the sender has no call under way
     pub reclaim_first : IsShut (span_of 0 s.events) → has_died s.book.receiver s.book.dead ≡ true → First 0 calls.Reclaim reclaim_at
     reclaim_first shut dead =
-        let few = waits_few slots s.claims s.submission.waiting s.completion.waiting s.book s.events holds_now.parts.placed in
-        asks_none 0 calls.Reclaim refl reclaim_at refl refl refl refl
-        (sym (ap reclaims_in (span_of-own 0 s.events (Begun 0 (starts.Loan calls.Reclaim) ∷ []) (refl, tt)))) (
-          refl,
-          refl,
-          refl,
-          record {
-            dead = dead;
-            sent =
-                λ index e. absurd
-                (shut_none index (span_of 0 s.events) shut (holds_now.passing index 0 (sym (stays_put 0 calls.Reclaim refl index) ∙ e)));
-            claims = refl;
-            publishes = refl;
-            gives = refl;
-            acts = refl;
-            stage_at = (tt, (omega arith), refl, refl);
-          },
-        )
-        refl
+        let few = waits_few holds_now.parts.placed in
+        let stands : ReclaimAt slots queue (began 0 calls.Reclaim None) [] (reclaims.Drains overflow_pops.LoadsRead) =
+        record {
+          dead = dead;
+          sent =
+              λ index e. absurd
+              (shut_none index (span_of 0 s.events) shut (holds_now.passing index 0 (sym (stays_put 0 calls.Reclaim refl index) ∙ e)));
+          claims = refl;
+          publishes = refl;
+          gives = refl;
+          acts = refl;
+          stage_at = (tt, (omega arith), refl, refl);
+        } in
+        asks_none 0 calls.Reclaim refl reclaim_at (record {
+          asks = refl;
+          light = refl;
+          calm = refl;
+          begins = refl;
+          reclaiming = sym (ap reclaims_in (span_of-own 0 s.events (Begun 0 (starts.Loan calls.Reclaim) ∷ []) (refl, tt)));
+          at = (refl, refl, refl, stands);
+          knows = refl;
+        })
 
   -- ---- calls of the receiver
 
@@ -223,22 +265,38 @@ module _ {T : Type 0} (code : Coding T) (slots queue : ℕ) (s : Channel T) (lat
     -- a receive has the fields of `IsFirst`
     pub receive_first : 1 ≤ queue → First p calls.Receive receive_at
     receive_first some =
-        asks_none p calls.Receive refl receive_at refl refl refl (receiver_is p is_receiver).1 (as_before calls.Receive)
-        (other, refl, refl, refl, refl, λ alive. (is_receiver, some)) (omega arith)
+        asks_none p calls.Receive refl receive_at (record {
+          asks = refl;
+          light = refl;
+          calm = refl;
+          begins = (receiver_is p is_receiver).1;
+          reclaiming = as_before calls.Receive;
+          at = (other, refl, refl, refl, refl, λ alive. (is_receiver, some));
+          knows = omega arith;
+        })
 
     -- a give-back has the fields of `IsFirst`, of an index of the channel that the receiver has
     pub give_back_first : (index : ℕ) → index < slots → spot_of index s.events ≡ With p → First p (calls.GiveBack index) (give_back_of slots queue p index)
     give_back_first index below has =
-        asks_one p (calls.GiveBack index) index refl has (give_back_of slots queue p index) refl refl refl (receiver_is p is_receiver).1
-        (as_before (calls.GiveBack index)) below (refl, refl)
-        (receiver_begins slots s.claims s.submission.waiting s.completion.waiting s.book s.events holds_now.parts.placed index below p
-        other (receiver_is p is_receiver).1 has) (
-          other,
-          refl,
-          refl,
-          refl,
-          refl,
-          refl,
-          omega arith,
-          λ alive. (is_receiver, (below, now_passes p (calls.GiveBack index) index refl has), tt),
-        ) refl
+        let receives = receiver_is p is_receiver in
+        let opens : Opens p (calls.GiveBack index) (Some index) (give_back_of slots queue p index) =
+        record {
+          asks = refl;
+          light = refl;
+          calm = refl;
+          begins = receives.1;
+          reclaiming = as_before (calls.GiveBack index);
+          at = (
+            other,
+            refl,
+            refl,
+            refl,
+            refl,
+            refl,
+            omega arith,
+            λ alive. (is_receiver, (below, now_passes p (calls.GiveBack index) index refl has), tt),
+          );
+          knows = refl;
+        } in
+        asks_one p (calls.GiveBack index) index refl has opens below (refl, refl)
+        (receiver_begins holds_now.parts.placed index below p other receives.1 has)

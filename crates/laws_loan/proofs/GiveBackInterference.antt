@@ -7,6 +7,7 @@ use Rattle.steps.specs.declared.queues.ring.PopStage.{PopStage}
 use Rattle.laws_loan.proofs.Channel.{Channel}
 use Rattle.laws_loan.proofs.Knows.{At}
 
+-- a step of the receiver `p` leaves the completion queue `completion'` and the events `events'`
 module _ {T : Type 0} (slots queue : ℕ) (s : Channel T) (completion' : Core ℕ) (events' : List (Event T)) (p : ℕ) where
   -- the channel after a step of the give-back
   abbrev pub given_then : Channel T

@@ -6,12 +6,11 @@ use Rattle.laws_loan.proofs.Names.{After, GoOn, Push, completion_word, shifted, 
 use Rattle.laws_loan.proofs.Names.{Returned, Finished, Start, LoanFlight, GiveBack, Effect, Party, one_word}
 use Rattle.laws_loan.proofs.Names.{ask_of, Passing, Returning, spot_of, give_back_effect, as_it_is}
 use Rattle.laws_loan.proofs.Names.{words_of_index, Span, Open, span_of, as_call, old_of, words_after, step_count}
-use Rattle.laws_loan.proofs.Names.{span_of-other, Core, filled, layout, KnowsPush, KnowsPop, push_number}
+use Rattle.laws_loan.proofs.Names.{span_of-other, Core, filled, layout, KnowsPush, push_number}
 use Rattle.std.proofs.Common.{arith}
 use Rattle.steps.specs.declared.ask.After.TheVariants.{Done}
 use Rattle.steps.specs.declared.queues.ring.PushStage.{PushStage}
 use Rattle.steps.specs.declared.queues.ring.PushStage.TheVariants as pushes
-use Rattle.steps.specs.declared.queues.ring.PopStage.{PopStage}
 use Rattle.steps.specs.Queues.Ring.{cell_word, push_asks, push_takes}
 use Rattle.model.specs.declared.event.Answer.TheVariants as answers
 use Rattle.model.specs.declared.event.Start.TheVariants as starts
@@ -22,8 +21,7 @@ use Rattle.laws_queues.proofs.Ring.Keeping.{fill_keeps, publish_keeps}
 use Rattle.laws_loan.proofs.Channel.{no_roles, words_in}
 use Rattle.laws_loan.proofs.Completion as completion
 use Rattle.laws_loan.proofs.Cuts.{IsOn}
-use Rattle.laws_loan.proofs.Giving.{GivesBy, gives_on}
-use Rattle.laws_loan.proofs.Invariant.{sends_at, counted_for}
+use Rattle.laws_loan.proofs.Giving.{GivesBy, StillWaits, nothing_stored, gives_on}
 use Rattle.laws_loan.proofs.Knows.{Passes}
 use Rattle.laws_loan.proofs.GiveBackInterference.{at_given, given_then}
 use Rattle.laws_loan.proofs.OneMove.{OneMove, carried, passes_on, same_receiver}
@@ -35,7 +33,7 @@ use Rattle.laws_loan.proofs.Sender.{party_then}
 use Rattle.laws_loan.proofs.Spots.{passing_same, returning_passes}
 use Rattle.laws_loan.proofs.Still.{placed_still}
 use Rattle.laws_loan.proofs.Table.{returns_it}
-use Rattle.laws_loan.proofs.QueueEvents.{silent_tells}
+use Rattle.laws_loan.proofs.QueueEvents.{Tells, silent_tells}
 use Rattle.laws_loan.proofs.QueueEvents.{is_reclaiming}
 use Rattle.laws_loan.proofs.Turns.{Shows, sends_still}
 
@@ -100,29 +98,21 @@ module _ {T : Type 0} (scene : Scene T) (p index : ℕ) where
 
     -- ---- the words of the completion queue
 
-    -- the channel has at least one index
-    some : 1 ≤ slots
-    some = let below = passes.0 in omega arith
-
-    -- the channel has fewer than 2 ^ 24 indices
-    few : slots < 2 ^ 24
-    few = let low = holds.parts.set.few in omega arith
-
     -- the completion queue's write position is below its last value
     reached : s.completion.write < 2 ^ 64 - 2
     reached = let given = holds.given in omega arith
 
     -- there is room, as the index itself waits in no queue
     room : length s.completion.waiting < slots
-    room = returns_room slots s.claims s.submission.waiting s.completion.waiting s.book s.events holds.parts.placed index p passes.0 passes.1
+    room = returns_room holds.parts.placed index p passes.0 passes.1
 
     -- the completion queue has four words and one for each index
     long : length queued ≡ 4 + slots
-    long = completion_long slots queue s (counted_for (sends_at latest)) holds.parts
+    long = completion_long holds.parts
 
     -- what an operation of the push finds in the whole it finds in the queue
     old_is : (stage : PushStage) → IsOn queued (want stage) → old stage ≡ old_of queued (ask_of (want stage))
-    old_is stage on = completion_old slots queue s (counted_for (sends_at latest)) holds.parts (want stage) on
+    old_is stage on = completion_old holds.parts (want stage) on
 
     -- an operation on the completion queue changes that part of the words alone, to those of
     -- the queue as it is then
@@ -130,7 +120,7 @@ module _ {T : Type 0} (scene : Scene T) (p index : ℕ) where
         → words_after queued (ask_of (want stage)) ≡ layout no_roles k
         → words_after (words_in s) (asked stage) ≡ s.set ++ (layout no_roles s.submission ++ layout no_roles k)
     words_are stage k on layout_is =
-        completion_words slots queue s (counted_for (sends_at latest)) holds.parts (want stage) on
+        completion_words holds.parts (want stage) on
         ∙ ap (λ ws. s.set ++ (layout no_roles s.submission ++ ws)) layout_is
 
     -- each step of the push counts as one
@@ -139,19 +129,16 @@ module _ {T : Type 0} (scene : Scene T) (p index : ℕ) where
 
     -- ---- the give-back goes on
 
-    module _ (stage stage' : PushStage) (k : Core ℕ) (waits : k.waiting ≡ s.completion.waiting)
-        (write : k.write ≡ s.completion.write) (good : Good 1 words_of_index slots k) (on : IsOn queued (want stage))
+    -- the step at the stage `stage` leaves the completion queue `k`, in which the same indices wait, and leads to the stage `stage'`
+    module _ (stage stage' : PushStage) {k : Core ℕ} (kept : StillWaits scene k) (on : IsOn queued (want stage))
         (words : words_after queued (ask_of (want stage)) ≡ layout no_roles k)
-        (known : KnowsPush one_word slots k index stage') (steps : x.steps + 1 ≤ push_number 1 stage') (low : push_number 1 stage' ≤ 3)
-        (pops : (room : List ℕ) (stage : PopStage) → KnowsPop one_word slots s.completion room stage
-        → KnowsPop one_word slots k room stage) where
+        (known : KnowsPush one_word slots k index stage') (steps : x.steps + 1 ≤ push_number 1 stage') (low : push_number 1 stage' ≤ 3) where
       -- a step of the push that goes on, and leaves what waits, leads the give-back to the push's next
       -- stage and writes nothing
       goes_on : StepTo k stage (GoOn (give_at slots queue p index stage')) effects.Quiet
       goes_on =
           let one = one_step stage in (
-            gives_on scene p (calls.GiveBack index) r (asked stage) false k waits write good pops
-                (give_at slots queue p index stage') (words_are stage k on words)
+            gives_on r (asked stage) false kept (give_at slots queue p index stage') (words_are stage k on words)
                 (omega arith)
                 (other, refl, refl, refl, refl, refl, low, λ lives. (receives, (passes.0, ap (spot_of index) (append-nil s.events) ∙ passes.1), known))
                 (omega arith),
@@ -200,10 +187,10 @@ module _ {T : Type 0} (scene : Scene T) (p index : ℕ) where
     placed_end : Placed slots s.claims s.submission.waiting full.waiting s.book (s.events ++ told)
     placed_end =
         let placed =
-        returns_it slots s.claims s.submission.waiting s.completion.waiting s.book s.events holds.parts.placed index
+        returns_it holds.parts.placed index
         passes.0 p other (receives ∙ holds.parts.placed.keeps.receiver) passes.1 in
         subst (Placed slots s.claims s.submission.waiting full.waiting s.book) whole
-        (placed_still slots s.claims s.submission.waiting full.waiting s.book (s.events ++ returned ∷ []) (ends ∷ [])
+        (placed_still (ends ∷ [])
         (record { moves = refl; receiver = λ r. refl; dead = λ q b. refl }, tt) placed)
 
     module _ (good : Good 1 words_of_index slots full) where
@@ -213,10 +200,11 @@ module _ {T : Type 0} (scene : Scene T) (p index : ℕ) where
       shows_end =
           let below = passes.0 in
           let was = passes.1 in
-          let tells = silent_tells queue (is_reclaiming s.events) s.submission.waiting s.completion.waiting full.waiting told refl refl refl refl in
+          let tells : Tells queue (is_reclaiming s.events) s.submission.waiting s.submission.waiting s.completion.waiting full.waiting told =
+          silent_tells told refl refl refl refl in
           let still = sends_still latest y_end p other in
           let passing =
-          carried p index s.events told (Passing p) Returning one_move spanned from holds.passing
+          carried one_move from holds.passing
           (λ i ne held. absurd (ne (sym held.0))) (λ q e. absurd (returning_passes q e)) in
           grind (arith, same_receiver, one_move, placed_end, senders_span)
 
@@ -225,13 +213,13 @@ module _ {T : Type 0} (scene : Scene T) (p index : ℕ) where
       ends_with steps =
           let words =
           words_are last full (let wide = long in omega arith)
-          (completion.publish_words slots some few s.completion holds.parts.completion reached index room) in
+          (completion.publish_words holds.parts reached index room) in
           let others =
           at_given slots queue s full (s.events ++ told) p (record {
             receiver = receives;
             alive = alive;
             pop = publish_keeps one_word slots s.completion index;
-            passes = λ q i ne. passes_on p index s.events told (Passing p) Returning one_move q (λ same. ne (sym (passing_same p q same))) i;
+            passes = λ q i ne. passes_on one_move q (λ same. ne (sym (passing_same p q same))) i;
           }) in
           grind (arith, shows_end)
 
@@ -255,13 +243,13 @@ module _ {T : Type 0} (scene : Scene T) (p index : ℕ) where
         let on_queue : 0 < length queued = (let wide = long in omega arith) in
         let goes : after_of load_of_write ≡ GoOn (give_at slots queue p index load_of_read) =
         ap (λ n. given_after T slots queue p index (push_takes 1 (push_on slots load_of_write) load_of_write n)) (old_is load_of_write on_queue)
-        ∙ ap (given_after T slots queue p index) (completion.loads_write slots some few s.completion holds.parts.completion reached)
+        ∙ ap (given_after T slots queue p index) (completion.loads_write holds.parts reached)
         in
         record {
           queue_then = s.completion;
           step =
-              rw goes (goes_on load_of_write load_of_read s.completion refl refl holds.parts.completion on_queue refl
-              (refl, (let low = reached in omega arith)) (omega arith) (omega arith) (λ room stage known. known));
+              rw goes (goes_on load_of_write load_of_read (nothing_stored holds) on_queue refl
+              (refl, (let low = reached in omega arith)) (omega arith) (omega arith));
         }
 
     -- the load of the read position finds room, and the push goes on to store the index into the cell
@@ -270,28 +258,34 @@ module _ {T : Type 0} (scene : Scene T) (p index : ℕ) where
         let on_queue : 1 < length queued = (let wide = long in omega arith) in
         let goes : after_of load_of_read ≡ GoOn (give_at slots queue p index store_of_cell) =
         ap (λ n. given_after T slots queue p index (push_takes 1 (push_on slots load_of_read) load_of_read n)) (old_is load_of_read on_queue)
-        ∙ ap (given_after T slots queue p index) (completion.loads_read slots some few s.completion holds.parts.completion reached room)
+        ∙ ap (given_after T slots queue p index) (completion.loads_read holds.parts reached room)
         in
         record {
           queue_then = s.completion;
           step =
-              rw goes (goes_on load_of_read store_of_cell s.completion refl refl holds.parts.completion on_queue refl
+              rw goes (goes_on load_of_read store_of_cell (nothing_stored holds) on_queue refl
               (refl, room, refl, omega arith, (λ i below. absurd (omega arith)), (let low = reached in omega arith))
-              (omega arith) (omega arith) (λ room stage known. known));
+              (omega arith) (omega arith));
         }
 
     -- the store of the index into the cell leads on to the store of the next write position
     stores_cell : x.steps ≤ 2 → StageKeeps store_of_cell
     stores_cell steps =
+        let stored = filled 1 words_of_index slots s.completion 0 index in
+        let kept : StillWaits scene stored =
         record {
-          queue_then = filled 1 words_of_index slots s.completion 0 index;
+          waits = refl;
+          write = refl;
+          good = completion.fill_good holds.parts reached index room;
+          pops = fill_keeps one_word slots s.completion 0 index;
+        } in
+        record {
+          queue_then = stored;
           step =
-              goes_on store_of_cell last (filled 1 words_of_index slots s.completion 0 index) refl refl
-              (completion.fill_good slots some few s.completion holds.parts.completion reached index room)
-              (completion.cell_on slots some few s.completion holds.parts.completion reached s.completion.write)
-              (completion.fill_words slots some few s.completion holds.parts.completion reached index room)
-              (refl, room, completion.fill_whole slots some few s.completion holds.parts.completion reached index room, (let low = reached in omega arith))
-              (omega arith) (omega arith) (fill_keeps one_word slots s.completion 0 index);
+              goes_on store_of_cell last kept (completion.cell_on holds.parts reached s.completion.write)
+              (completion.fill_words holds.parts reached index room)
+              (refl, room, completion.fill_whole holds.parts reached index room, (let low = reached in omega arith))
+              (omega arith) (omega arith);
         }
 
     -- the step of a give-back at any stage keeps the invariant, where its push knows what the stage says
@@ -302,7 +296,4 @@ module _ {T : Type 0} (scene : Scene T) (p index : ℕ) where
         let first : at ≡ 0 = (let below = known.3 in omega arith) in
         rw (first, known.2, known.0) (stores_cell (omega arith))
     does (pushes.StoresWrite write) known steps =
-        rw known.0 (record {
-          queue_then = full;
-          step = ends_with (completion.publish_good slots some few s.completion holds.parts.completion reached index room known.2) steps;
-        })
+        rw known.0 (record { queue_then = full; step = ends_with (completion.publish_good holds.parts reached index room known.2) steps })

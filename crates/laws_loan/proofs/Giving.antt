@@ -11,9 +11,9 @@ use Rattle.laws_queues.proofs.Queues.Core.{Good}
 use Rattle.laws_loan.proofs.Channel.{Channel, words_in}
 use Rattle.laws_loan.proofs.Knows.{number_of, wrote_in, At, FlightKnows}
 use Rattle.laws_loan.proofs.GiveBackInterference.{given_then, at_given}
-use Rattle.laws_loan.proofs.Scene.{Scene, ReceiverCalls}
+use Rattle.laws_loan.proofs.Scene.{Scene, HoldsIn, ReceiverCalls}
 use Rattle.laws_loan.proofs.Sender.{party_then, told_by, Steps, StepBy}
-use Rattle.laws_loan.proofs.QueueEvents.{silent_tells}
+use Rattle.laws_loan.proofs.QueueEvents.{Tells, silent_tells}
 use Rattle.laws_loan.proofs.QueueEvents.{is_reclaiming}
 use Rattle.laws_loan.proofs.Turns.{Shows}
 use Rattle.laws_loan.proofs.Turns.{sends_still}
@@ -33,11 +33,22 @@ module _ {T : Type 0} (scene : Scene T) (p : ℕ) where
 
 -- ---- a step that writes nothing and leaves what waits in the completion queue; its call goes on
 
-module _ {T : Type 0} (scene : Scene T) (p : ℕ) (start : LoanStart) (r : ReceiverCalls scene p start) (ask : Option Ask) (back : Bool) (k : Core ℕ)
-    (waits : k.waiting ≡ scene.state.completion.waiting) (write : k.write ≡ scene.state.completion.write) (good : Good 1 words_of_index scene.slots k)
-    (pops : (room : List ℕ) (stage : PopStage) → KnowsPop one_word scene.slots scene.state.completion room stage → KnowsPop one_word scene.slots k room stage)
-    (flight : LoanFlight) where
+-- in `k`, which the completion queue is after a step, the same indices wait, and pops know of it what they knew
+pub record StillWaits {T : Type 0} (scene : Scene T) (k : Core ℕ) : Type 0 where
+  pub waits : k.waiting ≡ scene.state.completion.waiting
+  pub write : k.write ≡ scene.state.completion.write
+  pub good : Good 1 words_of_index scene.slots k
+  pub pops : (room : List ℕ) (stage : PopStage) → KnowsPop one_word scene.slots scene.state.completion room stage → KnowsPop one_word scene.slots k room stage
+
+-- in the completion queue as it stands the same indices wait, and pops know of it what they knew
+pub nothing_stored : {T : Type 0} {scene : Scene T} → HoldsIn scene → StillWaits scene scene.state.completion
+nothing_stored holds = record { waits = refl; write = refl; good = holds.parts.completion; pops = λ room stage known. known }
+
+-- the receiver's call `start` takes a step with the operation `ask`, and goes on to `flight`
+module _ {T : Type 0} {scene : Scene T} {p : ℕ} {start : LoanStart} (r : ReceiverCalls scene p start) (ask : Option Ask) (back : Bool)
+    {k : Core ℕ} (kept : StillWaits scene k) (flight : LoanFlight) where
   open scene use {slots, queue, state as s, latest, turns, changes, since, caller as x}
+  open kept use {waits, write, good, pops}
   open r use {other, alive, receives, from}
 
   -- the receiver after the step
@@ -51,9 +62,8 @@ module _ {T : Type 0} (scene : Scene T) (p : ℕ) (start : LoanStart) (r : Recei
   -- the step keeps what holds between two turns (`Shows`, Turns), with no event
   shows_on : Shows slots queue s s_on p y_on latest turns []
   shows_on =
-      let tells =
-      silent_tells {T = T} queue (is_reclaiming s.events) s.submission.waiting s.completion.waiting k.waiting [] refl refl refl
-      (append-nil s.completion.waiting ∙ sym waits) in
+      let tells : Tells {T = T} queue (is_reclaiming s.events) s.submission.waiting s.submission.waiting s.completion.waiting k.waiting [] =
+      silent_tells [] refl refl refl (append-nil s.completion.waiting ∙ sym waits) in
       let still = sends_still latest y_on p other in
       grind (arith, append-nil)
 

@@ -88,13 +88,6 @@ module _ {T : Type 0} (m : Underway T) (p : ℕ) where
       in_order_from t p promise t.world.coding (words_in s.state) (registries.Loan s.state.book) x.start flight kept_there.words kept_there.kept
       (in_order x.start flight (stands_there (channel code slots queue) t s p x since flight found doing))
 
--- a call of a loan channel goes on as its table says
-told : {T : Type 0} (code z : Coding T) (slots queue : ℕ) (words : List ℕ) (push : Option (ℕ × ℕ)) (s : Channel T)
-    (p : ℕ) (start : Start T) (flight : Flight T) (answer : ℕ) (kept : Registry T)
-    → Represents kept words s → (channel code slots queue).At s p start flight
-    → (step_of z words push p start flight answer kept).after ≡ goes_of z p flight answer kept
-told = grind arith
-
 -- the turns of the family write down in order
 orders : {T : Type 0} (code : Coding T) (slots queue : ℕ) → Orders (channel code slots queue)
 orders code slots queue =
@@ -104,10 +97,11 @@ orders code slots queue =
           step_in_order (record { coding = code; slots = slots; queue = queue; trace = t; sound = s; small = small; caller = x; since = since }) p flight
           found doing;
       decision = λ t p x flight since said s small found doing asks. asks_nothing code slots queue t p x flight since s found doing asks;
+      -- a call goes on as its table says
       after = λ t p x flight since answer s found doing.
-          told code t.world.coding slots queue t.world.words (beside_of t.world.words t.world.kept t.world.latest p)
-          s.state p x.start flight answer t.world.kept s.fit
-          (stands_there (channel code slots queue) t s p x since flight found doing).at;
+          let fit = s.fit in
+          let at = (stands_there (channel code slots queue) t s p x since flight found doing).at in
+          grind arith;
       tells = λ t turn e s. tt;
     }
 

@@ -5,6 +5,7 @@ use native.Mathlib.Omega.{arith}
 use Rattle.laws_loan.proofs.Channel.{Channel}
 use Rattle.laws_loan.proofs.Knows.{At}
 
+-- a turn changes of the channel `s` only the book and the events, to `book'` and `events'`
 module _ {T : Type 0} (slots queue : ℕ) (s : Channel T) (book' : Book) (events' : List (Event T)) where
   abbrev after : Channel T
   after = record s { book = book'; events = events' }

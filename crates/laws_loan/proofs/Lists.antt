@@ -120,7 +120,7 @@ module _ {T : Type 0} (is : Spot → Bool) where
     lists_stay none i = all i ∙ ap (λ spot. one_if (is spot)) (sym (spot_stays events e i none))
 
     -- the event moves the index `m.index`
-    module _ (m : Move) (moves : move_of e ≡ Some m) where
+    module _ {m : Move} (moves : move_of e ≡ Some m) where
       -- the index that moves counts as its new spot says
       now : one_if (is (spot_of m.index (events ++ e ∷ []))) ≡ one_if (is m.to)
       now = ap (λ spot. one_if (is spot)) (spot_moved events e m moves)
@@ -161,9 +161,12 @@ module _ {T : Type 0} (is : Spot → Bool) where
           (λ i ne. let shorter : times i xs ≡ one_if (m.index == i) + times i rest = ap (times i) front in let other = other_none m.index i ne in omega arith)
 
       -- after any event that moves an index, the list is as `Goes` says
-      pub lists_go : (from to : Bool) → is (spot_of m.index events) ≡ from → is m.to ≡ to → (ys : List ℕ)
-          → Goes m.index from to xs ys → Lists ys (events ++ e ∷ [])
-      lists_go false false apart away ys goes = rw goes (lists_pass apart away)
-      lists_go false true apart comes ys goes = rw goes (lists_push apart comes)
-      lists_go true false leaves away ys goes = lists_pop ys goes away
-      lists_go true true leaves comes ys goes = absurd goes
+      pub lists_go : (ys : List ℕ) → Goes m.index (is (spot_of m.index events)) (is m.to) xs ys → Lists ys (events ++ e ∷ [])
+      lists_go ys = go (is (spot_of m.index events)) (is m.to) refl refl
+        where
+          -- the cases are whether the index was in the list, and whether it is then
+          go : (from to : Bool) → is (spot_of m.index events) ≡ from → is m.to ≡ to → Goes m.index from to xs ys → Lists ys (events ++ e ∷ [])
+          go false false apart away goes = rw goes (lists_pass apart away)
+          go false true apart comes goes = rw goes (lists_push apart comes)
+          go true false leaves away goes = lists_pop ys goes away
+          go true true leaves comes goes = absurd goes

@@ -15,7 +15,6 @@ use Rattle.model.specs.declared.families.loan.calls.LoanFlight.TheVariants.{Loan
 use Rattle.model.specs.declared.families.loan.effects.Effect.TheVariants as effects
 use Rattle.model.specs.Families.Indices.Calls.{acquire_answer}
 use Rattle.laws_loan.proofs.Channel.{words_in}
-use Rattle.laws_loan.proofs.Invariant.{sends_at, counted_for}
 use Rattle.laws_loan.proofs.Loans.{loan_at, Loans, step, goes_steps, fails_steps, claims_steps}
 use Rattle.laws_loan.proofs.Parts.{set_old}
 use Rattle.laws_loan.proofs.Scene.{Scene, Underway, scene_of}
@@ -97,5 +96,5 @@ module _ {T : Type 0} (m : Underway T) (stage : AcquireStage) (there : Stands m 
   loan_acquires =
       let does = step scene stage stands in
       let value : old_of (words_in sound.state) ask ≡ old_of sound.state.set ask =
-      set_old slots queue sound.state (counted_for (sends_at t.world.latest)) sound.holds.parts (acquire_asks slots stage) does.on in
+      set_old sound.holds.parts (acquire_asks slots stage) does.on in
       rw (value, does.stays) (leads_on (acquire_takes call stage (old_of sound.state.set ask)) does.leads)

@@ -16,7 +16,7 @@ use Rattle.model.specs.declared.families.loan.LoanStart.TheVariants as calls
 use Rattle.model.specs.declared.families.loan.calls.LoanFlight.TheVariants.{Loan}
 use Rattle.laws_indices.proofs.Core as indices
 use Rattle.laws_loan.proofs.Channel.{Channel, words_in}
-use Rattle.laws_loan.proofs.Invariant.{sends_at, counted_for, hung, reclaims_in}
+use Rattle.laws_loan.proofs.Invariant.{sends_at, hung, reclaims_in}
 use Rattle.laws_loan.proofs.OneMove.{OneMove, carried, passes_on, same_receiver, span_after}
 use Rattle.laws_loan.proofs.Parts.{set_words}
 use Rattle.laws_loan.proofs.Placed.{claim_of, Placed}
@@ -76,7 +76,7 @@ module _ {T : Type 0} (scene : Scene T) (stage : AcquireStage) (l : Loans scene 
 
   -- the step changes of the whole only the words of the indices
   whole_words : words_after (words_in s) ask ≡ words_in (record s { set = words_then })
-  whole_words = set_words slots queue s (counted_for (sends_at latest)) holds_before.parts (acquire_asks slots stage) step.on
+  whole_words = set_words holds_before.parts (acquire_asks slots stage) step.on
 
   -- no send waits at the read position
   calm_before : hung s.submission.read (sends_at latest) ≡ None
@@ -85,6 +85,20 @@ module _ {T : Type 0} (scene : Scene T) (stage : AcquireStage) (l : Loans scene 
   -- no reclaim is under way
   quiet : is_reclaiming s.events ≡ false
   quiet = holds_before.reclaiming ∙ ap reclaims_in from
+
+  -- the step of the acquire, with which the words of the indices change
+  abbrev set_step : rests.SetStep T
+  set_step =
+      record {
+        scene = scene;
+        holds = holds_before;
+        straight = straight;
+        start = calls.Loan;
+        wrote = [];
+        from = from;
+        ask = ask;
+        set_then = words_then;
+      }
 
   -- ---- the loan goes on
 
@@ -100,8 +114,7 @@ module _ {T : Type 0} (scene : Scene T) (stage : AcquireStage) (l : Loans scene 
         calls.Loan ask false (GoOn (loan_at slots stage')) []
     goes_steps =
         let one = one_step slots stage in
-        rests.goes_on scene holds_before straight calls.Loan [] from ask words_then
-        (loan_at slots stage') (record { words = whole_words; good = good; unlocked = step.unlocked; calm = calm_before })
+        rests.goes_on set_step (loan_at slots stage') (record { words = whole_words; good = good; unlocked = step.unlocked; calm = calm_before })
         refl (omega arith) (refl, refl, refl, takes') (omega arith)
 
   -- ---- each index is claimed, and the loan fails
@@ -120,7 +133,7 @@ module _ {T : Type 0} (scene : Scene T) (stage : AcquireStage) (l : Loans scene 
         (Open (starts.Loan calls.Loan) []) calls.Loan ask false (Done none_left) (Finished 0 (starts.Loan calls.Loan) none_left ∷ [])
     fails_steps =
         let one = one_step slots stage in
-        rests.ends scene holds_before straight calls.Loan [] from ask words_then none_left
+        rests.ends set_step none_left
         (record { words = whole_words; good = good; unlocked = step.unlocked; calm = calm_before })
         (record { moves = refl; receiver = λ r. refl; dead = λ q b. refl }) refl
         (λ i below free. all i below (holds_before.parts.placed.claimed i below ∙ ap claim_of free)) (λ i carried. carried)
@@ -129,6 +142,7 @@ module _ {T : Type 0} (scene : Scene T) (stage : AcquireStage) (l : Loans scene 
 
   -- ---- the loan claims the index `i`
 
+  -- nobody has claimed the index `i`, and the words of the indices are right once the sender has claimed it
   module _ (i : ℕ) (below : i < slots) (good : indices.Good slots words_then (set s.claims i (Some 0)) 0)
       (none : holder s.claims i ≡ None) (low : acquire_number slots stage 0 + 1 ≤ 4 + slots) where
     -- the event that the sender claims the index
@@ -177,11 +191,10 @@ module _ {T : Type 0} (scene : Scene T) (stage : AcquireStage) (l : Loans scene 
     -- index and the loan has ended
     placed_got : Placed slots (set s.claims i (Some 0)) s.submission.waiting s.completion.waiting book_got (s.events ++ told)
     placed_got =
-        let first = claims_it slots s.claims s.submission.waiting s.completion.waiting s.book s.events holds_before.parts.placed i below free_before in
+        let first = claims_it holds_before.parts.placed i below free_before in
         let long = holds_before.parts.placed.places_long in
         subst (Placed slots (set s.claims i (Some 0)) s.submission.waiting s.completion.waiting book_got) whole
-        (loan_ends slots (set s.claims i (Some 0)) s.submission.waiting s.completion.waiting book_claimed
-        (s.events ++ claims_i ∷ []) first i below now_passing
+        (loan_ends first i below now_passing
         (get_or-set_same s.book.places i places.Loaned places.Free (omega arith)))
 
     -- the events move the index `i` alone, from free to the sender
@@ -190,13 +203,13 @@ module _ {T : Type 0} (scene : Scene T) (stage : AcquireStage) (l : Loans scene 
 
     -- the span of the loan ends with the claim written and its answer
     ended_got : span_of 0 (s.events ++ told) ≡ Ended (starts.Loan calls.Loan) got (claims_i ∷ [])
-    ended_got = span_after 0 i s.events told Free (With 0) one_move (Open (starts.Loan calls.Loan) []) from
+    ended_got = span_after one_move from
 
     -- the step that claims an index keeps what holds between two turns
     shows_got : Shows slots queue s s_got 0 y_got latest turns told
     shows_got =
         let passing =
-        carried 0 i s.events told Free (With 0) one_move (Open (starts.Loan calls.Loan) []) from holds_before.passing
+        carried one_move from holds_before.passing
         (λ j ne held. absurd held) (λ q e. absurd (with_passes 0 q e)) in
         let unlocked = step.unlocked in
         grind (arith, ended_got, sends_now, append-nil, items, same_receiver, one_move, placed_got, now_passing, free_before, calm_before, quiet)
@@ -208,5 +221,5 @@ module _ {T : Type 0} (scene : Scene T) (stage : AcquireStage) (l : Loans scene 
         let words = whole_words in
         let others =
         others_beside slots queue s s_got refl refl (λ room stage known. known) (λ i stage known. known)
-        (λ q ne. passes_on 0 i s.events told Free (With 0) one_move q (free_passes q)) in
+        (λ q ne. passes_on one_move q (free_passes q)) in
         grind (arith, shows_got)

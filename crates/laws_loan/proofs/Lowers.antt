@@ -1,6 +1,6 @@
 -- A step that ends no call lowers the weight of a loan channel's machine.
-use Rattle.laws_loan.proofs.Names.{◌≡◌, ◌≢◌, ℕ, ◌+◌, ◌-◌, ◌*◌, ◌^◌, ◌<◌, ◌≤◌, ◌⊎◌, inl, inr, ⊎_elim, Bool, true, false, Option, Some, None}
-use Rattle.laws_loan.proofs.Names.{List, [], ◌∷◌, ◌++◌, fold, refl, sym, ap, subst, ◌∙◌, locked, Ask, After, GoOn}
+use Rattle.laws_loan.proofs.Names.{◌≡◌, ◌≢◌, ℕ, ◌+◌, ◌-◌, ◌*◌, ◌≤◌, ◌⊎◌, inl, inr, ⊎_elim, Bool, true, false, Option, Some, None}
+use Rattle.laws_loan.proofs.Names.{List, [], ◌∷◌, ◌++◌, fold, refl, sym, ap, subst, ◌∙◌, Ask, After, GoOn}
 use Rattle.laws_loan.proofs.Names.{Answer, Event, Start, Flight, Registry, Book, LoanStart, LoanFlight, Send, GiveUp, TakeBack, Receive}
 use Rattle.laws_loan.proofs.Names.{GiveBack, Reclaim, Party, Coding, want_of, ask_of}
 use Rattle.laws_loan.proofs.Names.{step_of, beside_of, going_rows, first_row, want, after}
@@ -31,7 +31,7 @@ use Rattle.model.proofs.Counts.{steps_small}
 use Rattle.model.proofs.LockFree.Measure.{worth}
 use Rattle.model.proofs.LockFree.Weighed.{ended_more}
 use Rattle.laws_loan.proofs.Channel.{Channel, kept_is}
-use Rattle.laws_loan.proofs.Costs.{Keeps, AllCosts, CallCosts, acquire_keeps, release_keeps, any_costs, send_costs_so, take_back_keeps, gives_below}
+use Rattle.laws_loan.proofs.Costs.{Sizes, Keeps, AllCosts, CallCosts, acquire_keeps, release_keeps, any_costs, send_costs_so, take_back_keeps, gives_below}
 use Rattle.laws_loan.proofs.GiveBacks.{give_at, push_on}
 use Rattle.laws_loan.proofs.Knows.{At, StageAt, TakeBackAt}
 use Rattle.laws_loan.proofs.Knows as knows
@@ -122,14 +122,10 @@ module _ {T : Type 0} (code : Coding T) (slots queue : ℕ) where
         ≡ cond dead 0 (receiver_left (read_at slots t.world.words) (party_of r t.world.latest))
     receivers_are = ap (λ kept. receivers_left slots t.world.words kept t.world.latest) is_kept
 
-    some : 1 ≤ slots
-    some = sound.holds.parts.set.some
-
-    few : slots < locked
-    few = sound.holds.parts.set.few
-
-    fits : queue < 2 ^ 32
-    fits = sound.holds.parts.few
+    -- the sizes of the channel
+    abbrev sizes : Sizes
+    sizes =
+        record { slots = slots; queue = queue; some = sound.holds.parts.set.some; few = sound.holds.parts.set.few; fits = sound.holds.parts.few }
 
     -- ---- what a step says, by the call
 
@@ -141,7 +137,7 @@ module _ {T : Type 0} (code : Coding T) (slots queue : ℕ) where
 
       abbrev Sends : Flight T → Step (Flight T) (Registry T) T → Type 0
       Sends flight st =
-          (p ≡ 0) × (AllCosts T slots queue some few fits t.world.words flight (ask_of (want_of t.world.coding flight)) st.after
+          (p ≡ 0) × (AllCosts T sizes t.world.words flight (ask_of (want_of t.world.coding flight)) st.after
           ⊎ ((dead ≡ true) × (allowance slots flight ≡ most_sending slots)))
 
       -- the step of the living receiver leaves its call fewer steps
@@ -186,7 +182,7 @@ module _ {T : Type 0} (code : Coding T) (slots queue : ℕ) where
         SaysOf start flight = Says (flights.Loan flight) (loan_step start flight)
 
         abbrev CostsOf : LoanFlight → Type 0
-        CostsOf flight = CallCosts T slots queue some few fits t.world.words s.book.places flight
+        CostsOf flight = CallCosts T sizes t.world.words s.book.places flight
 
         -- a step of the sender in a call whose costs are counted (`CostsOf`) is as `Says` asks
         sends : (start : LoanStart) (flight : LoanFlight) → p ≡ 0 → CostsOf flight → SaysOf start flight
@@ -197,7 +193,7 @@ module _ {T : Type 0} (code : Coding T) (slots queue : ℕ) where
             → allowance {T = T} slots (flights.Loan flight) ≡ most_sending slots → SaysOf start flight
         keeps start flight mine stays is_most =
             sends start flight mine
-            (any_costs T slots queue some few fits t.world.words flight
+            (any_costs T sizes t.world.words flight
             (after s.book.places flight (old_of t.world.words (ask_of (want flight)))) stays is_most)
 
         -- a step of a give-back that goes on leaves the receiver fewer steps to take
@@ -234,23 +230,23 @@ module _ {T : Type 0} (code : Coding T) (slots queue : ℕ) where
             let stands = there.at in
             keeps calls.Loan (Loan run) stands.0
             (subst (λ n. Keeps slots t.world.words (ask_of (acquire_asks n run.call.stage))) (sym stands.1)
-            (acquire_keeps slots queue some few fits t.world.words s.set run.call.stage stands.3)) refl
+            (acquire_keeps sizes t.world.words s.set run.call.stage stands.3)) refl
         call_says (calls.Send index) (Send run) alive there =
             let stands = there.at in
             sends (calls.Send index) (Send run) stands.0
             (subst (λ n. CostsOf (send_at n run.call.queue run.given run.call.stage)) (sym stands.1)
-            (rw stands.2 (send_costs_so T slots queue some few fits t.world.words s.book.places s index run.given run.call.stage stands.5)))
+            (rw stands.2 (send_costs_so T sizes t.world.words s.book.places s index run.given run.call.stage stands.5)))
         call_says (calls.GiveUp index) (GiveUp run) alive there =
             let stands = there.at in
             keeps (calls.GiveUp index) (GiveUp run) stands.0
             (subst (λ n. Keeps slots t.world.words (ask_of (back_asks n run.given run.call.stage))) (sym stands.1)
             (rw stands.2
-            (release_keeps slots queue some few fits t.world.words index (gives_below slots queue s index run.call.stage stands.4) run.call.stage))) refl
+            (release_keeps sizes t.world.words index (gives_below slots queue s index run.call.stage stands.4) run.call.stage))) refl
         call_says calls.TakeBack (TakeBack run) alive there =
             let stands = there.at in
             keeps calls.TakeBack (TakeBack run) stands.0
             (subst (λ n. Keeps slots t.world.words (ask_of (take_back_asks n run.call.queue run.call.stage))) (sym stands.1)
-            (rw stands.2 (take_back_keeps T slots queue some few fits t.world.words s run.call.stage stands.4))) refl
+            (rw stands.2 (take_back_keeps T sizes t.world.words s run.call.stage stands.4))) refl
         call_says calls.Receive (Receive by run) alive there =
             let stands = there.at in
             let lives : has_died p s.book.dead ≡ false = subst (λ q. has_died q s.book.dead ≡ false) stands.1 alive in
@@ -450,11 +446,11 @@ module _ {T : Type 0} (code : Coding T) (slots queue : ℕ) where
 
           -- a step of the sender lowers the weight by the steps that it takes, where it costs the receiver
           -- nothing, has paid, or the receiver has died
-          sends_less : AllCosts T slots queue some few fits t.world.words flight ask st.after
+          sends_less : AllCosts T sizes t.world.words flight ask st.after
               ⊎ ((dead ≡ true) × (allowance slots flight ≡ most_sending slots)) → Less
           sends_less h =
               ⊎_elim
-              (λ costs. ⊎_elim costs_none costs_two (subst (λ a. AllCosts T slots queue some few fits t.world.words flight ask a) after_is costs))
+              (λ costs. ⊎_elim costs_none costs_two (subst (λ a. AllCosts T sizes t.world.words flight ask a) after_is costs))
               costs_nobody h
 
         -- ---- the receiver's

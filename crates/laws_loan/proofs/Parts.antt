@@ -6,7 +6,8 @@ use Rattle.std.proofs.Common.{arith}
 use Rattle.laws_loan.proofs.Channel.{Channel, Holds, no_roles, words_in}
 use Rattle.laws_loan.proofs.Cuts.{IsOn, shifted_old, shifted_words, shifted_change, first_old, first_words}
 
-module _ {T : Type 0} (slots queue : ℕ) (s : Channel T) (busy : ℕ) (holds : Holds slots queue s busy) where
+-- the parts of the channel `s` hold what they are to hold, so each has its length, and an operation within one leaves the others
+module _ {T : Type 0} {slots queue : ℕ} {s : Channel T} {busy : ℕ} (holds : Holds slots queue s busy) where
   -- the words of the submission queue
   abbrev submission : List ℕ
   submission = layout no_roles s.submission

@@ -1,7 +1,7 @@
 -- Where each index is by the events (its spot) agrees with who has claimed it, with the indices that wait
 -- in the two queues, and with the book. After an event that moves one index this still holds.
 use Rattle.laws_loan.proofs.Names.{◌≡◌, ◌≢◌, ℕ, ◌<◌, ◌≤◌, ◌⊎◌, ⊎_elim, false, Option, Some, None, List, [], ◌∷◌, ◌++◌}
-use Rattle.laws_loan.proofs.Names.{length, get_or, refl, sym, ap, subst, ◌∙◌, cases_eq, fold-append, place_at, Event}
+use Rattle.laws_loan.proofs.Names.{length, get_or, sym, ap, subst, ◌∙◌, cases_eq, fold-append, place_at, Event}
 use Rattle.laws_loan.proofs.Names.{Book, has_died, holder_in, IsIn, KeepsBook, Spot, Free, Passing, With, Move}
 use Rattle.laws_loan.proofs.Names.{move_of, spot_of, receiver_after, receiver_of, died_after, has_died_by, holder}
 use Rattle.std.proofs.Common.{arith}
@@ -43,7 +43,9 @@ pub record DiffersAt {A : Type 0} (i : ℕ) (none : A) (xs xs' : List A) : Type 
   pub others : (j : ℕ) → i ≢ j → get_or xs' j none ≡ get_or xs j none
   pub long : length xs' ≡ length xs
 
-module _ {T : Type 0} (slots : ℕ) (events : List (Event T)) (e : Event T) (m : Move) (move_is : move_of e ≡ Some m) where
+-- the event `e`, written behind `events`, moves the index `m.index` from its spot to `m.to`; before it each index is in its place
+module _ {T : Type 0} {slots : ℕ} {claims : List (Option ℕ)} {sent back : List ℕ} {book : Book} {events : List (Event T)}
+    (placed : Placed slots claims sent back book events) (e : Event T) (m : Move) (move_is : move_of e ≡ Some m) where
   abbrev pub later : List (Event T)
   later = events ++ e ∷ []
 
@@ -51,9 +53,9 @@ module _ {T : Type 0} (slots : ℕ) (events : List (Event T)) (e : Event T) (m :
   pub here_and_there : (P : ℕ → Type 0) → P m.index → ((i : ℕ) → m.index ≢ i → P i) → (i : ℕ) → P i
   here_and_there P here there i = ⊎_elim (λ same. subst P same here) (λ ne. there i ne) (cases_eq m.index i)
 
-  -- What an event shows that moves the index `m.index`, after which the claims are `claims'`, the two
-  -- queues have `sent'` and `back'`, and the book is `book'`.
-  pub record Shown (claims claims' : List (Option ℕ)) (sent sent' back back' : List ℕ) (book book' : Book) : Type 0 where
+  -- What the event shows, after which the claims are `claims'`, the two queues have `sent'` and `back'`, and
+  -- the book is `book'`.
+  pub record Shown (claims' : List (Option ℕ)) (sent' back' : List ℕ) (book' : Book) : Type 0 where
     pub below : m.index < slots
     -- only the claim of this index changes, and it is the one of its new spot
     pub claim : holder claims' m.index ≡ claim_of m.to
@@ -72,8 +74,8 @@ module _ {T : Type 0} (slots : ℕ) (events : List (Event T)) (e : Event T) (m :
         × ((p : ℕ) → died_after p (has_died_by p events) e ≡ has_died_by p events)
         × (book'.receiver ≡ book.receiver) × (book'.dead ≡ book.dead)
 
-  module _ (claims claims' : List (Option ℕ)) (sent sent' back back' : List ℕ) (book book' : Book)
-      (placed : Placed slots claims sent back book events) (s : Shown claims claims' sent sent' back back' book book') where
+  -- the event shows what `Shown` asks
+  module _ {claims' : List (Option ℕ)} {sent' back' : List ℕ} {book' : Book} (s : Shown claims' sent' back' book') where
     -- the event leaves the receiver
     same_receiver : receiver_of later ≡ receiver_of events
     same_receiver = fold-append receiver_after 1 events (e ∷ []) ∙ s.calm.0
@@ -110,9 +112,8 @@ module _ {T : Type 0} (slots : ℕ) (events : List (Event T)) (e : Event T) (m :
           past = here_and_there (λ i. slots ≤ i → spot_of i later ≡ Free)
               (λ beyond. let below = s.below in absurd (omega arith))
               (λ i ne beyond. spot_other events e m move_is i ne ∙ placed.past i beyond);
-          waits = lists_go is_waiting sent events e placed.waits m move_is (is_waiting (spot_of m.index events)) (is_waiting m.to) refl refl sent' s.waits;
-          returns = lists_go is_returning back events e placed.returns m move_is
-              (is_returning (spot_of m.index events)) (is_returning m.to) refl refl back' s.returns;
+          waits = lists_go is_waiting sent events e placed.waits move_is sent' s.waits;
+          returns = lists_go is_returning back events e placed.returns move_is back' s.returns;
           parties = parties_more;
           claims_long = s.other_claims.long ∙ placed.claims_long;
           places_long = s.other_places.long ∙ placed.places_long;
@@ -122,7 +123,8 @@ module _ {T : Type 0} (slots : ℕ) (events : List (Event T)) (e : Event T) (m :
 
 -- ---- an event that moves no index
 
-module _ {T : Type 0} (slots : ℕ) (events : List (Event T)) (e : Event T) (none : move_of e ≡ None) where
+-- the event `e`, written behind `events`, moves no index
+module _ {T : Type 0} (events : List (Event T)) (e : Event T) (none : move_of e ≡ None) where
   -- each index is where it was
   stays : (i : ℕ) → spot_of i (events ++ e ∷ []) ≡ spot_of i events
   stays i = spot_stays events e i none
@@ -138,7 +140,8 @@ module _ {T : Type 0} (slots : ℕ) (events : List (Event T)) (e : Event T) (non
     pub dead : (p : ℕ) → has_died p book'.dead ≡ has_died_by p (events ++ e ∷ [])
     pub parties : (i p : ℕ) → IsBy p (spot_of i events) → (p ≡ 0) ⊎ (p ≡ receiver_of (events ++ e ∷ []))
 
-  module _ (claims : List (Option ℕ)) (sent back : List ℕ) (book book' : Book) (placed : Placed slots claims sent back book events)
+  -- before the event each index is in its place (`placed`), and the event leaves the book but for the receiver and the dead
+  module _ {slots : ℕ} {claims : List (Option ℕ)} {sent back : List ℕ} {book book' : Book} (placed : Placed slots claims sent back book events)
       (leaves : Leaves book book') where
     -- an event that moves no index, and leaves the book, keeps where each index is, if the queues' indices
     -- still wait in them

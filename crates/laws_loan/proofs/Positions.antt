@@ -10,7 +10,8 @@ use Rattle.laws_loan.proofs.Channel.{Channel, Holds, no_roles, words_in}
 use Rattle.laws_loan.proofs.Parts.{set_long, submission_long, submission_old, submission_words}
 use Rattle.laws_loan.proofs.Submission.{publish_words}
 
-module _ {T : Type 0} (slots queue : ℕ) (s : Channel T) (busy : ℕ) (holds : Holds slots queue s busy) (reached : s.submission.write < 2 ^ 64 - 2) where
+-- the parts of the channel `s` hold what they are to hold, and the write position of the submission queue is below 2 ^ 64 - 2
+module _ {T : Type 0} {slots queue : ℕ} {s : Channel T} {busy : ℕ} (holds : Holds slots queue s busy) (reached : s.submission.write < 2 ^ 64 - 2) where
   -- the words behind those of the submission queue
   abbrev behind : List ℕ
   behind = layout no_roles s.completion
@@ -21,7 +22,7 @@ module _ {T : Type 0} (slots queue : ℕ) (s : Channel T) (busy : ℕ) (holds : 
 
   -- the read position is one of the submission queue's words
   within : 1 < length queued
-  within = let long = submission_long slots queue s busy holds in omega arith
+  within = let long = submission_long holds in omega arith
 
   -- behind the words of the set, the words of the whole are those of the submission queue
   there : (ys : List ℕ) (n : ℕ) → get_or (s.set ++ ys) (submission_word slots + n) 0 ≡ get_or ys n 0
@@ -38,8 +39,8 @@ module _ {T : Type 0} (slots queue : ℕ) (s : Channel T) (busy : ℕ) (holds : 
   adds_write read index =
       let on_queue : 0 < length queued = (let two = within in omega arith) in
       let words =
-      submission_words slots queue s busy holds (push_asks queue (pushes.StoresWrite s.submission.write read) index) on_queue
-      ∙ ap (λ ws. s.set ++ (ws ++ behind)) (publish_words queue holds.some holds.few s.submission holds.submission reached index)
+      submission_words holds (push_asks queue (pushes.StoresWrite s.submission.write read) index) on_queue
+      ∙ ap (λ ws. s.set ++ (ws ++ behind)) (publish_words holds reached index)
       in
       ap (λ ws. get_or ws (submission_word slots) 0) words
       ∙ (first _ ∙ ap (λ n. n + 1) (sym (first (queued ++ behind))))
@@ -52,10 +53,10 @@ module _ {T : Type 0} (slots queue : ℕ) (s : Channel T) (busy : ℕ) (holds : 
   -- a move of the submission queue's read position adds one to that word
   pub adds_read : AddsOne (read_word slots) (words_in s) (ask_of (shifted (submission_word slots) (move 1 s.submission.read)))
   adds_read =
-      let words = submission_words slots queue s busy holds (move 1 s.submission.read) within ∙ ap (λ ws. s.set ++ (ws ++ behind)) moved_words in
+      let words = submission_words holds (move 1 s.submission.read) within ∙ ap (λ ws. s.set ++ (ws ++ behind)) moved_words in
       ap (λ ws. get_or ws (read_word slots) 0) words
       ∙ (there _ 1 ∙ ap (λ n. n + 1) (sym (there (queued ++ behind) 1)))
 
   -- the exchange of the read position finds the queue's read position
   pub finds_read : (read : ℕ) → old_of (words_in s) (ask_of (shifted (submission_word slots) (move 1 read))) ≡ s.submission.read
-  finds_read read = submission_old slots queue s busy holds (move 1 read) within
+  finds_read read = submission_old holds (move 1 read) within

@@ -24,7 +24,7 @@ use Rattle.laws_loan.proofs.Invariant.{Hangs, sends_at, counted_for, hung, recla
 use Rattle.laws_loan.proofs.Knows.{Passes, push_wrote}
 use Rattle.laws_loan.proofs.OneMove.{OneMove, calm_still, carried, last_still, of_still, passes_on, same_receiver, span_after}
 use Rattle.laws_loan.proofs.Placed.{Placed}
-use Rattle.laws_loan.proofs.Scene.{Scene, HoldsIn}
+use Rattle.laws_loan.proofs.Scene.{Scene, SenderCalls}
 use Rattle.laws_loan.proofs.Sender.{party_then, Steps}
 use Rattle.laws_loan.proofs.Sends.{pushes_at, asked, queued, StepTo, StageKeeps, does_by, reached, long, words_are, change_is, read_is, none_carried}
 use Rattle.laws_loan.proofs.Spots.{passing_same, waiting_passes}
@@ -38,10 +38,11 @@ use Rattle.laws_loan.proofs.Turns.{Shows, sends_now}
 
 -- the sender's push of the index has loaded the read position `read`, and is at the store of
 -- the next write position
-module _ {T : Type 0} (scene : Scene T) (index : ℕ) (holds : HoldsIn scene) (small : scene.turns < 2 ^ 64 - 2) (straight : scene.caller.backs ≡ 0)
+module _ {T : Type 0} {scene : Scene T} (index : ℕ) (m : SenderCalls scene)
     (read : ℕ)
     (here : sends_at scene.latest ≡ Some (flights.Loan (pushes_at scene.slots scene.queue (pushes.StoresWrite scene.state.submission.write read) index)))
     (passes : Passes scene.slots scene.queue scene.state 0 index) (from : span_of 0 scene.state.events ≡ Open (starts.Loan (calls.Send index)) []) where
+  open m use {holds}
   open scene use {coding as code, slots, queue, state as s, latest, turns, changes, caller as x}
 
   abbrev channel : frame.Family T
@@ -111,17 +112,17 @@ module _ {T : Type 0} (scene : Scene T) (index : ℕ) (holds : HoldsIn scene) (s
 
   -- the write position is below its last value
   low_write : s.submission.write < 2 ^ 64 - 2
-  low_write = reached scene index holds small straight
+  low_write = reached scene index m
 
   -- the word of the write position is one of the queue's
   on : 0 < length (queued scene index)
-  on = grind (arith, long scene index holds small straight)
+  on = grind (arith, long scene index m)
 
   -- the store of the write position changes one word
   one : change_of (words_in s) asked_now ≡ 1
   one =
-      change_is scene index holds small straight stage on
-      ∙ submission.publish_changes queue holds.parts.some holds.parts.few s.submission holds.parts.submission low_write index
+      change_is scene index m stage on
+      ∙ submission.publish_changes holds.parts low_write index
 
   -- ---- whatever the send writes behind the event that publishes its index
 
@@ -149,12 +150,12 @@ module _ {T : Type 0} (scene : Scene T) (index : ℕ) (holds : HoldsIn scene) (s
     placed_then : Placed slots s.claims k.waiting s.completion.waiting book (s.events ++ es)
     placed_then =
         subst (Placed slots s.claims k.waiting s.completion.waiting book) whole
-        (placed_still slots s.claims k.waiting s.completion.waiting book (s.events ++ publishes ∷ []) tail is.still
-        (publishes_it slots s.claims s.submission.waiting s.completion.waiting s.book s.events holds.parts.placed index passes.0 passes.1))
+        (placed_still tail is.still
+        (publishes_it holds.parts.placed index passes.0 passes.1))
 
     -- the sender's span goes on, after `Published`, with the rest of the events
     span_then : span_of 0 (s.events ++ es) ≡ fold own_after (Open call (publishes ∷ [])) tail
-    span_then = span_after 0 index s.events es (Passing 0) Waiting one_move (Open call []) from
+    span_then = span_after one_move from
 
     -- the whole index stands in its cell, and more than the capacity wait afterwards only if the send waits
     module _ (whole_cell : Holds 1 words_of_index (queue + 1) s.submission.cells s.submission.write index 1)
@@ -164,7 +165,7 @@ module _ {T : Type 0} (scene : Scene T) (index : ℕ) (holds : HoldsIn scene) (s
       -- the store keeps what holds between two turns (`Shows`, Turns)
       shows : Shows slots queue s (s_then tail) 0 (party after) latest turns es
       shows =
-          let good = submission.publish_good queue holds.parts.some holds.parts.few s.submission holds.parts.submission low_write index below whole_cell in
+          let good = submission.publish_good holds.parts low_write index below whole_cell in
           let reclaims = is.reclaims (is_reclaiming s.events) in
           let moves = is.moves in
           let begins = is.begins in
@@ -174,8 +175,8 @@ module _ {T : Type 0} (scene : Scene T) (index : ℕ) (holds : HoldsIn scene) (s
           let was = passes.1 in
           let idle : counted_for (sends_at latest) ≡ 0 = ap counted_for here in
           let passing =
-          carried 0 index s.events es (Passing 0) Waiting one_move (Open call []) from holds.passing
-          (λ i ne. none_carried scene index holds small straight i ne) (λ q e. absurd (waiting_passes q e)) in
+          carried one_move from holds.passing
+          (λ i ne. none_carried scene index m i ne) (λ q e. absurd (waiting_passes q e)) in
           grind (arith, span_then, sends_now, same_receiver, one_move, placed_then)
 
       -- the store keeps the invariant, where the send fits its span afterwards
@@ -187,11 +188,11 @@ module _ {T : Type 0} (scene : Scene T) (index : ℕ) (holds : HoldsIn scene) (s
           let own = is.own in
           let stands = is.stands in
           let words =
-          words_are scene index holds small straight stage k on
-          (submission.publish_words queue holds.parts.some holds.parts.few s.submission holds.parts.submission low_write index) in
+          words_are scene index m stage k on
+          (submission.publish_words holds.parts low_write index) in
           let others =
           others_beside slots queue s (s_then tail) refl refl (publish_keeps_pop queue s.submission index) (λ i stage known. known)
-          (λ q ne. passes_on 0 index s.events es (Passing 0) Waiting one_move q (λ e. ne (sym (passing_same 0 q e)))) in
+          (λ q ne. passes_on one_move q (λ e. ne (sym (passing_same 0 q e)))) in
           grind (arith, shows)
 
   -- ---- what the events tell of the queues
@@ -292,29 +293,26 @@ module _ {T : Type 0} (scene : Scene T) (index : ℕ) (holds : HoldsIn scene) (s
 
     -- the test of the read position in the words is that of the queue
     read_now : (b : Bool) → (s.submission.read == read) ≡ b → (read_in (submission_word slots) (words_in s) == read) ≡ b
-    read_now b read_test = ap (λ r. r == read) (read_is scene index holds small straight) ∙ read_test
+    read_now b read_test = ap (λ r. r == read) (read_is scene index m) ∙ read_test
 
     -- the store of the next write position keeps the invariant, in each of the three cases
     pub stores_write : read ≤ s.submission.read → s.submission.write ≤ read + queue
         → StageKeeps scene index stage
-    stores_write low far = go (submission.finds queue holds.parts.some holds.parts.few s.submission holds.parts.submission low_write read low far)
+    stores_write low far = go (submission.finds holds.parts low_write read low far)
       where
         -- the cases are whether there is room, the queue is full, or a pop has made room since
-        go : Room queue holds.parts.some holds.parts.few s.submission holds.parts.submission low_write read
+        go : Room holds.parts low_write read
             → StageKeeps scene index stage
         go (HasRoom t less) =
-            does_by scene index (s_then (acts ∷ ends ∷ [])) stage []
-            (Done answers.PoppedNone) (effects.PublishesAndActs index) refl (rw t refl) (rw t refl) (publishes_done less)
+            does_by scene index (effects.PublishesAndActs index) (publishes_done less) refl (rw t refl) (rw t refl)
         go (IsFull t e full) =
             let write = holds.parts.submission.write in
             let same : s.submission.read ≡ read = grind (arith, nat_tests) in
             let z = read_now true e in
-            does_by scene index (s_then []) stage [] (GoOn waits_at)
-            (effects.Publishes index) refl (rw t refl) (rw (t, z) refl) (publishes_over full (sym same) (omega arith))
+            does_by scene index (effects.Publishes index) (publishes_over full (sym same) (omega arith)) refl (rw t refl) (rw (t, z) refl)
         go (HasMoved t e moved less) =
             let write = holds.parts.submission.write in
             let z = read_now false e in
             let apart : distance s.submission.write read ≡ queue = grind (arith, nat_tests) in
             let reach = low_write in
-            does_by scene index (s_then (acts ∷ [])) stage [] (GoOn waits_at) (effects.PublishesAndActs index) refl (rw t refl) (rw (t, z) refl)
-            (publishes_late less moved (omega arith))
+            does_by scene index (effects.PublishesAndActs index) (publishes_late less moved (omega arith)) refl (rw t refl) (rw (t, z) refl)

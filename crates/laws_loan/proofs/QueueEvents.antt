@@ -53,7 +53,8 @@ module _ {T : Type 0} where
     pub goes : fold (overflowing_list queue).after (items (take queue sent)) (calls_of (as_queue reclaims es)) ≡ items (take queue sent')
     pub answers : answers_from (overflowing_list queue) (items (take queue sent)) (calls_of (as_queue reclaims es)) ≡ answers_of (as_queue reclaims es)
 
-  module _ (queue : ℕ) (sent sent' back back' : List ℕ) (events es : List (Event T)) where
+  -- `events` tell of the queues before a turn, and `es` are the events of the turn
+  module _ {queue : ℕ} {sent sent' back back' : List ℕ} {events es : List (Event T)} where
     -- what the events tell of the channel, with those of one turn more
     pub told_more : Told queue sent back events → Tells queue (is_reclaiming events) sent sent' back back' es → Told queue sent' back' (events ++ es)
     told_more told tells =
@@ -73,7 +74,7 @@ module _ {T : Type 0} where
 
 -- events that tell nothing of the submission queue tell what `Tells` asks, where they tell it of the
 -- completion queue
-pub silent_tells : {T : Type 0} (queue : ℕ) (reclaims : Bool) (sent back back' : List ℕ) (es : List (Event T))
+pub silent_tells : {T : Type 0} {queue : ℕ} {reclaims : Bool} {sent back back' : List ℕ} (es : List (Event T))
     → published es ≡ [] → handed_out es ≡ [] → as_queue reclaims es ≡ []
     → back ++ given_back es ≡ taken_back es ++ back' → Tells queue reclaims sent sent back back' es
 silent_tells = grind (arith, items, append-nil)

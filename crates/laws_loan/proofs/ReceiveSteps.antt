@@ -85,7 +85,7 @@ module _ {T : Type 0} (m : Underway T) where
         let front = known.1.3 refl in
         let few = holds_there.parts.set.few in
         let low : slots < 2 ^ 32 = omega arith in
-        let below = sent_below slots s.claims s.submission.waiting s.completion.waiting s.book s.events holds_there.parts.placed room.0 front.0 front.1 in
+        let below = sent_below holds_there.parts.placed room.0 front.0 front.1 in
         let paid = there.knows.1 in
         let kept : ended_book {T = T} p calls.Receive (Some (answers.PoppedIndex room.0))
         (fold (book_after {T = T}) s.book
@@ -96,10 +96,7 @@ module _ {T : Type 0} (m : Underway T) where
         in
         let receiver_calls : ReceiverCalls scene p calls.Receive =
         record { holds = holds_there; small = small; other = there.at.0; alive = alive; receives = known.0; from = from } in
-        comes m p calls.Receive asks false (Done (answers.PoppedIndex room.0)) (es scene p room.0 front.0)
-        (ended_book {T = T} p calls.Receive (Some (answers.PoppedIndex room.0))
-        (fold (book_after {T = T}) s.book
-        (effects_of p (effects.Receives room.0 (by_sender waits)) (Some (answers.PoppedIndex room.0))))) (s_then scene p room.0 front.0) kept
+        comes m calls.Receive asks false (Done (answers.PoppedIndex room.0)) kept
         (take_words scene p room.0 front.0 receiver_calls inv front.1 there.steps (omega arith))
         (take_shows scene p room.0 front.0 receiver_calls inv front.1 there.steps (omega arith))
         (take_owes scene p room.0 front.0 receiver_calls inv front.1 there.steps (omega arith))
@@ -113,18 +110,18 @@ module _ {T : Type 0} (m : Underway T) where
         let front = known.1.3 refl in
         let sent = holds_there.sent in
         let reached : s.submission.write < 2 ^ 64 - 2 = omega arith in
-        let wide = submission_long slots queue s busy holds_there.parts in
+        let wide = submission_long holds_there.parts in
         let here : (s.submission.read == s.submission.read) ≡ true = eq-eqb s.submission.read s.submission.read refl in
-        let found : old ≡ s.submission.read = submission_old slots queue s busy holds_there.parts (pop_asks queue stage) (omega arith) in
+        let found : old ≡ s.submission.read = submission_old holds_there.parts (pop_asks queue stage) (omega arith) in
         let back : goes_back stage old ≡ false = ap (goes_back stage) found ∙ (rw here refl) in
         let comes_to : goes old ≡ Done (answers.PoppedIndex room.0) = ap goes found ∙ (rw here refl) in
         let first = oldest queue s.submission holds_there.parts.submission (let longer = ap length front.1 in omega arith) in
         let both : room.0 ∷ front.0 ≡ get_or s.submission.cells (s.submission.read % (queue + 1)) 0 ∷ first.0 = sym front.1 ∙ first.1 in
         let same : get_or s.submission.cells (s.submission.read % (queue + 1)) 0 ≡ room.0 = cc in
         let place : sent_at (submission_word slots) queue (words_in s) s.submission.read ≡ room.0 =
-        submission_old slots queue s busy holds_there.parts (load (cell_word queue s.submission.read))
-        (submission.cell_on queue holds_there.parts.some holds_there.parts.few s.submission holds_there.parts.submission reached s.submission.read)
-        ∙ (submission.cell_is queue holds_there.parts.some holds_there.parts.few s.submission holds_there.parts.submission reached s.submission.read ∙ same)
+        submission_old holds_there.parts (load (cell_word queue s.submission.read))
+        (submission.cell_on holds_there.parts reached s.submission.read)
+        ∙ (submission.cell_is holds_there.parts reached s.submission.read ∙ same)
         in
         let push = beside_is code slots queue s t.world.latest t.world.turns holds_there p known.0 (span_of 0 s.events) (inv.calls 0) in
         let effect : does old ≡ effects.Receives room.0 (by_sender waits) = ap does found ∙ (rw (here, place, push) refl) in

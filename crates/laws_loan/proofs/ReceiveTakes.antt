@@ -80,26 +80,26 @@ module _ {T : Type 0} (scene : Scene T) (p value : ℕ) (rest : List ℕ) where
 
     -- the word of the read position is one of the queue's
     on : 1 < length (layout no_roles s.submission)
-    on = let wide = submission_long slots queue s (counted_for (sends_at latest)) holds.parts in omega arith
+    on = let wide = submission_long holds.parts in omega arith
 
     -- the words after the exchange are those of the channel whose front is taken
     pub take_words : words_after (words_in s) asks ≡ words_in s_then
     take_words =
-        submission_words slots queue s (counted_for (sends_at latest)) holds.parts (pop_asks queue (pops.MovesRead s.submission.read)) on
+        submission_words holds.parts (pop_asks queue (pops.MovesRead s.submission.read)) on
         ∙ ap (λ ws. s.set ++ (ws ++ layout no_roles s.completion))
-        (submission.take_words queue holds.parts.some holds.parts.few s.submission holds.parts.submission low_write value rest first)
+        (submission.take_words holds.parts low_write value rest first)
 
     -- the exchange changes one word
     one : change_of (words_in s) asks ≡ 1
     one =
-        submission_change slots queue s (counted_for (sends_at latest)) holds.parts (pop_asks queue (pops.MovesRead s.submission.read)) on
-        ∙ submission.take_changes queue holds.parts.some holds.parts.few s.submission holds.parts.submission low_write value rest first
+        submission_change holds.parts (pop_asks queue (pops.MovesRead s.submission.read)) on
+        ∙ submission.take_changes holds.parts low_write value rest first
 
     -- ---- where each index is
 
     -- the index is one of the channel
     below : value < slots
-    below = sent_below slots s.claims s.submission.waiting s.completion.waiting s.book s.events holds.parts.placed value rest first
+    below = sent_below holds.parts.placed value rest first
 
     -- the index that is taken waited
     was_waiting : spot_of value s.events ≡ Waiting
@@ -108,15 +108,15 @@ module _ {T : Type 0} (scene : Scene T) (p value : ℕ) (rest : List ℕ) where
     -- each index is where the book and the events say, before the receive ends
     placed_run : Placed slots s.claims rest s.completion.waiting s.book (run p value s.events waits)
     placed_run =
-        placed_still slots s.claims rest s.completion.waiting s.book (s.events ++ hands p value ∷ []) (acts p value ∷ made waits) (still p value s.events waits)
-        (hands_it_out slots s.claims s.submission.waiting s.completion.waiting s.book s.events holds.parts.placed value
+        placed_still (acts p value ∷ made waits) (still p value s.events waits)
+        (hands_it_out holds.parts.placed value
         below p rest first (inr (receives ∙ holds.parts.placed.keeps.receiver)))
 
     -- each index is where the book and the events say, once the receive has ended
     placed_then : Placed slots s.claims rest s.completion.waiting book_then (s.events ++ es)
     placed_then =
         subst (Placed slots s.claims rest s.completion.waiting book_then) (whole p value s.events waits)
-        (receive_ends slots s.claims rest s.completion.waiting s.book (run p value s.events waits) placed_run value
+        (receive_ends placed_run value
         below p other (receives ∙ placed_run.keeps.receiver) (passing_run p value s.events waits))
 
     -- the index passes from the submission queue to the receiver's call
@@ -165,7 +165,7 @@ module _ {T : Type 0} (scene : Scene T) (p value : ℕ) (rest : List ℕ) where
     -- what holds of the parts of the channel holds afterwards
     parts_then : Holds slots queue s_then (counted_for (sends_at (put p y_then latest)))
     parts_then =
-        let good = submission.take_good queue holds.parts.some holds.parts.few s.submission holds.parts.submission low_write value rest first in
+        let good = submission.take_good holds.parts low_write value rest first in
         grind (arith, sends_still, placed_then)
 
     -- the step keeps what holds between two turns (`Shows`, Turns)
@@ -176,7 +176,7 @@ module _ {T : Type 0} (scene : Scene T) (p value : ℕ) (rest : List ℕ) where
         let same = receiver_told p value s.events waits in
         let tells =
         subst (λ b. Tells queue b s.submission.waiting rest s.completion.waiting s.completion.waiting es) (sym quiet)
-        (tells_told p value queue s.submission.waiting rest s.completion.waiting waits holds.parts.some first s.submission refl holds.hangs) in
+        (tells_told p value queue waits holds.parts.some first s.submission refl holds.hangs) in
         let reclaims = reclaims_told p value s.events waits (is_reclaiming s.events) in
         let made = reclaims_made waits (span_of 0 s.events) in
         let senders = senders_then p value s.events other waits in
@@ -199,7 +199,7 @@ module _ {T : Type 0} (scene : Scene T) (p value : ℕ) (rest : List ℕ) where
     -- the calls of the other parties fit their spans, where the send that waited has acted
     others_fit : (q : ℕ) → q ≢ p → frame.Fits channel s_then q (party_of q latest) (span_of q (s.events ++ es))
     others_fit q ne =
-        ⊎_elim (λ (sender : q ≡ 0). rw sender (sender_fits slots queue s rest book_then (s.events ++ es) p takes other code (party_of 0 latest)
+        ⊎_elim (λ (sender : q ≡ 0). rw sender (sender_fits takes other code (party_of 0 latest)
         (inv.calls 0) (senders_then p value s.events other waits))) (λ (far : q ≢ 0).
         rw (others_then p value s.events other waits q ne far)
         (frame.still_fits channel s s_then q (still_at q ne far) (party_of q latest) (span_of q s.events) (inv.calls q))) (cases_eq q 0)

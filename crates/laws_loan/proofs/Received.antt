@@ -185,12 +185,12 @@ module _ {T : Type 0} (p value : ℕ) where
   -- ---- what the events tell of the two queues
 
   -- the events tell that the oldest index went out, and that the send that waited, if one did, has acted
-  pub tells_told : (queue : ℕ) (sent rest back : List ℕ) (waits : Option ℕ) → 1 ≤ queue → sent ≡ value ∷ rest
+  pub tells_told : (queue : ℕ) {sent rest back : List ℕ} (waits : Option ℕ) → 1 ≤ queue → sent ≡ value ∷ rest
       → (k : Core ℕ) → k.waiting ≡ sent → Hangs queue k waits → Tells queue false sent rest back back (told waits)
-  tells_told queue sent rest back None some first k waiting_is few =
+  tells_told queue {sent} {rest} {back} None some first k waiting_is few =
       let list = pop_front {T = T} queue sent value rest first (rw (← waiting_is) few) in
       grind (arith, append-nil, items)
-  tells_told queue sent rest back (Some index) some first k waiting_is over =
+  tells_told queue {sent} {rest} {back} (Some index) some first k waiting_is over =
       let list = pop_room {T = T} queue sent over.0 value index rest (omega arith) (sym waiting_is ∙ over.1) over.2 first in
       record {
         book = append-nil (items sent) ∙ ap items first;

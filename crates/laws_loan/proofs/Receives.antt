@@ -22,8 +22,8 @@ use Rattle.model.specs.declared.families.loan.effects.Effect.TheVariants as effe
 use Rattle.laws_loan.proofs.Carried.{carried_on}
 use Rattle.laws_loan.proofs.Channel.{Channel, no_roles, words_in}
 use Rattle.laws_loan.proofs.Cuts.{IsOn}
-use Rattle.laws_loan.proofs.Giving.{GivesBy, gives_on}
-use Rattle.laws_loan.proofs.Invariant.{sends_at, counted_for, Carries}
+use Rattle.laws_loan.proofs.Giving.{GivesBy, nothing_stored, gives_on}
+use Rattle.laws_loan.proofs.Invariant.{Carries}
 use Rattle.laws_loan.proofs.GiveBackInterference.{at_given, given_then}
 use Rattle.laws_loan.proofs.Parts.{submission_long, submission_old, submission_words}
 use Rattle.laws_loan.proofs.Scene.{Scene, ReceiverCalls}
@@ -108,38 +108,38 @@ module _ {T : Type 0} (scene : Scene T) (p : ℕ) (beside : Option (ℕ × ℕ))
 
     -- ---- the words of the submission queue
 
-    -- the write position is below its last value
+    -- the write position is below 2^64 - 2
     pub reached : s.submission.write < 2 ^ 64 - 2
     reached = let sent = holds.sent in omega arith
 
     -- the submission queue has five words and one for each index that may wait
     pub long : length queued ≡ 5 + queue
-    long = submission_long slots queue s (counted_for (sends_at latest)) holds.parts
+    long = submission_long holds.parts
 
     -- what an operation of the pop finds in the whole it finds in the queue
     pub old_is : (stage : PopStage) → IsOn queued (pop_asks queue stage) → old stage ≡ old_of queued (ask_of (pop_asks queue stage))
-    old_is stage on = submission_old slots queue s (counted_for (sends_at latest)) holds.parts (pop_asks queue stage) on
+    old_is stage on = submission_old holds.parts (pop_asks queue stage) on
 
     -- an operation on the submission queue that changes no word of it changes none of the whole
     words_are : (stage : PopStage) → IsOn queued (pop_asks queue stage)
         → words_after queued (ask_of (pop_asks queue stage)) ≡ queued
         → words_after (words_in s) (asked stage) ≡ words_in s
     words_are stage on layout_is =
-        submission_words slots queue s (counted_for (sends_at latest)) holds.parts (pop_asks queue stage) on
+        submission_words holds.parts (pop_asks queue stage) on
         ∙ ap (λ ws. s.set ++ (ws ++ layout no_roles s.completion)) layout_is
 
     -- ---- the receive goes on
 
+    -- the step at the stage `now` changes no word and leads to the stage `after_it`, where `back` says whether the receive turns back
     module _ (now after_it : PopStage) (room : OneWord) (back : Bool) (on : IsOn queued (pop_asks queue now))
         (words : words_after queued (ask_of (pop_asks queue now)) ≡ queued)
-        (known : KnowsOverflowPop queue s.submission room after_it) (one : step_count (asked now) ≡ 1)
-        (steps : x.steps + 1 ≤ 2 * (x.backs + one_if back) + overflow_pop_number after_it)
+        (known : KnowsOverflowPop queue s.submission room after_it)
+        (steps : x.steps + step_count (asked now) ≤ 2 * (x.backs + one_if back) + overflow_pop_number after_it)
         (paid : (n : ℕ) → KnowsBacks s.submission (since + n) (changes + n) (x.backs + one_if back) after_it) where
       -- a step that changes no word and goes on leads the receive to the pop's next stage, and writes nothing
       goes_on : Looks now back (GoOn (receive_at slots queue p after_it room)) effects.Quiet
       goes_on = (
-        gives_on scene p calls.Receive r (asked now) back s.completion refl refl holds.parts.completion
-            (λ room stage known. known) (receive_at slots queue p after_it room)
+        gives_on r (asked now) back (nothing_stored holds) (receive_at slots queue p after_it room)
             (words_are now on words) (omega arith) (other, refl, refl, refl, refl, λ lives. (receives, known))
             (paid (change_of (words_in s) (asked now))),
         refl,
@@ -174,14 +174,14 @@ module _ {T : Type 0} (scene : Scene T) (p : ℕ) (beside : Option (ℕ × ℕ))
       -- events that move no index leave each index in passing carried by its call
       passing_none : (i q : ℕ) → spot_of i (s.events ++ told) ≡ Passing q → Carries i (span_of q (s.events ++ told))
       passing_none i q spot_is =
-          carried_on p s.events told (refl, (refl, tt)) spanned from i q (holds.passing i q (sym (spots_still i s.events told told_still) ∙ spot_is))
+          carried_on p s.events told (refl, (refl, tt)) from i q (holds.passing i q (sym (spots_still i s.events told told_still) ∙ spot_is))
           (λ carried. absurd carried)
 
       -- the end of the receive, where nothing waits, keeps what holds between two turns
       shows_none : Shows slots queue s (given_then slots queue s s.completion (s.events ++ told) p) p y_none latest turns told
       shows_none =
           let same = receiver_still s.events told told_still in
-          let placed = placed_still slots s.claims s.submission.waiting s.completion.waiting s.book s.events told told_still holds.parts.placed in
+          let placed = placed_still told told_still holds.parts.placed in
           let span = span_of-other p 0 s.events told (λ e. other (sym e)) (refl, (refl, tt)) in
           let still = sends_still latest y_none p other in
           grind (arith, tells_none, passing_none)
@@ -208,7 +208,7 @@ module _ {T : Type 0} (scene : Scene T) (p : ℕ) (beside : Option (ℕ × ℕ))
         ≡ GoOn (receive_at slots queue p (pops.LoadsWrite s.submission.read) room) =
         ap (goes pops.LoadsRead room) (old_is pops.LoadsRead on_queue) in
         rw is (goes_on pops.LoadsRead (pops.LoadsWrite s.submission.read) room false on_queue refl
-        (omega arith, omega arith, λ less. absurd (omega arith)) refl (omega arith) (λ n. (omega arith, omega arith)))
+        (omega arith, omega arith, λ less. absurd (omega arith)) (omega arith) (λ n. (omega arith, omega arith)))
 
     -- the load of the write position leads on to the cell, or ends the receive where nothing waits
     loads_write : (read : ℕ) (room : OneWord)
@@ -244,7 +244,7 @@ module _ {T : Type 0} (scene : Scene T) (p : ℕ) (beside : Option (ℕ × ℕ))
             effects.Quiet refl (ap (goes (pops.LoadsWrite read) room) (old_is (pops.LoadsWrite read) on) ∙ (rw t refl))
             (ap (effect_at (pops.LoadsWrite read)) (old_is (pops.LoadsWrite read) on) ∙ (rw t refl))
             (goes_on (pops.LoadsWrite read) (pops.LoadsCell read) room false on refl
-            (omega arith, low, ahead) refl (omega arith) (λ n. (low, omega arith)))
+            (omega arith, low, ahead) (omega arith) (λ n. (low, omega arith)))
 
     -- the load of the cell leads on to the move of the read position, with the index in the receive's room
     loads_cell : (read : ℕ) (room : OneWord)
@@ -256,10 +256,10 @@ module _ {T : Type 0} (scene : Scene T) (p : ℕ) (beside : Option (ℕ × ℕ))
         let low = known.1 in
         let ahead = known.2 in
         let first = oldest queue s.submission holds.parts.submission (omega arith) in
-        let cell_within = submission.cell_on queue holds.parts.some holds.parts.few s.submission holds.parts.submission reached read in
+        let cell_within = submission.cell_on holds.parts reached read in
         let found : old (pops.LoadsCell read) ≡ get_or s.submission.cells (read % (queue + 1)) 0 =
         old_is (pops.LoadsCell read) cell_within
-        ∙ submission.cell_is queue holds.parts.some holds.parts.few s.submission holds.parts.submission reached read in
+        ∙ submission.cell_is holds.parts reached read in
         let is : goes (pops.LoadsCell read) room (old (pops.LoadsCell read))
         ≡ GoOn (receive_at slots queue p (pops.MovesRead read) (word_of (get_or s.submission.cells (read % (queue + 1)) 0))) =
         ap (goes (pops.LoadsCell read) room) found in
@@ -269,7 +269,7 @@ module _ {T : Type 0} (scene : Scene T) (p : ℕ) (beside : Option (ℕ × ℕ))
           low,
           ahead,
           λ same. (first.0, subst (λ r. s.submission.waiting ≡ get_or s.submission.cells (r % (queue + 1)) 0 ∷ first.0) (sym same) first.1),
-        ) refl (omega arith) (λ n. (low, omega arith)))
+        ) (omega arith) (λ n. (low, omega arith)))
 
     -- where a send has moved the read position since, the receive turns back to load the cell of the
     -- position that it found
@@ -287,8 +287,8 @@ module _ {T : Type 0} (scene : Scene T) (p : ℕ) (beside : Option (ℕ × ℕ))
         looks_by (pops.MovesRead read) room true (GoOn (receive_at slots queue p (pops.LoadsCell s.submission.read) room)) effects.Quiet
         (ap (goes_back (pops.MovesRead read)) found ∙ (rw moved refl)) (ap (goes (pops.MovesRead read) room) found ∙ (rw moved refl))
         (ap (effect_at (pops.MovesRead read)) found ∙ (rw moved refl)) (goes_on (pops.MovesRead read) (pops.LoadsCell s.submission.read) room true on_queue
-        (submission.stays_words queue holds.parts.some holds.parts.few s.submission holds.parts.submission reached read moved)
-        (omega arith, omega arith, ahead) refl (omega arith) (λ n. (omega arith, omega arith)))
+        (submission.stays_words holds.parts reached read moved)
+        (omega arith, omega arith, ahead) (omega arith) (λ n. (omega arith, omega arith)))
 
     -- at each stage at which the next step takes no index out, the step keeps the invariant
     pub looks : (stage : PopStage) (room : OneWord) → IsLook s stage → KnowsOverflowPop queue s.submission room stage

@@ -19,10 +19,17 @@ use Rattle.laws_loan.proofs.SenderInterference.{others_dead}
 use Rattle.laws_loan.proofs.QueueEvents.{items}
 use Rattle.laws_loan.proofs.Turns.{Shows, sends_now}
 
--- the reclaim is at the stage `stage`, whose step leaves the words `set'` of the indices and ends
--- with the number `count`
-module _ {T : Type 0} (scene : Scene T) (wrote : List (Event T)) (stage : ReclaimStage) (r : Reclaims scene wrote stage) (ask : Option Ask)
-    (set' : List ℕ) (count : ℕ) where
+-- the channel once a reclaim has ended with the number `count`, where the words of the indices are then `set'`
+abbrev pub s_end : {T : Type 0} → Channel T → List ℕ → ℕ → Channel T
+s_end s set' count = record s { set = set'; claims = s.claims; book = reclaimed s.book; events = s.events ++ end_of (Number count) ∷ [] }
+
+-- the reclaim is at the stage `stage`, whose step leaves the words `set'` of the indices and ends with the number `count` of indices that the
+-- reclaim has freed; nothing waits in either queue, and no index is sent
+module _ {T : Type 0} {scene : Scene T} {wrote : List (Event T)} {stage : ReclaimStage} (r : Reclaims scene wrote stage) {ask : Option Ask}
+    {set' : List ℕ} {count : ℕ} (keeps : KeepsSet scene.slots scene.queue scene.state scene.latest ask set' 0)
+    (drained : scene.state.submission.waiting ≡ []) (emptied : scene.state.completion.waiting ≡ [])
+    (none : (j : ℕ) → j < scene.slots → place_at scene.state.book.places j ≢ places.Sent) (counted : length (freed wrote) ≡ count)
+    (steps : scene.caller.steps + step_count ask ≤ 8 * (scene.slots + 1) + 5 * scene.slots) (small : scene.turns < 2 ^ 64 - 2) where
   open scene use {slots, queue, state as s, latest, turns, caller as x}
   open r use {holds, known}
 
@@ -32,36 +39,28 @@ module _ {T : Type 0} (scene : Scene T) (wrote : List (Event T)) (stage : Reclai
   abbrev end : Event T
   end = end_of answer
 
-  -- the channel once the reclaim has ended
-  abbrev pub s_end : Channel T
-  s_end = record s { set = set'; claims = s.claims; book = reclaimed s.book; events = s.events ++ end_of (Number count) ∷ [] }
+  -- each index is free or with the sender
+  home : (i : ℕ) → IsHome (spot_of i s.events)
+  home = grind (arith, all_home)
 
-  module _ (keeps : KeepsSet slots queue s latest ask set' 0) (drained : s.submission.waiting ≡ [])
-      (emptied : s.completion.waiting ≡ []) (none : (j : ℕ) → j < slots → place_at s.book.places j ≢ places.Sent)
-      (counted : length (freed wrote) ≡ count) (steps : x.steps + step_count ask ≤ 8 * (slots + 1) + 5 * slots)
-      (small : turns < 2 ^ 64 - 2) where
-    -- each index is free or with the sender
-    home : (i : ℕ) → IsHome (spot_of i s.events)
-    home = grind (arith, all_home)
+  -- after its end the span of the reclaim is shut, with what it has written
+  ended_then : span_of 0 (s.events ++ end ∷ []) ≡ Ended (starts.Loan calls.Reclaim) answer wrote
+  ended_then = grind (arith, span_of-own, fold)
 
-    -- after its end the span of the reclaim is shut, with what it has written
-    ended_then : span_of 0 (s.events ++ end ∷ []) ≡ Ended (starts.Loan calls.Reclaim) answer wrote
-    ended_then = grind (arith, span_of-own, fold)
+  -- the end of the reclaim keeps what holds between two turns
+  shows : Shows slots queue s (s_end s set' count) 0 (party_then scene calls.Reclaim ask false (Done answer)) latest turns (end ∷ [])
+  shows =
+      let placed =
+      placed_ended s.events answer home holds.parts.placed
+      (let most = holds.receivers.1 in omega arith) in
+      let passing : (i q : ℕ) → spot_of i (s.events ++ end ∷ []) ≡ Passing q → Carries i (span_of q (s.events ++ end ∷ [])) =
+      λ i q e. none_passing s.events answer home i q e in
+      grind (arith, ended_then, receiver_then, sends_now, append-nil, items, home)
 
-    -- the end of the reclaim keeps what holds between two turns
-    shows : Shows slots queue s s_end 0 (party_then scene calls.Reclaim ask false (Done answer)) latest turns (end ∷ [])
-    shows =
-        let placed =
-        placed_ended s.events answer home slots s.claims s.submission.waiting s.completion.waiting s.book holds.parts.placed
-        (let most = holds.receivers.1 in omega arith) in
-        let passing : (i q : ℕ) → spot_of i (s.events ++ end ∷ []) ≡ Passing q → Carries i (span_of q (s.events ++ end ∷ [])) =
-        λ i q e. none_passing s.events answer home i q e in
-        grind (arith, ended_then, receiver_then, sends_now, append-nil, items, home)
-
-    -- the end of the reclaim keeps the invariant
-    pub reclaim_ends : Steps scene 0 s_end (Open (starts.Loan calls.Reclaim) wrote)
-        calls.Reclaim ask false (Done answer) (end ∷ [])
-    reclaim_ends =
-        let words = keeps.words in
-        let others = others_dead slots queue s s_end known.dead refl (λ index push known. known) in
-        grind (arith, shows)
+  -- the end of the reclaim keeps the invariant
+  pub reclaim_ends : Steps scene 0 (s_end s set' count) (Open (starts.Loan calls.Reclaim) wrote)
+      calls.Reclaim ask false (Done answer) (end ∷ [])
+  reclaim_ends =
+      let words = keeps.words in
+      let others = others_dead slots queue s (s_end s set' count) known.dead refl (λ index push known. known) in
+      grind (arith, shows)

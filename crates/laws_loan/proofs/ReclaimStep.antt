@@ -22,7 +22,7 @@ use Rattle.laws_loan.proofs.Channel.{Channel, words_in}
 use Rattle.laws_loan.proofs.Drains.{drains_does}
 use Rattle.laws_loan.proofs.Empties.{empties_does}
 use Rattle.laws_loan.proofs.Frees.{frees_at, all_less, frees_for, leads, on_words, goes_steps, ends_steps, clears_steps}
-use Rattle.laws_loan.proofs.Invariant.{sends_at, counted_for, HoldsNow}
+use Rattle.laws_loan.proofs.Invariant.{HoldsNow}
 use Rattle.laws_loan.proofs.Knows.{wrote_in, StageAt}
 use Rattle.laws_loan.proofs.Parts.{set_old}
 use Rattle.laws_loan.proofs.ReclaimGoes.{asked, old, goes, effect_at, StageKeeps}
@@ -86,7 +86,7 @@ module _ {T : Type 0} (m : Underway T) where
     clears : FreesThere releases.ClearsFlag → StageIsSound (Releases number index releases.ClearsFlag)
     clears there =
         let few = there.steps in
-        let clear = clears_steps scene number index wrote (stands (Releases number index releases.ClearsFlag) there) (omega arith) in
+        let clear = clears_steps (stands (Releases number index releases.ClearsFlag) there) (omega arith) in
         from_step m calls.Reclaim (ask_of (back_asks slots index releases.ClearsFlag))
         (GoOn (frees_at slots queue number index releases.LoadsHead)) (effects.Frees index) _ wrote
         (from (Releases number index releases.ClearsFlag) there) (clear, refl)
@@ -124,7 +124,7 @@ module _ {T : Type 0} (m : Underway T) where
           → StepIsSound (GoOn (frees_at slots queue number' index' stage'))
       goes_on number' index' stage' good known more =
           from_step m calls.Reclaim ask (GoOn (frees_at slots queue number' index' stage')) effects.Quiet _ wrote was_open (
-            goes_steps scene number index wrote stage heavy r there.steps number' index' stage' good
+            goes_steps r heavy there.steps number' index' stage' good
                 known more,
             refl,
           )
@@ -136,7 +136,7 @@ module _ {T : Type 0} (m : Underway T) where
       next good last None none =
           let few = there.steps in
           from_step m calls.Reclaim ask (Done (Number (number + 1))) effects.Quiet _ wrote was_open (
-            ends_steps scene number index wrote stage heavy r there.steps good
+            ends_steps r heavy there.steps good
                 (λ j below. ⊎_elim (λ (low : j < index + 1). before j low) (λ (high : index + 1 ≤ j). none j high below) (cases_lt j (index + 1)))
                 (omega arith) small,
             refl,
@@ -197,9 +197,9 @@ module _ {T : Type 0} (m : Underway T) where
       later : StepIsSound (reclaimed_after T (call stage) s.book.places number index (back_takes slots stage (old_of (words_in s) ask)))
       later =
           let value : old_of (words_in s) ask ≡ old_of s.set ask =
-          set_old slots queue s (counted_for (sends_at t.world.latest)) now.parts (back_asks slots index stage)
-          (on_words scene number index wrote stage r) in
-          rw value (leads_on (back_takes slots stage (old_of s.set ask)) (leads scene number index wrote stage heavy r there.steps))
+          set_old now.parts (back_asks slots index stage)
+          (on_words r) in
+          rw value (leads_on (back_takes slots stage (old_of s.set ask)) (leads r heavy there.steps))
 
     -- ---- any step
 

@@ -49,7 +49,8 @@ goes_known = grind (arith, append-nil)
 
 -- ---- the reclaim takes an index out of a queue, in which only its own call then has it in passing
 
-module _ {T : Type 0} (slots queue : ℕ) (s : Channel T) (wrote : List (Event T)) (stage : ReclaimStage)
+-- the reclaim writes the event `e`, which moves the index from a spot away from the sender into passing in the sender's call
+module _ {T : Type 0} {slots queue : ℕ} {s : Channel T} {wrote : List (Event T)} {stage : ReclaimStage}
     (at : ReclaimAt slots queue s wrote stage) (keeps : KeepsBook s.book s.events) (e : Event T) (index : ℕ) (spot : Spot)
     (move_is : move_of e ≡ Some (record { index = index; from = spot; to = Passing 0 })) (was : spot_of index s.events ≡ spot)
     (away : IsAway spot) where
@@ -95,7 +96,7 @@ module _ {T : Type 0} (events : List (Event T)) (answer : Answer T) where
     none_passing = grind (arith, home_stays, spot_stays)
 
     -- each index is where the book and the events say, after the end of a reclaim
-    pub placed_ended : (slots : ℕ) (claims : List (Option ℕ)) (sent back : List ℕ) (book : Book)
+    pub placed_ended : {slots : ℕ} {claims : List (Option ℕ)} {sent back : List ℕ} {book : Book}
         → Placed slots claims sent back book events → receiver_of events + 1 < 2 ^ 64
         → Placed slots claims sent back (reclaimed book) (events ++ end_of answer ∷ [])
     placed_ended = grind (arith, placed_on, receiver_then, fold-append, false, inl, home_by, lists_stay)

@@ -11,7 +11,7 @@ use Rattle.steps.specs.declared.indices.unique.ReleaseStage.TheVariants as relea
 use Rattle.model.specs.declared.event.Start.TheVariants as starts
 use Rattle.model.specs.declared.families.loan.effects.Effect.TheVariants as effects
 use Rattle.laws_loan.proofs.Channel.{Channel, words_in}
-use Rattle.laws_loan.proofs.Invariant.{sends_at, counted_for, HoldsNow}
+use Rattle.laws_loan.proofs.Invariant.{HoldsNow}
 use Rattle.laws_loan.proofs.Knows.{GivesAt}
 use Rattle.laws_loan.proofs.Parts.{set_old}
 use Rattle.laws_loan.proofs.Releasing.{Releasing, Stands, embedded, steps_set, clears_steps, was_open, leads, goes_steps, ends_steps}
@@ -86,21 +86,21 @@ module _ {T : Type 0} (m : Underway T) (index : ℕ) (r : Releasing T m.slots m.
           → StepIsSound stage effects.Quiet (embedded r.at r.answer release)
       leads_on (GoOn release) release_leads =
           from_step m r.start (asked stage) (GoOn (r.at release.stage)) effects.Quiet _
-          wrote_now (was_open scene index r below holds_before stage heavy there straight) (
-            goes_steps scene index r below holds_before stage heavy there straight release.stage release_leads.0 release_leads.1 release_leads.2,
+          wrote_now (was_open below holds_before heavy there straight) (
+            goes_steps below holds_before heavy there straight release.stage release_leads.0 release_leads.1 release_leads.2,
             r.so.book None s.book,
           )
       leads_on (Done state) release_leads =
           from_step m r.start (asked stage) (Done r.answer) effects.Quiet
-          _ wrote_now (was_open scene index r below holds_before stage heavy there straight) (
-            ends_steps scene index r below holds_before stage heavy there straight release_leads.0 release_leads.1,
+          _ wrote_now (was_open below holds_before heavy there straight) (
+            ends_steps below holds_before heavy there straight release_leads.0 release_leads.1,
             r.so.book (Some r.answer) s.book,
           )
 
       -- each later step of the release leaves a machine with the invariant
       later : StepIsSound stage effects.Quiet (embedded r.at r.answer (back_takes slots stage (old_of s.set (asked stage))))
       later =
-          leads_on (back_takes slots stage (old_of s.set (asked stage))) (leads scene index r below holds_before stage heavy there straight)
+          leads_on (back_takes slots stage (old_of s.set (asked stage))) (leads below holds_before heavy there straight)
 
     -- each step of the release leaves a machine with the invariant, for the words of the indices
     goes : (stage : ReleaseStage) → StandsAt stage → StageIsSound stage (old_of s.set (asked stage))
@@ -112,5 +112,5 @@ module _ {T : Type 0} (m : Underway T) (index : ℕ) (r : Releasing T m.slots m.
       let below = gives_below slots queue s index stage there.gives in
       let on = (steps_set scene index r below holds_before stage there.found there.gives).on in
       let value : old_of (words_in s) (asked stage) ≡ old_of s.set (asked stage) =
-      set_old slots queue s (counted_for (sends_at t.world.latest)) holds_before.parts (back_asks slots index stage) on in
+      set_old holds_before.parts (back_asks slots index stage) on in
       subst (StageIsSound stage) (sym value) (goes below stage there)

@@ -14,14 +14,14 @@ use Rattle.model.specs.declared.event.Start.TheVariants as starts
 use Rattle.model.specs.declared.families.Flight.TheVariants as flights
 use Rattle.laws_indices.proofs.Core as indices
 use Rattle.laws_loan.proofs.Channel.{Channel, words_in}
-use Rattle.laws_loan.proofs.Invariant.{sends_at, counted_for, hung, reclaims_in, Carries}
+use Rattle.laws_loan.proofs.Invariant.{sends_at, hung, reclaims_in, Carries}
 use Rattle.laws_loan.proofs.Knows.{counts, number_of, GivesAt, At, FlightKnows}
 use Rattle.laws_loan.proofs.OneMove.{OneMove, carried, passes_on, same_receiver, span_after}
 use Rattle.laws_loan.proofs.Parts.{set_words}
 use Rattle.laws_loan.proofs.Rests as rests
 use Rattle.laws_loan.proofs.Scene.{Scene, HoldsIn}
 use Rattle.laws_loan.proofs.Sender.{party_then, Steps}
-use Rattle.laws_loan.proofs.SetSteps.{ReleaseLeads, ReleaseStep, claims_then, release_step}
+use Rattle.laws_loan.proofs.SetSteps.{ReleaseLeads, ReleaseStep, claims_for, release_step}
 use Rattle.laws_loan.proofs.Spots.{passing_same, free_passes}
 use Rattle.laws_loan.proofs.Table.{frees_it}
 use Rattle.laws_loan.proofs.SenderInterference.{others_beside}
@@ -110,7 +110,7 @@ module _ {T : Type 0} (scene : Scene T) (index : ℕ) (r : Releasing T scene.slo
         → words_after (words_in s) (ask_of (back_asks slots index stage))
         ≡ words_in (record s { set = words_after s.set (ask_of (back_asks slots index stage)) })
     whole_words stage here gives =
-        set_words slots queue s (counted_for (sends_at latest)) holds.parts (back_asks slots index stage) (steps_set stage here gives).on
+        set_words holds.parts (back_asks slots index stage) (steps_set stage here gives).on
 
     -- ---- the clear of the flag
 
@@ -153,7 +153,7 @@ module _ {T : Type 0} (scene : Scene T) (index : ℕ) (r : Releasing T scene.slo
 
       -- after the free the span is open with it written
       open_then : span_of 0 (s.events ++ freed_es) ≡ Open (starts.Loan r.start) (r.before ++ freed_es)
-      open_then = span_after 0 index s.events freed_es (Passing 0) Free one_move (Open (starts.Loan r.start) r.before) is_from
+      open_then = span_after one_move is_from
 
       -- the clear of the flag keeps what holds between two turns, with the event that the index is freed
       shows_freed : Shows slots queue s s_freed 0 y_freed latest turns freed_es
@@ -162,11 +162,10 @@ module _ {T : Type 0} (scene : Scene T) (index : ℕ) (r : Releasing T scene.slo
           let counted = r.so.counted releases.LoadsHead in
           let calm = r.so.calm s.submission.read releases.LoadsHead in
           let calm_before = r.so.calm s.submission.read releases.ClearsFlag in
-          let placed =
-          frees_it slots s.claims s.submission.waiting s.completion.waiting s.book s.events holds.parts.placed index below (Passing 0) gives.1 refl refl in
+          let placed = frees_it holds.parts.placed index below (Passing 0) gives.1 refl refl in
           let reclaiming = r.so.other r.before ∙ sym (r.so.other (r.before ++ freed_es)) in
           let passing =
-          carried 0 index s.events freed_es (Passing 0) Free one_move (Open (starts.Loan r.start) r.before) is_from holds.passing
+          carried one_move is_from holds.passing
           (λ i ne held. absurd (ne (sym (r.so.carries i held)))) (λ q e. absurd (free_passes q e)) in
           grind (arith, open_then, is_from, sends_now, append-nil, items, same_receiver, one_move)
 
@@ -183,7 +182,7 @@ module _ {T : Type 0} (scene : Scene T) (index : ℕ) (r : Releasing T scene.slo
           (x.backs + 0) releases.LoadsHead (omega arith) in
           let others =
           others_beside slots queue s s_freed refl refl (λ room stage known. known) (λ i stage known. known)
-          (λ q ne. passes_on 0 index s.events freed_es (Passing 0) Free one_move q (λ e. ne (sym (passing_same 0 q e)))) in
+          (λ q ne. passes_on one_move q (λ e. ne (sym (passing_same 0 q e)))) in
           grind (arith, shows_freed, open_then)
 
     -- ---- every later step
@@ -196,80 +195,96 @@ module _ {T : Type 0} (scene : Scene T) (index : ℕ) (r : Releasing T scene.slo
     wrote_for : (stage : ReleaseStage) → release_counts stage ≡ 1 → release_wrote {T = T} 0 index stage ≡ Freed 0 index ∷ []
     wrote_for = grind arith
 
-    -- a stage at which the release still counts leaves the claims
-    claims_for : (stage : ReleaseStage) → release_counts stage ≡ 1 → claims_then index stage s.claims ≡ s.claims
-    claims_for = grind arith
+-- the call is at a later stage of its release
+module _ {T : Type 0} {scene : Scene T} {index : ℕ} {r : Releasing T scene.slots scene.queue index} {stage : ReleaseStage} (below : index < scene.slots)
+    (holds : HoldsIn scene) (heavy : release_counts stage ≡ 1) (there : Stands scene index r stage) (straight : scene.caller.backs ≡ 0) where
+  open scene use {slots, queue, state as s, latest, turns, changes, since, caller as x}
+  open there use {found as here, gives}
 
-    -- the call is at a later stage of its release
-    module _ (stage : ReleaseStage) (heavy : release_counts stage ≡ 1) (there : Stands stage) (straight : x.backs ≡ 0) where
-      open there use {found as here, gives}
+  -- the operation of the release's step
+  abbrev ask : Option Ask
+  ask = ask_of (back_asks slots index stage)
 
-      -- the operation of the release's step
-      abbrev ask : Option Ask
-      ask = ask_of (back_asks slots index stage)
+  -- what the call has written, with the free of the index
+  abbrev wrote_now : List (Event T)
+  wrote_now = r.before ++ Freed 0 index ∷ []
 
-      -- what the call has written, with the free of the index
-      abbrev wrote_now : List (Event T)
-      wrote_now = r.before ++ Freed 0 index ∷ []
+  -- the words of the set after the step
+  abbrev words_then : List ℕ
+  words_then = words_after s.set ask
 
-      -- the words of the set after the step
-      abbrev words_then : List ℕ
-      words_then = words_after s.set ask
+  -- the span of the call is open before the step, with what it has written
+  pub was_open : span_of 0 s.events ≡ Open (starts.Loan r.start) wrote_now
+  was_open = grind (arith, wrote_for)
 
-      -- the span of the call is open before the step, with what it has written
-      pub was_open : span_of 0 s.events ≡ Open (starts.Loan r.start) wrote_now
-      was_open = grind (arith, wrote_for)
+  -- what this step of the release does to the set of indices
+  step : ReleaseStep slots index below s.set s.claims stage
+  step = steps_set scene index r below holds stage here gives
 
-      -- what this step of the release does to the set of indices
-      step : ReleaseStep slots index below s.set s.claims stage
-      step = steps_set stage here gives
+  -- the release goes on or ends as `SetSteps` says
+  pub leads : ReleaseLeads slots stage words_then s.claims (back_takes slots stage (old_of s.set ask))
+  leads = rw (← claims_for index s.claims stage heavy) step.leads
 
-      -- the release goes on or ends as `SetSteps` says
-      pub leads : ReleaseLeads slots stage words_then s.claims (back_takes slots stage (old_of s.set ask))
-      leads = rw (← claims_for stage heavy) step.leads
+  -- no send waits at the read position
+  calm_now : hung s.submission.read (sends_at latest) ≡ None
+  calm_now = ap (hung s.submission.read) here ∙ r.so.calm s.submission.read stage
 
-      -- no send waits at the read position
-      calm_now : hung s.submission.read (sends_at latest) ≡ None
-      calm_now = ap (hung s.submission.read) here ∙ r.so.calm s.submission.read stage
+  -- the step of the release, with which the words of the indices change
+  abbrev set_step : rests.SetStep T
+  set_step =
+      record {
+        scene = scene;
+        holds = holds;
+        straight = straight;
+        start = r.start;
+        wrote = wrote_now;
+        from = was_open;
+        ask = ask;
+        set_then = words_then;
+      }
 
-      -- ---- the call goes on
+  -- ---- the call goes on
 
-      module _ (stage' : ReleaseStage) (good : indices.Good slots words_then s.claims 1)
-          (heavy' : release_counts stage' ≡ 1) (more : release_number stage 0 + 1 ≤ release_number stage' 0) where
-        -- the channel after a step with which the release goes on
-        abbrev s_on : Channel T
-        s_on = record s { set = words_then; claims = s.claims; book = s.book; events = s.events ++ [] }
+  module _ (stage' : ReleaseStage) (good : indices.Good slots words_then s.claims 1)
+      (heavy' : release_counts stage' ≡ 1) (more : release_number stage 0 + 1 ≤ release_number stage' 0) where
+    -- the channel after a step with which the release goes on
+    abbrev s_on : Channel T
+    s_on = record s { set = words_then; claims = s.claims; book = s.book; events = s.events ++ [] }
 
-        -- a later step of the release that goes on keeps the invariant, and writes nothing
-        pub goes_steps : Steps scene 0 s_on (Open (starts.Loan r.start) wrote_now) r.start ask false (GoOn (r.at stage')) []
-        goes_steps =
-            let at_then : At slots queue s_on 0 wrote_now r.start (r.at stage') =
-            rw (← wrote_for stage' heavy') (r.so.stands s_on stage' (gives_for s_on stage' heavy'))
-            in
-            rests.goes_on scene holds straight r.start wrote_now was_open ask words_then (r.at stage') (record {
-              words = whole_words stage here gives;
-              good = subst (λ n. indices.Good slots words_then s.claims n) (sym heavy' ∙ sym (r.so.counted stage')) good;
-              unlocked = step.unlocked;
-              calm = calm_now;
-            })
-            (r.so.calm s.submission.read stage') (rw (r.so.number wrote_now stage' (x.backs + 0)) (let one = one_step slots index stage in omega arith))
-            at_then (r.so.knows s_on (since + change_of (words_in s) ask) (changes + change_of (words_in s) ask) (x.backs + 0) stage' (omega arith))
+    -- a later step of the release that goes on keeps the invariant, and writes nothing
+    pub goes_steps : Steps scene 0 s_on (Open (starts.Loan r.start) wrote_now) r.start ask false (GoOn (r.at stage')) []
+    goes_steps =
+        let at_then : At slots queue s_on 0 wrote_now r.start (r.at stage') =
+        rw (← wrote_for scene index r below holds stage' heavy') (r.so.stands s_on stage' (gives_for scene index r below holds s_on stage' heavy'))
+        in
+        rests.goes_on set_step (r.at stage') (record {
+          words = whole_words scene index r below holds stage here gives;
+          good = subst (λ n. indices.Good slots words_then s.claims n) (sym heavy' ∙ sym (r.so.counted stage')) good;
+          unlocked = step.unlocked;
+          calm = calm_now;
+        })
+        (r.so.calm s.submission.read stage') (rw (r.so.number wrote_now stage' (x.backs + 0)) (let one = one_step slots index stage in omega arith))
+        at_then (r.so.knows s_on (since + change_of (words_in s) ask) (changes + change_of (words_in s) ask) (x.backs + 0) stage' (omega arith))
 
-      -- ---- the call ends
+  -- ---- the call ends
 
-      module _ (good : indices.Good slots words_then s.claims 0) (more : release_number stage 0 + 1 ≤ 5) where
-        -- the channel after the end of the release
-        abbrev s_end : Channel T
-        s_end = record s { set = words_then; claims = s.claims; book = s.book; events = s.events ++ Finished 0 (starts.Loan r.start) r.answer ∷ [] }
+  module _ (good : indices.Good slots words_then s.claims 0) (more : release_number stage 0 + 1 ≤ 5) where
+    -- the channel after the end of the release
+    abbrev s_end : Channel T
+    s_end = record s { set = words_then; claims = s.claims; book = s.book; events = s.events ++ Finished 0 (starts.Loan r.start) r.answer ∷ [] }
 
-        -- the last step of the release ends the call with its answer, and keeps the invariant
-        pub ends_steps : Steps scene 0 s_end
-            (Open (starts.Loan r.start) wrote_now) r.start ask false (Done r.answer) (Finished 0 (starts.Loan r.start) r.answer ∷ [])
-        ends_steps =
-            let most = r.so.most (x.backs + 0) in
-            let one = one_step slots index stage in
-            rests.ends scene holds straight r.start wrote_now was_open ask words_then
-            r.answer (record { words = whole_words stage here gives; good = good; unlocked = step.unlocked; calm = calm_now })
-            (record { moves = r.so.still; receiver = r.so.receiver; dead = λ q b. refl })
-            (r.so.reclaims (reclaims_in (Open (starts.Loan r.start) wrote_now)) ∙ r.so.other wrote_now) (r.so.told s.events) r.so.freed
-            r.so.done (omega arith)
+    -- the last step of the release ends the call with its answer, and keeps the invariant
+    pub ends_steps : Steps scene 0 s_end
+        (Open (starts.Loan r.start) wrote_now) r.start ask false (Done r.answer) (Finished 0 (starts.Loan r.start) r.answer ∷ [])
+    ends_steps =
+        let most = r.so.most (x.backs + 0) in
+        let one = one_step slots index stage in
+        rests.ends set_step r.answer (record {
+          words = whole_words scene index r below holds stage here gives;
+          good = good;
+          unlocked = step.unlocked;
+          calm = calm_now;
+        })
+        (record { moves = r.so.still; receiver = r.so.receiver; dead = λ q b. refl })
+        (r.so.reclaims (reclaims_in (Open (starts.Loan r.start) wrote_now)) ∙ r.so.other wrote_now) (r.so.told s.events) r.so.freed
+        r.so.done (omega arith)

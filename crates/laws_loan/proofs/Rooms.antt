@@ -11,8 +11,9 @@ use Rattle.laws_loan.proofs.Spots.{is_waiting, is_returning, waits_there, return
 pub index_is : (i slots : ℕ) → i < slots → slots < 2 ^ 32 → index_in i ≡ i
 index_is i slots below few = let low : i < 2 ^ 32 = omega arith in omega arith
 
-module _ {T : Type 0} (slots : ℕ) (claims : List (Option ℕ)) (sent back : List ℕ) (book : Book)
-    (events : List (Event T)) (placed : Placed slots claims sent back book events) where
+-- each index is in its place, so an index that waits in a queue is one of the slots
+module _ {T : Type 0} {slots : ℕ} {claims : List (Option ℕ)} {sent back : List ℕ} {book : Book}
+    {events : List (Event T)} (placed : Placed slots claims sent back book events) where
   -- no more indices wait in the submission queue than there are slots
   pub waits_few : length sent ≤ slots
   waits_few = lists_few is_waiting sent events slots placed.waits (λ i beyond. ap is_waiting (placed.past i beyond))

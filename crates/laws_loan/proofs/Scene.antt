@@ -21,6 +21,13 @@ pub record Scene (T : Type 0) : Type 0 where
 abbrev pub HoldsIn : {T : Type 0} → Scene T → Type 0
 HoldsIn scene = HoldsNow scene.slots scene.queue scene.state scene.latest scene.state.events scene.turns
 
+-- the sender has a call under way that has not turned back
+pub record SenderCalls {T : Type 0} (scene : Scene T) : Type 0 where
+  -- the invariant before the step, with positions far from their ends
+  pub holds : HoldsIn scene
+  pub small : scene.turns < 2 ^ 64 - 2
+  pub straight : scene.caller.backs ≡ 0
+
 -- the receiver `p`, which is alive, has a call under way that has written nothing
 pub record ReceiverCalls {T : Type 0} (scene : Scene T) (p : ℕ) (start : LoanStart) : Type 0 where
   -- the invariant before the step, with positions far from their ends

@@ -30,7 +30,7 @@ use Rattle.laws_loan.proofs.Releases.{send_frees_at}
 use Rattle.laws_loan.proofs.Rests.{keeps_all}
 use Rattle.laws_loan.proofs.Rests as rests
 use Rattle.laws_loan.proofs.Rooms.{sent_below, index_is}
-use Rattle.laws_loan.proofs.Scene.{Scene, HoldsIn}
+use Rattle.laws_loan.proofs.Scene.{Scene, SenderCalls}
 use Rattle.laws_loan.proofs.Sender.{party_then}
 use Rattle.laws_loan.proofs.Sends.{pushes_at, asked, old, queued, goes, effect_at, StepTo, StageKeeps, does_by, SendIsAt, reached, long, old_is, words_are}
 use Rattle.laws_loan.proofs.Sends.{change_is}
@@ -44,7 +44,8 @@ use Rattle.laws_loan.proofs.QueueEvents.{items, is_reclaiming, Tells}
 use Rattle.laws_loan.proofs.Turns.{Shows, sends_now}
 
 -- the sender has a send of the index under way; `holds` is the invariant before the step
-module _ {T : Type 0} (scene : Scene T) (index : ℕ) (holds : HoldsIn scene) (small : scene.turns < 2 ^ 64 - 2) (straight : scene.caller.backs ≡ 0) where
+module _ {T : Type 0} (scene : Scene T) (index : ℕ) (m : SenderCalls scene) where
+  open m use {holds, straight}
   open scene use {slots, queue, state as s, latest, turns, caller as x}
 
   abbrev call : Start T
@@ -82,11 +83,11 @@ module _ {T : Type 0} (scene : Scene T) (index : ℕ) (holds : HoldsIn scene) (s
 
   -- the write position is below its last value
   low_write : s.submission.write < 2 ^ 64 - 2
-  low_write = reached scene index holds small straight
+  low_write = reached scene index m
 
   -- the submission queue has five words and one for each index that may wait
   wide : length (queued scene index) ≡ 5 + queue
-  wide = long scene index holds small straight
+  wide = long scene index m
 
   -- the index in the cell of the position `read`
   abbrev oldest_at : ℕ → ℕ
@@ -95,9 +96,23 @@ module _ {T : Type 0} (scene : Scene T) (index : ℕ) (holds : HoldsIn scene) (s
   -- the words of the whole have this index in that cell
   sent_is : (read : ℕ) → sent_at (submission_word slots) queue (words_in s) read ≡ oldest_at read
   sent_is read =
-      submission_old slots queue s (counted_for (sends_at latest)) holds.parts (load (cell_word queue read))
-      (submission.cell_on queue holds.parts.some holds.parts.few s.submission holds.parts.submission low_write read)
-      ∙ submission.cell_is queue holds.parts.some holds.parts.few s.submission holds.parts.submission low_write read
+      submission_old holds.parts (load (cell_word queue read))
+      (submission.cell_on holds.parts low_write read)
+      ∙ submission.cell_is holds.parts low_write read
+
+  -- the step at this stage of a send that has written `wrote`, with which the words of the indices stay
+  abbrev set_step : PushStage → (wrote : List (Event T)) → span_of 0 s.events ≡ Open call wrote → rests.SetStep T
+  set_step stage wrote from =
+      record {
+        scene = scene;
+        holds = holds;
+        straight = straight;
+        start = calls.Send index;
+        wrote = wrote;
+        from = from;
+        ask = asks stage;
+        set_then = s.set;
+      }
 
   -- once a send has published its index, it has none in passing until it takes one out
   none_carried : {A : Type 0} (i : ℕ) (wrote : List (Event T)) → handed_out wrote ≡ [] → Carries i (Open call (publishes ∷ wrote)) → A
@@ -152,7 +167,7 @@ module _ {T : Type 0} (scene : Scene T) (index : ℕ) (holds : HoldsIn scene) (s
 
     -- the oldest index is one of the channel
     below : u < slots
-    below = sent_below slots s.claims s.submission.waiting s.completion.waiting s.book s.events holds.parts.placed u rest first
+    below = sent_below holds.parts.placed u rest first
 
     -- besides the newest index as many wait as the capacity
     full : length others ≡ queue
@@ -176,14 +191,14 @@ module _ {T : Type 0} (scene : Scene T) (index : ℕ) (holds : HoldsIn scene) (s
 
     -- after the step the span is open with what the send has written
     open_then : span_of 0 (s.events ++ told) ≡ Open call (publishes ∷ told)
-    open_then = span_after 0 u s.events told Waiting (Passing 0) one_move (Open call (publishes ∷ [])) from
+    open_then = span_after one_move from
 
     -- each index is where the book and the events say, once the oldest one is in passing in the send
     placed_out : Placed slots s.claims rest s.completion.waiting s.book (s.events ++ told)
     placed_out =
         subst (Placed slots s.claims rest s.completion.waiting s.book) whole
-        (placed_still slots s.claims rest s.completion.waiting s.book (s.events ++ hands ∷ []) (acts ∷ []) acts_still
-        (hands_it_out slots s.claims s.submission.waiting s.completion.waiting s.book s.events holds.parts.placed u below 0 rest first (inl refl)))
+        (placed_still (acts ∷ []) acts_still
+        (hands_it_out holds.parts.placed u below 0 rest first (inl refl)))
 
     -- no reclaim is under way
     quiet : is_reclaiming s.events ≡ false
@@ -201,9 +216,9 @@ module _ {T : Type 0} (scene : Scene T) (index : ℕ) (holds : HoldsIn scene) (s
     shows_out =
         let write = holds.parts.submission.write in
         let shorter : length s.submission.waiting ≡ suc (length rest) = ap length first in
-        let good = submission.take_good queue holds.parts.some holds.parts.few s.submission holds.parts.submission low_write u rest first in
+        let good = submission.take_good holds.parts low_write u rest first in
         let passing =
-        carried 0 u s.events told Waiting (Passing 0) one_move (Open call (publishes ∷ [])) from holds.passing
+        carried one_move from holds.passing
         (λ i ne. none_carried i [] refl) (λ q e. (sym (passing_same 0 q e), inr (refl, refl))) in
         grind (arith, open_then, sends_now, same_receiver, one_move, placed_out, tells_out, quiet, below, was_waiting)
 
@@ -212,25 +227,25 @@ module _ {T : Type 0} (scene : Scene T) (index : ℕ) (holds : HoldsIn scene) (s
     takes_out =
         let some = holds.parts.some in
         let change : change_of (words_in s) (asks moves) ≡ 1 =
-        change_is scene index holds small straight moves on
-        ∙ submission.take_changes queue holds.parts.some holds.parts.few s.submission holds.parts.submission low_write u rest first in
+        change_is scene index m moves on
+        ∙ submission.take_changes holds.parts low_write u rest first in
         let words =
-        words_are scene index holds small straight moves k on
-        (submission.take_words queue holds.parts.some holds.parts.few s.submission holds.parts.submission low_write u rest first) in
-        let there = now_there 0 u s.events told Waiting (Passing 0) one_move in
+        words_are scene index m moves k on
+        (submission.take_words holds.parts low_write u rest first) in
+        let there = now_there one_move in
         let others =
         others_beside slots queue s s_out refl refl (take_keeps_pop queue s.submission rest far) (λ i stage known. known)
-        (λ q ne. passes_on 0 u s.events told Waiting (Passing 0) one_move q (waiting_passes q)) in
+        (λ q ne. passes_on one_move q (waiting_passes q)) in
         grind (arith, shows_out, open_then, below)
 
     -- the step in which the send moves the read position keeps the invariant
     moves_read : StageKeepsAt moves
     moves_read =
         let is_same : (s.submission.read == s.submission.read) ≡ true = grind (arith, nat_tests) in
-        let found : value moves ≡ s.submission.read = old_is scene index holds small straight moves on in
+        let found : value moves ≡ s.submission.read = old_is scene index m moves on in
         let place = sent_is s.submission.read in
-        does_by scene index s_out moves (publishes ∷ []) (GoOn (pushes_at slots queue loads index)) (effects.TakesOut index u) (rw is_same refl)
-        (ap (then_of moves) found ∙ (rw is_same refl)) (ap (effect_of moves) found ∙ (rw (is_same, place) refl)) takes_out
+        does_by scene index (effects.TakesOut index u) takes_out (rw is_same refl)
+        (ap (then_of moves) found ∙ (rw is_same refl)) (ap (effect_of moves) found ∙ (rw (is_same, place) refl))
 
   -- ---- a receive has moved the read position before: the send has acted, and ends
 
@@ -264,9 +279,9 @@ module _ {T : Type 0} (scene : Scene T) (index : ℕ) (holds : HoldsIn scene) (s
     -- the exchange fails, and the send, which has acted before, ends with no index
     finds_room : KeepsTo s_end (publishes ∷ acted ∷ []) (late read) (Done answers.PoppedNone) effects.Quiet
     finds_room = (
-      rests.ends scene holds straight (calls.Send index) (publishes ∷ acted ∷ []) from (asks (late read)) s.set answers.PoppedNone
-          (keeps_all slots queue s latest (asks (late read)) turns holds (words_are scene index holds small straight (late read) s.submission on_late
-          (submission.stays_words queue holds.parts.some holds.parts.few s.submission holds.parts.submission low_write read moved))
+      rests.ends (set_step (late read) (publishes ∷ acted ∷ []) from) answers.PoppedNone
+          (keeps_all holds (words_are scene index m (late read) s.submission on_late
+          (submission.stays_words holds.parts low_write read moved))
           (ap counted_for here) calm)
           (record { moves = refl; receiver = λ r. refl; dead = λ q b. refl }) refl tt
           (λ i carried. none_carried i (acted ∷ []) refl carried)
@@ -278,10 +293,9 @@ module _ {T : Type 0} (scene : Scene T) (index : ℕ) (holds : HoldsIn scene) (s
     -- the step in which the send finds the read position moved keeps the invariant
     moves_late : StageKeepsAt (late read)
     moves_late =
-        let found : value (late read) ≡ s.submission.read = old_is scene index holds small straight (late read) on_late in
-        does_by scene index s_end (late read) (publishes ∷ acted ∷ [])
-        (Done answers.PoppedNone) effects.Quiet (rw apart refl) (ap (then_of (late read)) found ∙ (rw moved refl))
-        (ap (effect_of (late read)) found ∙ (rw moved refl)) finds_room
+        let found : value (late read) ≡ s.submission.read = old_is scene index m (late read) on_late in
+        does_by scene index effects.Quiet finds_room (rw apart refl) (ap (then_of (late read)) found ∙ (rw moved refl))
+        (ap (effect_of (late read)) found ∙ (rw moved refl))
 
   -- ---- the send loads the index that it has taken out
 
@@ -310,8 +324,8 @@ module _ {T : Type 0} (scene : Scene T) (index : ℕ) (holds : HoldsIn scene) (s
     -- the load of the cell finds that index, and leads the send on to release it
     has_it : KeepsTo s_free (wrote_out read) stage (GoOn frees) effects.Quiet
     has_it = (
-      rests.goes_on scene holds straight (calls.Send index) (wrote_out read) from (asks stage) s.set frees
-          (keeps_all slots queue s latest (asks stage) turns holds (words_are scene index holds small straight stage s.submission on_cell
+      rests.goes_on (set_step stage (wrote_out read) from) frees
+          (keeps_all holds (words_are scene index m stage s.submission on_cell
           (set-get_or (queued scene index) (cell_word queue read) 0)) (ap counted_for here) (ap (hung s.submission.read) here))
           refl (omega arith)
           (refl, refl, refl, refl, refl, (passes.0, ap (spot_of (oldest_at read)) (append-nil s.events) ∙ passes.1))
@@ -325,13 +339,12 @@ module _ {T : Type 0} (scene : Scene T) (index : ℕ) (holds : HoldsIn scene) (s
         let few = holds.parts.set.few in
         let low : slots < 2 ^ 32 = omega arith in
         let found : value stage ≡ oldest_at read =
-        old_is scene index holds small straight stage on_cell
-        ∙ submission.cell_is queue holds.parts.some holds.parts.few s.submission holds.parts.submission low_write read in
-        does_by scene index s_free stage (wrote_out read) (GoOn frees) effects.Quiet
-        refl
+        old_is scene index m stage on_cell
+        ∙ submission.cell_is holds.parts low_write read in
+        does_by scene index effects.Quiet has_it refl
         (ap (then_of stage) found
         ∙ ap (λ i. GoOn (send_frees_at slots queue index i releases.ClearsFlag)) (index_is (oldest_at read) slots passes.0 low))
-        refl has_it
+        refl
 
   -- ---- every step of the push
 
@@ -343,17 +356,17 @@ module _ {T : Type 0} (scene : Scene T) (index : ℕ) (holds : HoldsIn scene) (s
       → x.steps ≤ overflow_push_number now → StageKeepsAt now
   does pushes.HandsBack here from known stands steps = absurd stands
   does pushes.LoadsWrite here from known stands steps =
-      loads_write scene index holds small straight stands from here steps
+      loads_write scene index m stands from here steps
   does (pushes.LoadsRead write) here from known stands steps =
-      subst StageKeepsAt (ap (λ n. pushes.LoadsRead n) (sym known.1)) (loads_read scene index holds small straight stands from
+      subst StageKeepsAt (ap (λ n. pushes.LoadsRead n) (sym known.1)) (loads_read scene index m stands from
       (subst (λ n. SendIsAt scene index (pushes.LoadsRead n)) known.1 here)
       steps)
   does (pushes.StoresCell write read) here from known stands steps =
-      subst StageKeepsAt (ap (λ n. pushes.StoresCell n read) (sym known.1)) (stores_cell scene index holds small straight stands from read known.2 known.3
+      subst StageKeepsAt (ap (λ n. pushes.StoresCell n read) (sym known.1)) (stores_cell scene index m stands from read known.2 known.3
       (subst (λ n. SendIsAt scene index (pushes.StoresCell n read)) known.1 here)
       steps)
   does (pushes.StoresWrite write read) here from known stands steps =
-      subst StageKeepsAt (ap (λ n. pushes.StoresWrite n read) (sym known.1)) (stores_write scene index holds small straight read
+      subst StageKeepsAt (ap (λ n. pushes.StoresWrite n read) (sym known.1)) (stores_write index m read
       (subst (λ n. SendIsAt scene index (pushes.StoresWrite n read)) known.1 here)
       stands from known.4 steps known.2 known.3)
   does (pushes.MovesRead read) here from known stands steps = go (s.submission.read == read) refl

@@ -28,14 +28,36 @@ module _ {T : Type 0} where
       party_after (record (scene.caller) { start = starts.Loan start }) scene.since scene.changes (step_count ask)
       (change_of (words_in scene.state) ask) (record { after = any_call after; back = back; wrote = []; kept = registries.Loan scene.state.book })
 
--- a turn of the party `p` that writes events of its own, from the channel `s` to `s'`, in which the calls
--- of other parties stand where they stood
-module _ {T : Type 0} (code : Coding T) (slots queue : ℕ) (s s' : Channel T) (p : ℕ) (y : Party T)
-    (latest : List (ℕ × Party T)) (from : Span T) (es : List (Event T)) (changes changes' : ℕ)
-    (events : s'.events ≡ s.events ++ es) (own : AreOwn p es)
-    (at_others : (q : ℕ) → q ≢ p → (wrote : List (Event T)) (start : LoanStart) (flight : LoanFlight)
-    → At slots queue s q wrote start flight → At slots queue s' q wrote start flight)
-    (up : GoesUp s.submission s'.submission changes changes') where
+-- A turn of one party that writes events of its own, in which the calls of the other parties stand where they stood.
+pub record OwnTurn (T : Type 0) : Type 0 where
+  pub coding : Coding T
+  pub slots : ℕ
+  pub queue : ℕ
+  -- the channel before the turn and after it, and how often words have changed before and after
+  pub before : Channel T
+  pub after : Channel T
+  pub changes : ℕ
+  pub changes_then : ℕ
+  -- the party, which is `party_then` after the turn, and the span of its call before the turn
+  pub party : ℕ
+  pub party_then : Party T
+  pub from : Span T
+  -- the events of the turn are the party's own and may follow in its span
+  pub told : List (Event T)
+  pub events : after.events ≡ before.events ++ told
+  pub own : AreOwn party told
+  pub stands : AllFollow (Stands promise slots) from told
+  -- the party's call fits its span afterwards and knows what its stage says
+  pub here : frame.Fits (family coding slots queue) after party (Some party_then) (fold own_after from told)
+  pub knows : frame.KnowsDoing (family coding slots queue) after party (before.events ++ told) changes_then party_then.backs party_then.doing
+  -- the calls of the other parties stand where they stood, and the positions only go up
+  pub at_others : Others slots queue before after party
+  pub up : GoesUp before.submission after.submission changes changes_then
+
+module _ {T : Type 0} (turn : OwnTurn T) where
+  open turn use {coding as code, slots, queue, before as s, after as s', changes, changes_then as changes', party as p, party_then as y, from, told as es}
+  open turn use {events, own}
+
   abbrev any : frame.Family T
   any = family code slots queue
 
@@ -53,14 +75,12 @@ module _ {T : Type 0} (code : Coding T) (slots queue : ℕ) (s s' : Channel T) (
       → any.Knows s' q (s.events ++ es) sooner changes' backs call
   others_know = grind (arith, knows_keeps)
 
-  -- a turn of the sender gives the frame what it asks, where its events may follow in the party's span and its call
-  -- fits the span and knows what its stage says
-  pub owes_by : AllFollow (Stands promise slots) from es → frame.Fits any s' p (Some y) (fold own_after from es)
-      → frame.KnowsDoing any s' p (s.events ++ es) changes' y.backs y.doing
-      → span_of p s.events ≡ from → frame.Inv any s latest s.events changes → frame.Owes any s' p y latest s.events es changes'
-  owes_by stands here knows span_is inv =
+  -- the turn gives the frame what it asks, where the invariant held before it
+  pub owes_by : {latest : List (ℕ × Party T)} → span_of p s.events ≡ from → frame.Inv any s latest s.events changes
+      → frame.Owes any s' p y latest s.events es changes'
+  owes_by {latest} span_is inv =
       frame.owes any s s' from p y latest s.events es changes changes' span_is inv
-      (record { own = own; stands = stands; here = here; knows = knows; others = others; others_know = others_know })
+      (record { own = own; stands = turn.stands; here = turn.here; knows = turn.knows; others = others; others_know = others_know })
 
 module _ {T : Type 0} (scene : Scene T) (p : ℕ) where
   open scene use {coding as code, slots, queue, state as s, latest, turns, changes}
@@ -97,11 +117,34 @@ module _ {T : Type 0} (scene : Scene T) (p : ℕ) where
       Steps s' from start ask back after (told_by start after effect)
       × (ended_book {T = T} p start (answer_in after) (fold (book_after {T = T}) s.book (effects_of p effect (answer_in after))) ≡ s'.book)
 
-  module _ (s' : Channel T) (from : Span T) (start : LoanStart) (ask : Option Ask) (back : Bool)
-      (after : After LoanFlight (Answer T)) (es : List (Event T)) (steps : Steps s' from start ask back after es) where
-    -- a step that shows this gives the frame what it asks of a turn
-    pub step_owes : span_of p s.events ≡ from → frame.Inv channel s latest s.events changes
-        → frame.Owes channel s' p (party_then scene start ask back after) latest s.events es (changes + change_of (words_in s) ask)
-    step_owes =
-        owes_by code slots queue s s' p (party_then scene start ask back after) latest from es changes
-        (changes + change_of (words_in s) ask) steps.shows.events steps.own steps.others steps.up steps.stands steps.here steps.knows
+-- a step of the call `start` shows what `Steps` asks
+module _ {T : Type 0} {scene : Scene T} {p : ℕ} {s' : Channel T} {from : Span T} {start : LoanStart} {ask : Option Ask} {back : Bool}
+    {after : After LoanFlight (Answer T)} {es : List (Event T)} (steps : Steps scene p s' from start ask back after es) where
+  open scene use {coding as code, slots, queue, state as s, latest, changes}
+
+  -- a step that shows this gives the frame what it asks of a turn
+  pub step_owes : span_of p s.events ≡ from → frame.Inv (family code slots queue) s latest s.events changes
+      → frame.Owes (family code slots queue) s' p (party_then scene start ask back after) latest s.events es (changes + change_of (words_in s) ask)
+  step_owes span_is inv =
+      let turn : OwnTurn T =
+      record {
+        coding = code;
+        slots = slots;
+        queue = queue;
+        before = s;
+        after = s';
+        changes = changes;
+        changes_then = changes + change_of (words_in s) ask;
+        party = p;
+        party_then = party_then scene start ask back after;
+        from = from;
+        told = es;
+        events = steps.shows.events;
+        own = steps.own;
+        stands = steps.stands;
+        here = steps.here;
+        knows = steps.knows;
+        at_others = steps.others;
+        up = steps.up;
+      } in
+      owes_by turn span_is inv

@@ -79,7 +79,9 @@ module _ {T : Type 0} (m : Underway T) where
   send_pushes index stage there =
       let stands = there.at in
       let from = ap (span_of 0) sound.holds.same ∙ (there.span ∙ ap (λ es. Open (starts.Loan (calls.Send index)) es) stands.4) in
-      let done = sends.does scene index holds_before small there.knows stage there.found from stands.5.0 stands.5.1 there.steps in
+      let done =
+      sends.does scene index (record { holds = holds_before; small = small; straight = there.knows }) stage
+      there.found from stands.5.0 stands.5.1 there.steps in
       let value = old scene index stage in
       from_step (calls.Send index) (asked scene index stage) (goes scene index stage value) (effect_at scene index stage value)
       done.channel_then (push_wrote queue s.submission index stage) from done.step
@@ -91,7 +93,9 @@ module _ {T : Type 0} (m : Underway T) where
   take_back_pops stage found there =
       let stands = there.at in
       let from = ap (span_of 0) sound.holds.same ∙ (there.span ∙ ap (λ es. Open (starts.Loan calls.TakeBack) es) stands.3) in
-      let done = take_backs.does scene holds_before small stage found there.found from there.knows stage found stands.4 there.steps in
+      let done =
+      take_backs.does scene (record { holds = holds_before; small = small; straight = there.knows }) there.found
+      from stage found stands.4 there.steps in
       from_step calls.TakeBack (take_backs.asked scene stage) (take_backs.goes scene stage found (take_backs.old scene stage))
       (take_back_effect (take_back_stages.Pops stage found)) done.channel_then [] from done.step
 

@@ -24,7 +24,7 @@ use Rattle.laws_loan.proofs.Cuts.{IsOn}
 use Rattle.laws_loan.proofs.Invariant.{Hangs, sends_at, counted_for, hung, Carries}
 use Rattle.laws_loan.proofs.Knows.{Passes, PushAt, push_wrote}
 use Rattle.laws_loan.proofs.Parts.{submission_old, submission_words, submission_change}
-use Rattle.laws_loan.proofs.Scene.{Scene, HoldsIn}
+use Rattle.laws_loan.proofs.Scene.{Scene, SenderCalls}
 use Rattle.laws_loan.proofs.Sender.{party_then, StepBy}
 use Rattle.laws_loan.proofs.Submission as submission
 use Rattle.laws_loan.proofs.SenderInterference.{others_beside}
@@ -86,21 +86,23 @@ module _ {T : Type 0} (scene : Scene T) (index : ℕ) where
     pub step : StepTo channel_then (push_wrote queue s.submission index stage) stage (goes stage (old stage)) (effect_at stage (old stage))
 
   -- the step is the one with this result, as the call computes it
-  pub does_by : (s' : Channel T) (stage : PushStage) (wrote : List (Event T)) (after : After LoanFlight (Answer T)) (effect : Effect)
-      → push_wrote queue s.submission index stage ≡ wrote → goes stage (old stage) ≡ after → effect_at stage (old stage) ≡ effect
-      → StepTo s' wrote stage after effect → StageKeeps stage
+  pub does_by : {s' : Channel T} {stage : PushStage} {wrote : List (Event T)} {after : After LoanFlight (Answer T)} (effect : Effect)
+      → StepTo s' wrote stage after effect
+      → push_wrote queue s.submission index stage ≡ wrote → goes stage (old stage) ≡ after → effect_at stage (old stage) ≡ effect → StageKeeps stage
   does_by = grind arith
 
   -- the sender has a send of the index under way, at this stage
   abbrev pub SendIsAt : PushStage → Type 0
   SendIsAt stage = sends_at latest ≡ Some (flights.Loan (pushes_at slots queue stage index))
 
-  module _ (holds : HoldsIn scene) (small : turns < 2 ^ 64 - 2) (straight : x.backs ≡ 0) where
+  module _ (m : SenderCalls scene) where
+    open m use {holds, small, straight}
+
     -- ---- the words of the submission queue
 
     -- the write position is below its last value
     pub reached : s.submission.write < 2 ^ 64 - 2
-    reached = let sent = holds.sent in omega arith
+    reached = let sent = holds.sent in let few = small in omega arith
 
     -- the submission queue has five words and one for each index that may wait
     pub long : length queued ≡ 5 + queue
@@ -108,7 +110,7 @@ module _ {T : Type 0} (scene : Scene T) (index : ℕ) where
 
     -- what an operation of the push finds in the whole it finds in the queue
     pub old_is : (stage : PushStage) → IsOn queued (push_asks queue stage index) → old stage ≡ old_of queued (ask_of (push_asks queue stage index))
-    old_is stage on = submission_old slots queue s (counted_for (sends_at latest)) holds.parts (push_asks queue stage index) on
+    old_is stage on = submission_old holds.parts (push_asks queue stage index) on
 
     -- an operation on the submission queue changes that part of the words alone, to those of
     -- the queue as it is then
@@ -116,17 +118,17 @@ module _ {T : Type 0} (scene : Scene T) (index : ℕ) where
         → words_after queued (ask_of (push_asks queue stage index)) ≡ layout no_roles k
         → words_after (words_in s) (asked stage) ≡ s.set ++ (layout no_roles k ++ layout no_roles s.completion)
     words_are stage k on layout_is =
-        submission_words slots queue s (counted_for (sends_at latest)) holds.parts (push_asks queue stage index) on
+        submission_words holds.parts (push_asks queue stage index) on
         ∙ ap (λ ws. s.set ++ (ws ++ layout no_roles s.completion)) layout_is
 
     -- an operation of the push counts as many changes in the whole as in the queue
     pub change_is : (stage : PushStage) → IsOn queued (push_asks queue stage index)
         → change_of (words_in s) (asked stage) ≡ change_of queued (ask_of (push_asks queue stage index))
-    change_is stage on = submission_change slots queue s (counted_for (sends_at latest)) holds.parts (push_asks queue stage index) on
+    change_is stage on = submission_change holds.parts (push_asks queue stage index) on
 
     -- the read position, as the words of the whole have it
     pub read_is : read_in (submission_word slots) (words_in s) ≡ s.submission.read
-    read_is = submission_old slots queue s (counted_for (sends_at latest)) holds.parts (load 1) (let wide = long in omega arith)
+    read_is = submission_old holds.parts (load 1) (let wide = long in omega arith)
 
     -- while it pushes, a send is not counted by the set
     idle : (stage : PushStage) → SendIsAt stage → counted_for (sends_at latest) ≡ 0
@@ -138,20 +140,38 @@ module _ {T : Type 0} (scene : Scene T) (index : ℕ) where
 
     -- ---- the send goes on, and no position has moved yet
 
-    -- the send is at the stage `now`, and its step leaves the submission queue `k`, with the same positions
-    -- and the same indices
-    module _ (now after_it : PushStage) (k : Core ℕ) (here : SendIsAt now) (calm : IsCalm now)
-        (from : span_of 0 s.events ≡ Open start []) (waits : k.waiting ≡ s.submission.waiting)
-        (write : k.write ≡ s.submission.write) (read : k.read ≡ s.submission.read) (good : Good 1 words_of_index (queue + 1) k)
-        (on : IsOn queued (push_asks queue now index)) (words : words_after queued (ask_of (push_asks queue now index)) ≡ layout no_roles k)
-        (none : push_wrote {T = T} queue k index after_it ≡ [])
-        (calm_then : hung {T = T} k.read (Some (flights.Loan (pushes_at slots queue after_it index))) ≡ None)
-        (calm_now : hung {T = T} s.submission.read (Some (flights.Loan (pushes_at slots queue now index))) ≡ None)
-        (one : step_count (asked now) ≡ 1) (known : KnowsOverflowPush queue k index after_it) (stands : PushAt slots queue
-        (record s { submission = k; completion = s.completion; book = s.book; events = s.events ++ [] }) index
-        after_it) (steps : x.steps + 1 ≤ overflow_push_number after_it)
-        (pops : (room : OneWord) (stage : PopStage) → KnowsOverflowPop queue s.submission room stage
-        → KnowsOverflowPop queue k room stage) where
+    -- a step of the send at the stage `now`, which leaves the submission queue `k` with the same positions and the same indices, and leads to
+    -- the stage `after_it`
+    record PushStep : Type 0 where
+      now : PushStage
+      after_it : PushStage
+      k : Core ℕ
+      -- the send stands at `now` and has written nothing
+      here : SendIsAt now
+      calm : IsCalm now
+      from : span_of 0 s.events ≡ Open start []
+      -- the submission queue afterwards
+      waits : k.waiting ≡ s.submission.waiting
+      write : k.write ≡ s.submission.write
+      read : k.read ≡ s.submission.read
+      good : Good 1 words_of_index (queue + 1) k
+      -- the operation is on a word of the queue
+      on : IsOn queued (push_asks queue now index)
+      words : words_after queued (ask_of (push_asks queue now index)) ≡ layout no_roles k
+      one : step_count (asked now) ≡ 1
+      -- the send has written nothing at `after_it` either, and waits for no position
+      none : push_wrote {T = T} queue k index after_it ≡ []
+      calm_then : hung {T = T} k.read (Some (flights.Loan (pushes_at slots queue after_it index))) ≡ None
+      calm_now : hung {T = T} s.submission.read (Some (flights.Loan (pushes_at slots queue now index))) ≡ None
+      -- it stands at `after_it` within its bound of steps, and pops know what they knew
+      known : KnowsOverflowPush queue k index after_it
+      stands : PushAt slots queue (record s { submission = k; completion = s.completion; book = s.book; events = s.events ++ [] }) index after_it
+      steps : x.steps + 1 ≤ overflow_push_number after_it
+      pops : (room : OneWord) (stage : PopStage) → KnowsOverflowPop queue s.submission room stage → KnowsOverflowPop queue k room stage
+
+    module _ (step : PushStep) where
+      open step use {now, after_it, k, from, on, words, pops}
+
       -- the channel after a step with which the send goes on
       abbrev s_on : Channel T
       s_on = record s { submission = k; completion = s.completion; book = s.book; events = s.events ++ [] }
@@ -173,7 +193,7 @@ module _ {T : Type 0} (scene : Scene T) (index : ℕ) where
       shows_on = grind (arith, append-nil, idle, silent_tells, few_wait, sends_now)
 
       -- a step with which the push goes on leads the send to its next stage, and writes nothing
-      pub goes_on : StepTo s_on [] now (GoOn (pushes_at slots queue after_it index)) effects.Quiet
+      goes_on : StepTo s_on [] now (GoOn (pushes_at slots queue after_it index)) effects.Quiet
       goes_on =
           let written = words_are now k on words in
           let others =
@@ -196,12 +216,33 @@ module _ {T : Type 0} (scene : Scene T) (index : ℕ) where
       loads_write here steps =
           let some = holds.parts.some in
           let on_queue : 0 < length queued = (let wide = long in omega arith) in
-          does_by still pushes.LoadsWrite [] (GoOn (pushes_at slots queue (pushes.LoadsRead s.submission.write) index))
-          effects.Quiet refl (ap (goes pushes.LoadsWrite) (old_is pushes.LoadsWrite on_queue)
+          let step : PushStep =
+          record {
+            now = pushes.LoadsWrite;
+            after_it = pushes.LoadsRead s.submission.write;
+            k = s.submission;
+            here = here;
+            calm = tt;
+            from = from;
+            waits = refl;
+            write = refl;
+            read = refl;
+            good = holds.parts.submission;
+            on = on_queue;
+            words = refl;
+            one = refl;
+            none = refl;
+            calm_then = refl;
+            calm_now = refl;
+            known = (omega arith, refl, (let low = reached in omega arith));
+            stands = passes_on;
+            steps = omega arith;
+            pops = λ room stage known. known;
+          } in
+          does_by effects.Quiet (goes_on step) refl
+          (ap (goes pushes.LoadsWrite) (old_is pushes.LoadsWrite on_queue)
           ∙ (let not_last : (s.submission.write == 2 ^ 64 - 1) ≡ false = (let low = reached in grind (arith, nat_tests)) in rw not_last refl))
-          refl (goes_on pushes.LoadsWrite (pushes.LoadsRead s.submission.write) s.submission here tt from
-          refl refl refl holds.parts.submission on_queue refl refl refl refl refl
-          (omega arith, refl, (let low = reached in omega arith)) passes_on (omega arith) (λ room stage known. known))
+          refl
 
       -- the load of the read position leads on to the store into the cell
       pub loads_read : SendIsAt (pushes.LoadsRead s.submission.write) → x.steps ≤ 1 → StageKeeps (pushes.LoadsRead s.submission.write)
@@ -210,13 +251,32 @@ module _ {T : Type 0} (scene : Scene T) (index : ℕ) where
           let on_queue : 1 < length queued = (let wide = long in omega arith) in
           let few : length s.submission.waiting ≤ queue = subst (Hangs queue s.submission) (ap (hung s.submission.read) here) holds.hangs in
           let write = holds.parts.submission.write in
-          does_by still (pushes.LoadsRead s.submission.write) []
-          (GoOn (pushes_at slots queue (pushes.StoresCell s.submission.write s.submission.read) index)) effects.Quiet
-          refl (ap (goes (pushes.LoadsRead s.submission.write)) (old_is (pushes.LoadsRead s.submission.write) on_queue)) refl
-          (goes_on (pushes.LoadsRead s.submission.write)
-          (pushes.StoresCell s.submission.write s.submission.read) s.submission here tt from refl refl refl
-          holds.parts.submission on_queue refl refl refl refl refl
-          (omega arith, refl, omega arith, omega arith, (let low = reached in omega arith)) passes_on (omega arith) (λ room stage known. known))
+          let step : PushStep =
+          record {
+            now = pushes.LoadsRead s.submission.write;
+            after_it = pushes.StoresCell s.submission.write s.submission.read;
+            k = s.submission;
+            here = here;
+            calm = tt;
+            from = from;
+            waits = refl;
+            write = refl;
+            read = refl;
+            good = holds.parts.submission;
+            on = on_queue;
+            words = refl;
+            one = refl;
+            none = refl;
+            calm_then = refl;
+            calm_now = refl;
+            known = (omega arith, refl, omega arith, omega arith, (let low = reached in omega arith));
+            stands = passes_on;
+            steps = omega arith;
+            pops = λ room stage known. known;
+          } in
+          does_by effects.Quiet (goes_on step) refl
+          (ap (goes (pushes.LoadsRead s.submission.write)) (old_is (pushes.LoadsRead s.submission.write) on_queue))
+          refl
 
       -- the store into the cell leads on to the store of the next write position; `read` is the read
       -- position that the send has loaded, which can have moved on since
@@ -236,18 +296,26 @@ module _ {T : Type 0} (scene : Scene T) (index : ℕ) where
                   events = s.events ++ [];
                 };
             step =
-                goes_on (pushes.StoresCell s.submission.write read) (pushes.StoresWrite s.submission.write read)
-                (filled 1 words_of_index (queue + 1) s.submission 0 index) here tt from refl refl refl
-                (submission.fill_good queue holds.parts.some holds.parts.few s.submission holds.parts.submission reached index below)
-                (submission.cell_on queue holds.parts.some holds.parts.few s.submission holds.parts.submission reached s.submission.write)
-                (submission.fill_words queue holds.parts.some holds.parts.few s.submission holds.parts.submission reached index)
-                refl refl refl refl (
-                  omega arith,
-                  refl,
-                  low,
-                  far,
-                  submission.fill_whole queue holds.parts.some holds.parts.few s.submission holds.parts.submission reached index below,
-                  (omega (arith, reached)),
-                )
-                passes_on (omega arith) (fill_keeps_pop queue s.submission 0 index);
+                goes_on (record {
+                  now = pushes.StoresCell s.submission.write read;
+                  after_it = pushes.StoresWrite s.submission.write read;
+                  k = filled 1 words_of_index (queue + 1) s.submission 0 index;
+                  here = here;
+                  calm = tt;
+                  from = from;
+                  waits = refl;
+                  write = refl;
+                  read = refl;
+                  good = submission.fill_good holds.parts reached index below;
+                  on = submission.cell_on holds.parts reached s.submission.write;
+                  words = submission.fill_words holds.parts reached index;
+                  one = refl;
+                  none = refl;
+                  calm_then = refl;
+                  calm_now = refl;
+                  known = (omega arith, refl, low, far, submission.fill_whole holds.parts reached index below, omega (arith, reached));
+                  stands = passes_on;
+                  steps = omega arith;
+                  pops = fill_keeps_pop queue s.submission 0 index;
+                });
           }

@@ -75,8 +75,9 @@ home_by = grind arith
 pub home_stays : (p : ℕ) (spot : Spot) → IsHome spot → spot ≡ Passing p → ⊥
 home_stays = grind arith
 
-module _ {T : Type 0} (slots : ℕ) (claims : List (Option ℕ)) (sent back : List ℕ) (book : Book)
-    (events : List (Event T)) (placed : Placed slots claims sent back book events) where
+-- each index is in its place, by the table as by the events
+module _ {T : Type 0} {slots : ℕ} {claims : List (Option ℕ)} {sent back : List ℕ} {book : Book}
+    {events : List (Event T)} (placed : Placed slots claims sent back book events) where
   -- the place of an index in the table agrees with its spot
   stood : (i : ℕ) (place : Place) → place_at book.places i ≡ place → IsIn place (spot_of i events)
   stood i place place_is = rw (← place_is) (placed.keeps.places i)

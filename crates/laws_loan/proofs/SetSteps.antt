@@ -35,6 +35,10 @@ claims_then index (releases.StoresNext head) hs = hs
 claims_then index (releases.ExchangesHead head) hs = hs
 claims_then index releases.Subtracts hs = hs
 
+-- a stage at which a release still counts leaves the claims
+pub claims_for : (index : ℕ) (claims : List (Option ℕ)) (stage : ReleaseStage) → release_counts stage ≡ 1 → claims_then index stage claims ≡ claims
+claims_for = grind arith
+
 -- a release that goes on is counted in the head, and one that has ended is not
 abbrev pub ReleaseLeads : ℕ → ReleaseStage → List ℕ → List (Option ℕ) → After (Release DefaultMode) ReleaseState → Type 0
 ReleaseLeads c stage ws hs (GoOn release) =

@@ -54,22 +54,22 @@ module _ {T : Type 0} (m : Underway T) where
 
   -- a step with the fields of `Shows` (Turns) that gives the frame what it asks of a turn leaves a machine
   -- with the invariant
-  pub comes : (p : ℕ) (start : LoanStart) (ask : Option Ask) (back : Bool) (after : After LoanFlight (Answer T))
-      (es : List (Event T)) (book : Book) (s' : Channel T)
+  pub comes : {p : ℕ} (start : LoanStart) (ask : Option Ask) (back : Bool) (after : After LoanFlight (Answer T))
+      {es : List (Event T)} {book : Book} {s' : Channel T}
       → book ≡ s'.book → words_after (words_in now) ask ≡ words_in s'
       → Shows slots queue now s' p (party_then scene start ask back after) t.world.latest t.world.turns es
       → frame.Owes any s' p (party_then scene start ask back after) t.world.latest
       now.events es (t.world.changes + change_of (words_in now) ask)
       → frame.Comes any t p (registries.Loan book) (words_after (words_in now) ask) (party_then scene start ask back after) es
       (t.world.changes + change_of (words_in now) ask)
-  comes p start ask back after es book s' kept words shows owes =
+  comes {p} start ask back after {es} {book} {s'} kept words shows owes =
       record {
         state = s';
         fit = (kept, words);
         holds =
             subst (λ events. HoldsNow slots queue s' (put p (party_then scene start ask back after) t.world.latest) (events ++ es)
             (t.world.turns + 1))
-            sound.holds.same (now_more slots queue now s' p (party_then scene start ask back after) t.world.latest t.world.turns es holds_now shows);
+            sound.holds.same (now_more holds_now shows);
         owes =
             subst (λ events. frame.Owes any s' p (party_then scene start ask back after)
             t.world.latest events es (t.world.changes + change_of (words_in now) ask))
@@ -82,6 +82,4 @@ module _ {T : Type 0} (m : Underway T) where
       → StepBy scene p s' from start ask back after effect
       → ComesBy p start ask back after effect
   step_comes p start ask back after effect s' from span_is step =
-      comes p start ask back after (told_by scene p start after effect)
-      (ended_book {T = T} p start (answer_in after) (fold (book_after {T = T}) now.book (effects_of p effect (answer_in after))))
-      s' step.1 step.0.words step.0.shows (step_owes scene p s' from start ask back after (told_by scene p start after effect) step.0 span_is inv_now)
+      comes start ask back after step.1 step.0.words step.0.shows (step_owes step.0 span_is inv_now)

@@ -32,13 +32,14 @@ module _ {T : Type 0} where
       ap receiver_of (sym (append_assoc events (e ∷ []) es))
       ∙ (receiver_still (events ++ e ∷ []) es still.1 ∙ (fold-append receiver_after 1 events (e ∷ []) ∙ still.0.receiver (receiver_of events)))
 
-  module _ (slots : ℕ) (claims : List (Option ℕ)) (sent back : List ℕ) (book : Book) where
+  -- each index is in its place before the events, which move nothing
+  module _ {slots : ℕ} {claims : List (Option ℕ)} {sent back : List ℕ} {book : Book} where
     -- after an event that moves nothing each index is still where the claims, the queues and the book have it
     one_still : (events : List (Event T)) (e : Event T) → Still e → Placed slots claims sent back book events
         → Placed slots claims sent back book (events ++ e ∷ [])
     one_still events e still placed =
         let same : receiver_of (events ++ e ∷ []) ≡ receiver_of events = fold-append receiver_after 1 events (e ∷ []) ∙ still.receiver (receiver_of events) in
-        placed_on slots events e still.moves claims sent back book book placed
+        placed_on events e still.moves placed
         (record {
           places = refl;
           holders = refl;
@@ -50,9 +51,9 @@ module _ {T : Type 0} where
         (lists_stay is_returning back events e placed.returns still.moves)
 
     -- after events that move nothing each index is still where the claims, the queues and the book have it
-    pub placed_still : (events es : List (Event T)) → AreStill es → Placed slots claims sent back book events
+    pub placed_still : (es : List (Event T)) {events : List (Event T)} → AreStill es → Placed slots claims sent back book events
         → Placed slots claims sent back book (events ++ es)
-    placed_still events [] still placed = subst (Placed slots claims sent back book) (sym (append-nil events)) placed
-    placed_still events (e ∷ es) still placed =
+    placed_still [] {events} still placed = subst (Placed slots claims sent back book) (sym (append-nil events)) placed
+    placed_still (e ∷ es) {events} still placed =
         subst (Placed slots claims sent back book) (append_assoc events (e ∷ []) es)
-        (placed_still (events ++ e ∷ []) es still.1 (one_still events e still.0 placed))
+        (placed_still es still.1 (one_still events e still.0 placed))

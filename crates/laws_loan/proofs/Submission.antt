@@ -8,9 +8,17 @@ use Rattle.std.proofs.Common.{arith}
 use Rattle.steps.specs.declared.queues.overflow.PushStage.TheVariants as overflow_pushes
 use Rattle.steps.specs.Queues.Overflow.{cell_word, push_takes}
 use Rattle.laws_queues.proofs.Queues.Core.{Good, published, publishes, takes, word_at}
-use Rattle.laws_loan.proofs.Channel.{no_roles}
+use Rattle.laws_loan.proofs.Channel.{Channel, Holds as PartsHold, no_roles}
 
-module _ (queue : ℕ) (some : 1 ≤ queue) (few : queue < 2 ^ 32) (k : Core ℕ) (good : Good 1 words_of_index (queue + 1) k) (reached : k.write < 2 ^ 64 - 2) where
+-- the parts of the channel `s` hold what they are to hold, so its submission queue is right, and the write position of that queue is below
+-- 2 ^ 64 - 2
+module _ {T : Type 0} {slots queue : ℕ} {s : Channel T} {busy : ℕ} (parts : PartsHold slots queue s busy) (reached : s.submission.write < 2 ^ 64 - 2) where
+  open parts use {some, few, submission as good}
+
+  -- the submission queue
+  abbrev k : Core ℕ
+  k = s.submission
+
   -- the words of the submission queue
   abbrev pub ws : List ℕ
   ws = layout no_roles k
@@ -54,11 +62,11 @@ module _ (queue : ℕ) (some : 1 ≤ queue) (few : queue < 2 ^ 32) (k : Core ℕ
     module _ (below : length k.waiting < queue + 1) where
       -- the queue with the index in its cell is right
       pub fill_good : Good 1 words_of_index (queue + 1) fill
-      fill_good = fills 1 words_of_index (queue + 1) k 0 v below (omega arith) good
+      fill_good = fills good 0 v below (omega arith)
 
       -- once the word is stored, the cell of the write position has the index
       pub fill_whole : Holds 1 words_of_index (queue + 1) fill.cells fill.write v 1
-      fill_whole = one_filled 1 words_of_index (queue + 1) k v 0 below (omega arith) good (λ i h. absurd (omega arith))
+      fill_whole = one_filled good v 0 below (omega arith) (λ i h. absurd (omega arith))
 
     -- the queue once `v` is published
     abbrev pub publish : Core ℕ
@@ -78,7 +86,7 @@ module _ (queue : ℕ) (some : 1 ≤ queue) (few : queue < 2 ^ 32) (k : Core ℕ
 
     -- the queue is right once a value is published, where there is a cell for it and the cell holds it
     pub publish_good : length k.waiting < queue + 1 → Holds 1 words_of_index (queue + 1) k.cells k.write v 1 → Good 1 words_of_index (queue + 1) publish
-    publish_good below whole = publishes 1 words_of_index (queue + 1) k v below good whole
+    publish_good below whole = publishes good v below whole
 
   -- what a push finds as it stores the next write position, where it has loaded the read position `read`:
   -- there is room; the queue is full; or it was full, and a pop has made room since
@@ -112,7 +120,7 @@ module _ (queue : ℕ) (some : 1 ≤ queue) (few : queue < 2 ^ 32) (k : Core ℕ
 
     -- the queue with its front taken out is right
     pub take_good : Good 1 words_of_index (queue + 1) take_out
-    take_good = takes 1 words_of_index (queue + 1) k value rest first good
+    take_good = takes good first
 
   -- where the read position has moved on already, the exchange changes nothing
   pub stays_words : (read : ℕ) → (k.read == read) ≡ false → words_after ws (moves_from read) ≡ ws

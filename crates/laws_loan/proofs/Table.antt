@@ -58,8 +58,9 @@ by_with = grind arith
 by_none : (p : ℕ) (spot : Spot) → spot ≢ With p → spot ≢ Passing p → IsBy p spot → ⊥
 by_none p spot first_spot_is_not second_spot_is_not by = ⊎_elim first_spot_is_not second_spot_is_not by
 
-module _ {T : Type 0} (slots : ℕ) (claims : List (Option ℕ)) (sent back : List ℕ) (book : Book)
-    (events : List (Event T)) (placed : Placed slots claims sent back book events) where
+-- each index is in its place before the event, and the event moves one index; so each is in its place after it
+module _ {T : Type 0} {slots : ℕ} {claims : List (Option ℕ)} {sent back : List ℕ} {book : Book}
+    {events : List (Event T)} (placed : Placed slots claims sent back book events) where
   -- the claim, the place and the holder of an index are those of its spot
   stood : (i : ℕ) (spot : Spot) → spot_of i events ≡ spot → IsIn (place_at book.places i) spot
   stood i spot from = subst (IsIn (place_at book.places i)) from (placed.keeps.places i)
@@ -78,16 +79,14 @@ module _ {T : Type 0} (slots : ℕ) (claims : List (Option ℕ)) (sent back : Li
     pub claims_it : spot_of i events ≡ Free
         → Placed slots (set claims i (Some 0)) sent back (book_after {T = T} book (Claimed 0 i)) (events ++ Claimed 0 i ∷ [])
     claims_it from =
-        placed_more slots events (Claimed 0 i) (move Free (Passing 0)) refl claims (set claims i (Some 0)) sent sent
-        back back book (record book { places = set book.places i places.Loaned }) placed
+        placed_more placed (Claimed 0 i) (move Free (Passing 0)) refl
         (grind (arith, get_or-set_same, get_or-set_other, length-set, by_passing, held))
 
     -- a loan that has claimed the index ends
     pub loan_ends : spot_of i events ≡ Passing 0 → place_at book.places i ≡ places.Loaned
         → Placed slots claims sent back (record book { holders = set book.holders i (Some 0) }) (events ++ Finished 0 (Loan calls.Loan) (answers.Index i) ∷ [])
     loan_ends from loaned =
-        placed_more slots events (Finished 0 (Loan calls.Loan) (answers.Index i)) (move (Passing 0) (With 0)) refl
-        claims claims sent sent back back book (record book { holders = set book.holders i (Some 0) }) placed
+        placed_more placed (Finished 0 (Loan calls.Loan) (answers.Index i)) (move (Passing 0) (With 0)) refl
         (grind (arith, get_or-set_same, get_or-set_other, length-set, by_with))
 
     -- a send or a give-up of the index begins
@@ -95,24 +94,21 @@ module _ {T : Type 0} (slots : ℕ) (claims : List (Option ℕ)) (sent back : Li
         → move_of {T = T} (Begun 0 (Loan start)) ≡ Some (move (With 0) (Passing 0)) → spot_of i events ≡ With 0
         → Placed slots claims sent back (taken_from book (Some i)) (events ++ Begun 0 (Loan start) ∷ [])
     sender_begins start move_is from =
-        placed_more slots events (Begun 0 (Loan start)) (move (With 0) (Passing 0)) move_is claims claims sent sent back
-        back book (record book { holders = set book.holders i None }) placed
+        placed_more placed (Begun 0 (Loan start)) (move (With 0) (Passing 0)) move_is
         (grind (arith, get_or-set_same, get_or-set_other, length-set, by_passing, loaned_there, stood))
 
     -- a send publishes the index
     pub publishes_it : spot_of i events ≡ Passing 0
         → Placed slots claims (sent ++ i ∷ []) back (book_after {T = T} book (Published 0 (Index i))) (events ++ Published 0 (Index i) ∷ [])
     publishes_it from =
-        placed_more slots events (Published 0 (Index i)) (move (Passing 0) Waiting) refl claims claims sent
-        (sent ++ i ∷ []) back back book (record book { places = set book.places i places.Sent }) placed
+        placed_more placed (Published 0 (Index i)) (move (Passing 0) Waiting) refl
         (grind (arith, get_or-set_same, get_or-set_other, length-set, by_none, held))
 
     -- a call frees the index, which waits in neither queue
     pub frees_it : (spot : Spot) → spot_of i events ≡ spot → is_waiting spot ≡ false → is_returning spot ≡ false
         → Placed slots (set claims i None) sent back (book_after {T = T} book (Freed 0 i)) (events ++ Freed 0 i ∷ [])
     frees_it spot from neither nor =
-        placed_more slots events (Freed 0 i) (move (Passing 0) Free) refl claims (set claims i None) sent sent back
-        back book (record book { places = set book.places i places.Free; holders = set book.holders i None }) placed
+        placed_more placed (Freed 0 i) (move (Passing 0) Free) refl
         (grind (arith, get_or-set_same, get_or-set_other, length-set, by_none))
 
     -- ---- the moves of an index out of a queue
@@ -122,7 +118,7 @@ module _ {T : Type 0} (slots : ℕ) (claims : List (Option ℕ)) (sent back : Li
         → Placed slots claims rest back (book_after {T = T} book (HandedOut p (Index i))) (events ++ HandedOut p (Index i) ∷ [])
     hands_it_out p rest front whose =
         let from : spot_of i events ≡ Waiting = waits_there (spot_of i events) (first_there is_waiting sent rest events i front placed.waits) in
-        placed_more slots events (HandedOut p (Index i)) (move Waiting (Passing p)) refl claims claims sent rest back back book book placed
+        placed_more placed (HandedOut p (Index i)) (move Waiting (Passing p)) refl
         (grind (arith, by_passing, sent_there, stood, waiting_away, held))
 
     -- the first index of the completion queue is taken back
@@ -130,7 +126,7 @@ module _ {T : Type 0} (slots : ℕ) (claims : List (Option ℕ)) (sent back : Li
         → Placed slots claims sent rest (book_after {T = T} book (TakenBack 0 i)) (events ++ TakenBack 0 i ∷ [])
     takes_it_back rest front =
         let from : spot_of i events ≡ Returning = returns_there (spot_of i events) (first_there is_returning back rest events i front placed.returns) in
-        placed_more slots events (TakenBack 0 i) (move Returning (Passing 0)) refl claims claims sent sent back rest book book placed
+        placed_more placed (TakenBack 0 i) (move Returning (Passing 0)) refl
         (grind (arith, by_passing, sent_there, stood, returning_away, held))
 
     -- ---- the receiver's moves of an index
@@ -145,22 +141,19 @@ module _ {T : Type 0} (slots : ℕ) (claims : List (Option ℕ)) (sent back : Li
           → Placed slots claims sent back (record book { holders = set book.holders i (Some p) })
           (events ++ Finished p (Loan calls.Receive) (answers.PoppedIndex i) ∷ [])
       receive_ends from =
-          placed_more slots events (Finished p (Loan calls.Receive) (answers.PoppedIndex i))
-          (move (Passing p) (With p)) refl claims claims sent sent back back book
-          (record book { holders = set book.holders i (Some p) }) placed
+          placed_more placed (Finished p (Loan calls.Receive) (answers.PoppedIndex i)) (move (Passing p) (With p)) refl
           (grind (arith, get_or-set_same, get_or-set_other, length-set, by_with, theirs, sent_there, stood, passing_away))
 
       -- a give-back of the index begins
       pub receiver_begins : spot_of i events ≡ With p
           → Placed slots claims sent back (taken_from book (Some i)) (events ++ Begun p (Loan (calls.GiveBack i)) ∷ [])
       receiver_begins from =
-          placed_more slots events (Begun p (Loan (calls.GiveBack i))) (move (With p) (Passing p)) refl claims
-          claims sent sent back back book (record book { holders = set book.holders i None }) placed
+          placed_more placed (Begun p (Loan (calls.GiveBack i))) (move (With p) (Passing p)) refl
           (grind (arith, get_or-set_same, get_or-set_other, length-set, by_passing, theirs, sent_there, stood, with_away))
 
       -- a give-back puts the index into the completion queue
       pub returns_it : spot_of i events ≡ Passing p
           → Placed slots claims sent (back ++ i ∷ []) (book_after {T = T} book (Returned p i)) (events ++ Returned p i ∷ [])
       returns_it from =
-          placed_more slots events (Returned p i) (move (Passing p) Returning) refl claims claims sent sent back (back ++ i ∷ []) book book placed
+          placed_more placed (Returned p i) (move (Passing p) Returning) refl
           (grind (arith, by_none, sent_there, stood, passing_away, held))

@@ -29,15 +29,15 @@ use Rattle.laws_loan.proofs.OneMove.{OneMove, carried, now_there, passes_on, sam
 use Rattle.laws_loan.proofs.Parts.{completion_long, completion_old, completion_words}
 use Rattle.laws_loan.proofs.Receives.{word_of}
 use Rattle.laws_loan.proofs.Releases.{take_back_frees_at}
-use Rattle.laws_loan.proofs.Rests.{KeepsSet, keeps_all}
+use Rattle.laws_loan.proofs.Rests.{KeepsSet, SetStep, keeps_all}
 use Rattle.laws_loan.proofs.Rests as rests
 use Rattle.laws_loan.proofs.Rooms.{back_below, index_is}
-use Rattle.laws_loan.proofs.Scene.{Scene, HoldsIn}
+use Rattle.laws_loan.proofs.Scene.{Scene, SenderCalls}
 use Rattle.laws_loan.proofs.Sender.{party_then, StepBy}
 use Rattle.laws_loan.proofs.Spots.{returns_there, passing_same, returning_passes}
 use Rattle.laws_loan.proofs.Table.{takes_it_back}
 use Rattle.laws_loan.proofs.SenderInterference.{others_beside}
-use Rattle.laws_loan.proofs.QueueEvents.{silent_tells}
+use Rattle.laws_loan.proofs.QueueEvents.{Tells, silent_tells}
 use Rattle.laws_loan.proofs.QueueEvents.{is_reclaiming}
 use Rattle.laws_loan.proofs.Turns.{Shows, sends_now}
 
@@ -89,9 +89,11 @@ module _ {T : Type 0} (scene : Scene T) where
       → StepTo s' stage after (take_back_effect (take_backs.Pops stage found)) → StageKeeps stage found
   does_by = grind arith
 
-  -- the sender has a take-back under way, which has written nothing; `holds` is the invariant before the step
-  module _ (holds : HoldsIn scene) (small : turns < 2 ^ 64 - 2) (under : PopStage) (had : OneWord)
-      (here : sends_at latest ≡ Some (flights.Loan (pops_at slots queue under had))) (from : span_of 0 s.events ≡ spanned) (straight : x.backs ≡ 0) where
+  -- the sender has a take-back under way, which has written nothing
+  module _ (m : SenderCalls scene) {under : PopStage} {had : OneWord}
+      (here : sends_at latest ≡ Some (flights.Loan (pops_at slots queue under had))) (from : span_of 0 s.events ≡ spanned) where
+    open m use {holds, small, straight}
+
     -- ---- the words of the completion queue
 
     -- the channel has at least one index
@@ -104,15 +106,15 @@ module _ {T : Type 0} (scene : Scene T) where
 
     -- the write position is below its last value
     reached : s.completion.write < 2 ^ 64 - 2
-    reached = let given = holds.given in omega arith
+    reached = let given = holds.given in let few_turns = small in omega arith
 
     -- the completion queue has four words and one for each index
     long : length queued ≡ 4 + slots
-    long = completion_long slots queue s (counted_for (sends_at latest)) holds.parts
+    long = completion_long holds.parts
 
     -- what an operation of the pop finds in the whole it finds in the queue
     old_is : (stage : PopStage) → IsOn queued (pop_asks stage) → old stage ≡ old_of queued (ask_of (pop_asks stage))
-    old_is stage on = completion_old slots queue s (counted_for (sends_at latest)) holds.parts (pop_asks stage) on
+    old_is stage on = completion_old holds.parts (pop_asks stage) on
 
     -- an operation on the completion queue changes that part of the words alone, to those of
     -- the queue as it is then
@@ -120,7 +122,7 @@ module _ {T : Type 0} (scene : Scene T) where
         → words_after queued (ask_of (pop_asks stage)) ≡ layout no_roles k
         → words_after (words_in s) (asked stage) ≡ s.set ++ (layout no_roles s.submission ++ layout no_roles k)
     words_are stage k on layout_is =
-        completion_words slots queue s (counted_for (sends_at latest)) holds.parts (pop_asks stage) on
+        completion_words holds.parts (pop_asks stage) on
         ∙ ap (λ ws. s.set ++ (layout no_roles s.submission ++ ws)) layout_is
 
     -- each step of the pop counts as one
@@ -146,6 +148,11 @@ module _ {T : Type 0} (scene : Scene T) where
         → KeepsSet slots queue s latest (asked now) s.set 0
     keeps = grind (arith, keeps_all, words_are, idle)
 
+    -- the step at this stage, with which the words of the indices stay
+    abbrev set_step : PopStage → SetStep T
+    set_step now =
+        record { scene = scene; holds = holds; straight = straight; start = calls.TakeBack; wrote = []; from = from; ask = asked now; set_then = s.set }
+
     -- a step that changes no word leads the take-back to the pop's next stage, and writes nothing
     goes_on : (now after_it : PopStage) (then_found : OneWord) → IsOn queued (pop_asks now)
         → words_after queued (ask_of (pop_asks now)) ≡ queued → KnowsPop one_word slots s.completion (in_one then_found) after_it
@@ -153,8 +160,8 @@ module _ {T : Type 0} (scene : Scene T) where
         → StepTo still now (GoOn (pops_at slots queue after_it then_found)) effects.Quiet
     goes_on now after_it then_found on words known steps =
         let one = one_step now in (
-          rests.goes_on scene holds straight calls.TakeBack [] from (asked now)
-              s.set (pops_at slots queue after_it then_found) (keeps now on words) refl (omega arith) (refl, refl, refl, refl, known) (omega arith),
+          rests.goes_on (set_step now) (pops_at slots queue after_it then_found) (keeps now on words) refl
+              (omega arith) (refl, refl, refl, refl, known) (omega arith),
           refl,
         )
 
@@ -176,8 +183,8 @@ module _ {T : Type 0} (scene : Scene T) where
     finds_none : s.completion.waiting ≡ [] → IsOn queued (pop_asks load_of_write) → x.steps ≤ 1
         → StepTo s_none load_of_write (Done answers.PoppedNone) effects.Quiet
     finds_none empty on steps = (
-      rests.ends scene holds straight calls.TakeBack [] from (asked load_of_write)
-          s.set answers.PoppedNone (keeps load_of_write on refl) (record { moves = refl; receiver = λ r. refl; dead = λ q b. refl }) refl
+      rests.ends (set_step load_of_write) answers.PoppedNone (keeps load_of_write on refl)
+          (record { moves = refl; receiver = λ r. refl; dead = λ q b. refl }) refl
           (holds.told.given ∙ (ap (λ xs. taken_back s.events ++ xs) empty ∙ append-nil (taken_back s.events))) (λ i carried. none_carried i carried)
           (grind arith) (omega arith),
       refl,
@@ -212,7 +219,7 @@ module _ {T : Type 0} (scene : Scene T) where
 
       -- the index is one of the channel
       below : index < slots
-      below = back_below slots s.claims s.submission.waiting s.completion.waiting s.book s.events holds.parts.placed index rest first
+      below = back_below holds.parts.placed index rest first
 
       -- the index was on its way back
       was_returning : spot_of index s.events ≡ Returning
@@ -224,29 +231,28 @@ module _ {T : Type 0} (scene : Scene T) where
 
       -- after the step the span is open with the taken index written
       open_then : span_of 0 (s.events ++ takes ∷ []) ≡ Open start (takes ∷ [])
-      open_then = span_after 0 index s.events (takes ∷ []) Returning (Passing 0) one_move spanned from
+      open_then = span_after one_move from
 
       -- the store of the next read position keeps what holds between two turns: the first index is taken back
       shows_taken : Shows slots queue s s_taken 0 y_taken latest turns (takes ∷ [])
       shows_taken =
-          let good = completion.take_good slots some few s.completion holds.parts.completion reached index rest first in
-          let placed = takes_it_back slots s.claims s.submission.waiting s.completion.waiting s.book s.events holds.parts.placed index below rest first in
-          let tells =
-          silent_tells queue (is_reclaiming s.events) s.submission.waiting s.completion.waiting rest (takes ∷ [])
-          refl refl refl (append-nil s.completion.waiting ∙ first) in
+          let good = completion.take_good holds.parts reached index rest first in
+          let placed = takes_it_back holds.parts.placed index below rest first in
+          let tells : Tells queue (is_reclaiming s.events) s.submission.waiting s.submission.waiting s.completion.waiting rest (takes ∷ []) =
+          silent_tells (takes ∷ []) refl refl refl (append-nil s.completion.waiting ∙ first) in
           let passing =
-          carried 0 index s.events (takes ∷ []) Returning (Passing 0) one_move spanned from holds.passing (λ i ne. none_carried i)
+          carried one_move from holds.passing (λ i ne. none_carried i)
           (λ q e. (sym (passing_same 0 q e), (refl, refl))) in
           grind (arith, open_then, sends_now, same_receiver, one_move, idle, calm, below, was_returning)
 
       -- the store of the next read position leads the take-back on to release that index
       takes_it : IsOn queued (pop_asks store_of_read) → x.steps ≤ 3 → StepTo s_taken store_of_read (GoOn frees_at) (effects.TakesBack index)
       takes_it on steps =
-          let words = words_are store_of_read without on (completion.take_words slots some few s.completion holds.parts.completion reached index rest first) in
-          let there = now_there 0 index s.events (takes ∷ []) Returning (Passing 0) one_move in
+          let words = words_are store_of_read without on (completion.take_words holds.parts reached index rest first) in
+          let there = now_there one_move in
           let others =
           others_beside slots queue s s_taken refl refl (λ room stage known. known) (take_keeps one_word slots s.completion index rest first)
-          (λ q ne. passes_on 0 index s.events (takes ∷ []) Returning (Passing 0) one_move q (returning_passes q)) in
+          (λ q ne. passes_on one_move q (returning_passes q)) in
           grind (arith, shows_taken, open_then, below)
 
     -- ---- each stage of a take-back
@@ -280,12 +286,12 @@ module _ {T : Type 0} (scene : Scene T) where
             let zero = none in
             let both : (slots == 0 || s.completion.write == s.completion.read) ≡ true = rw (zero, e) refl in
             does_by s_none load_of_write room (Done answers.PoppedNone) (ap (goes load_of_write room) (old_is load_of_write on) ∙ (rw both refl))
-            (finds_none (completion.finds_none slots some few s.completion holds.parts.completion reached e) on steps)
+            (finds_none (completion.finds_none holds.parts reached e) on steps)
         -- an index is to be taken back: the take-back goes on to load its cell
         go false e =
             let zero = none in
             let both : (slots == 0 || s.completion.write == s.completion.read) ≡ false = rw (zero, e) refl in
-            let ahead = completion.finds_some slots some few s.completion holds.parts.completion reached e in
+            let ahead = completion.finds_some holds.parts reached e in
             let write = holds.parts.completion.write in
             let front = completion.first_of s.completion.waiting (omega arith) in
             let known : KnowsPop one_word slots s.completion (in_one room) load_of_cell =
@@ -297,10 +303,10 @@ module _ {T : Type 0} (scene : Scene T) where
     -- the load of the cell finds the first index, and leads on to the store of the read position
     loads_cell : (room : OneWord) (v : ℕ) (rest : List ℕ) → s.completion.waiting ≡ v ∷ rest → x.steps ≤ 2 → StageKeeps load_of_cell room
     loads_cell room v rest first steps =
-        let cell_within = completion.cell_on slots some few s.completion holds.parts.completion reached s.completion.read in
+        let cell_within = completion.cell_on holds.parts reached s.completion.read in
         let value : old load_of_cell ≡ v =
         old_is load_of_cell cell_within
-        ∙ completion.first_is slots some few s.completion holds.parts.completion reached v rest first in
+        ∙ completion.first_is holds.parts reached v rest first in
         does_by still load_of_cell room (GoOn (pops_at slots queue (pops.StoresRead s.completion.read) (word_of v)))
         (ap (goes load_of_cell room) value) (goes_on load_of_cell (pops.StoresRead s.completion.read) (word_of v) cell_within
         (set-get_or queued (word_at (cell_word slots 1 s.completion.read) 0) 0) (rest, refl, first) (omega arith))

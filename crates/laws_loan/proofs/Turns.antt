@@ -9,34 +9,37 @@ use Rattle.laws_loan.proofs.Channel.{Channel, Holds}
 use Rattle.laws_loan.proofs.Invariant.{Hangs, sends_at, counted_for, hung, reclaims_in, Carries, HoldsNow}
 use Rattle.laws_loan.proofs.QueueEvents.{is_reclaiming, Told, Tells, told_more}
 
-module _ {T : Type 0} (slots queue : ℕ) (s s' : Channel T) (p : ℕ) (y : Party T) (latest : List (ℕ × Party T)) (turns : ℕ) (es : List (Event T)) where
-  -- What a turn of the party `p` shows, from the channel `s` to `s'`, after which the party is `y`, with
-  -- the events `es`.
-  pub record Shows : Type 0 where
-    -- the parts of the channel hold what they held, and the events tell of the queues what they then hold
-    pub events : s'.events ≡ s.events ++ es
-    pub parts : Holds slots queue s' (counted_for (sends_at (put p y latest)))
-    pub tells : Tells queue (is_reclaiming s.events) s.submission.waiting s'.submission.waiting s.completion.waiting s'.completion.waiting es
-    -- more than the capacity wait only while a send waits, and the events say whether a reclaim is under way
-    pub hangs : Hangs queue s'.submission (hung s'.submission.read (sends_at (put p y latest)))
-    pub reclaiming : fold reclaims_after (is_reclaiming s.events) es ≡ reclaims_in (span_of 0 (s.events ++ es))
-    -- positions and the receiver's number go up by at most one
-    pub sent : s'.submission.write ≤ turns + 1
-    pub given : s'.completion.write ≤ turns + 1
-    pub receivers : (receiver_of s.events ≤ receiver_of (s.events ++ es)) × (receiver_of (s.events ++ es) ≤ receiver_of s.events + 1)
-    -- moves, begins and answers are right, and each index in passing is carried by the span
-    -- of its party's call
-    pub moves : AreRight (MovesRight slots) s.events es
-    pub begins : AreRight BeginsRight s.events es
-    pub answers : AreRight (AnswersRight slots) s.events es
-    pub passing : (index q : ℕ) → spot_of index (s.events ++ es) ≡ Passing q → Carries index (span_of q (s.events ++ es))
+-- What a turn of the party `p` shows, from the channel `s` to `s'`, after which the party is `y`, with
+-- the events `es`.
+pub record Shows {T : Type 0} (slots queue : ℕ) (s s' : Channel T) (p : ℕ) (y : Party T)
+    (latest : List (ℕ × Party T)) (turns : ℕ) (es : List (Event T)) : Type 0 where
+  -- after the turn the parts of the channel hold what they are to hold, and the events tell of the queues what they then hold
+  pub events : s'.events ≡ s.events ++ es
+  pub parts : Holds slots queue s' (counted_for (sends_at (put p y latest)))
+  pub tells : Tells queue (is_reclaiming s.events) s.submission.waiting s'.submission.waiting s.completion.waiting s'.completion.waiting es
+  -- more than the capacity wait only while a send waits, and the events say whether a reclaim is under way
+  pub hangs : Hangs queue s'.submission (hung s'.submission.read (sends_at (put p y latest)))
+  pub reclaiming : fold reclaims_after (is_reclaiming s.events) es ≡ reclaims_in (span_of 0 (s.events ++ es))
+  -- the write positions are at most the number of turns with this one, and the receiver's number goes up by at most one
+  pub sent : s'.submission.write ≤ turns + 1
+  pub given : s'.completion.write ≤ turns + 1
+  pub receivers : (receiver_of s.events ≤ receiver_of (s.events ++ es)) × (receiver_of (s.events ++ es) ≤ receiver_of s.events + 1)
+  -- moves, begins and answers are right, and each index in passing is carried by the span
+  -- of its party's call
+  pub moves : AreRight (MovesRight slots) s.events es
+  pub begins : AreRight BeginsRight s.events es
+  pub answers : AreRight (AnswersRight slots) s.events es
+  pub passing : (index q : ℕ) → spot_of index (s.events ++ es) ≡ Passing q → Carries index (span_of q (s.events ++ es))
 
+-- what holds before the turn and what the turn shows give what holds after it
+module _ {T : Type 0} {slots queue : ℕ} {s s' : Channel T} {p : ℕ} {y : Party T} {latest : List (ℕ × Party T)} {turns : ℕ} {es : List (Event T)} where
   -- what holds between two turns holds after a turn that shows this
-  pub now_more : HoldsNow slots queue s latest s.events turns → Shows → HoldsNow slots queue s' (put p y latest) (s.events ++ es) (turns + 1)
+  pub now_more : HoldsNow slots queue s latest s.events turns → Shows slots queue s s' p y latest turns es
+      → HoldsNow slots queue s' (put p y latest) (s.events ++ es) (turns + 1)
   now_more holds_now shows =
       let told =
       subst (Told queue s'.submission.waiting s'.completion.waiting) (sym shows.events)
-      (told_more queue s.submission.waiting s'.submission.waiting s.completion.waiting s'.completion.waiting s.events es holds_now.told shows.tells) in
+      (told_more holds_now.told shows.tells) in
       let reclaiming = fold-append reclaims_after false s.events es in
       let moves = Each-append (MovesRight slots) s.events es holds_now.moves shows.moves in
       let begins = Each-append BeginsRight s.events es holds_now.begins shows.begins in

@@ -13,7 +13,7 @@ use Rattle.model.specs.Families.Queues.Reading.{publishes}
 use Rattle.model.specs.Parties.{party_of}
 use Rattle.model.proofs.Frame as frame
 use Rattle.laws_loan.proofs.Channel.{Channel, words_in}
-use Rattle.laws_loan.proofs.Invariant.{sends_at, counted_for, hung, reclaims_in, Carries, HoldsNow, family}
+use Rattle.laws_loan.proofs.Invariant.{sends_at, hung, reclaims_in, Carries, HoldsNow, family}
 use Rattle.laws_loan.proofs.Knows.{send_of, At}
 use Rattle.laws_loan.proofs.Parts.{submission_long, submission_old}
 use Rattle.laws_loan.proofs.Still.{AreStill}
@@ -79,8 +79,8 @@ module _ {T : Type 0} (code : Coding T) (slots queue : ℕ) (s : Channel T) wher
     -- the words have the read position of the submission queue
     read_is : read_in (submission_word slots) (words_in s) ≡ s.submission.read
     read_is =
-        submission_old slots queue s (counted_for (sends_at latest)) holds.parts (load 1)
-        (let wide = submission_long slots queue s (counted_for (sends_at latest)) holds.parts in omega arith)
+        submission_old holds.parts (load 1)
+        (let wide = submission_long holds.parts in omega arith)
 
     -- the send that waits by the words of the whole is the one that waits by the state, of
     -- each call of a channel

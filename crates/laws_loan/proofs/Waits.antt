@@ -75,7 +75,7 @@ module _ {T : Type 0} (code : Coding T) (slots queue : ℕ) (s : Channel T) (bus
       ap (given_back_in code slots queue) one
       ∙ (ap (waiting_in code IndexQueue slots)
       (drop_at (s.set ++ layout no_roles s.submission) (layout no_roles s.completion) (completion_word slots queue)
-      (both_long slots queue s busy holds))
+      (both_long holds))
       ∙ (ap (waiting_in code IndexQueue slots) (sym (append-nil (layout no_roles s.completion)))
       ∙ waits_in code IndexQueue (λ words cell. refl) refl slots s.completion [] holds.completion))
 

@@ -84,6 +84,7 @@ module _ (T : Type 0) where
 module _ {T : Type 0} where
   -- ---- a step of a call of the set
 
+  -- a call of party p takes a step on a machine with these words, where these owners are dead
   module _ (code : Coding T) (words : List ℕ) (beside : Option (ℕ × ℕ)) (p changes since : ℕ) (dead : List ℕ) where
     -- the step of the call, where the word that it asks for has the value `old`
     abbrev stepped : Start T → Flight T → ℕ → Step (Flight T) (Registry T) T

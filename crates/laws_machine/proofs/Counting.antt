@@ -116,6 +116,7 @@ module _ {T : Type 0} (terms : Terms) (t : Trace T) (s : frame.Sound (family_by 
   same_answer (GoOn flight) = refl
   same_answer (Done answer) = refl
 
+  -- a turn of party p asks for `ask`, and hands `answer` to the party's call
   module _ (p : ℕ) (turn : Turn T) (mine : IsParty turn p) (answer : ℕ)
       (ask : Option Ask) (asks : ask_in t.world turn ≡ ask) where
     -- where a turn raises the word by what the end of its call counts for, the word counts
@@ -141,7 +142,8 @@ module _ {T : Type 0} (terms : Terms) (t : Trace T) (s : frame.Sound (family_by 
         → StandsThere fam t s p x since start flight → ask_in t.world (Next p) ≡ ask_of (want_of t.world.coding flight)
         → Wrote p (Next p) (old_of s.state.words (ask_of (want_of t.world.coding flight))) now_kept start flight → CountsChanges (after_turn t (Next p))
     by_step {x} {since} found {start = (Container start)} {flight = (flights.Container flight)} stands asks wrote =
-        let there = is_there shown terms t.world.coding c t s p x since found start flight stands in
+        let laws_say = is_there shown terms t.world.coding c t s in
+        let there = laws_say p x since found start flight stands in
         counted p (Next p) refl (old_of s.state.words (ask_of (want t.world.coding flight))) (ask_of (want t.world.coding flight)) asks start flight wrote
         (step_counts t.world.coding c s.state.words (state_of p s.state.states) p _ _ start flight there.at
         raised (old_of s.state.words (ask_of (want t.world.coding flight))))
@@ -171,7 +173,8 @@ module _ {T : Type 0} (terms : Terms) (t : Trace T) (s : frame.Sound (family_by 
         → is_question (want_of t.world.coding flight) ≡ true
         → Wrote p (Decide p said) (number_of said) now_kept start flight → CountsChanges (after_turn t (Decide p said))
     by_decision {x} {since} found {start = (Container start)} {flight = (flights.Container flight)} stands due wrote =
-        let there = is_there shown terms t.world.coding c t s p x since found start flight stands in
+        let laws_say = is_there shown terms t.world.coding c t s in
+        let there = laws_say p x since found start flight stands in
         let none = decision_counts t.world.coding (state_of p s.state.states) p (number_of said) start flight c t.world.coding.size _ _ there.at due in
         counted p (Decide p said) refl (number_of said) None refl start flight wrote (omega arith)
     by_decision found stands due wrote = absurd stands.at

@@ -37,8 +37,8 @@ module _ {T : Type 0} (terms : Terms) {t : Trace T} (s : frame.Sound (family_by 
     -- the step of a call under way leaves what the table of steps says
     goes_so : (answer : ℕ) → (step_in w p call.party flight answer).after ≡ goes_of w.coding p flight answer w.kept
     goes_so answer =
-        told terms w.coding w.coding w.capacity w.words (beside_of w.words w.kept w.latest p) s.state p
-        call.party.start flight answer w.kept s.fit.kept call.there.at
+        let goes = told terms w.coding w.coding w.capacity w.words (beside_of w.words w.kept w.latest p) s.state p in
+        goes call.party.start flight answer w.kept s.fit.kept call.there.at
 
     -- after a step the party's call is what the table leaves of it, for the old value of the
     -- word that it asked for

@@ -146,8 +146,19 @@ module _ {T : Type 0} where
       → FlightKnows c p (left_by (any_call (as_call f g (went_on h given room a)))) es
   goes_known = grind arith
 
--- in a machine of the robust set that turns have reached
-module _ {T : Type 0} (t : Trace T) (kind_is : t.world.kind ≡ kinds.Robust) (reached : IsReached t) where
+-- a party of a machine of the robust set, which turns have reached, so few that no counter is at its end
+pub record Caller {T : Type 0} (t : Trace T) : Type 0 where
+  pub kind_is : t.world.kind ≡ kinds.Robust
+  pub reached : IsReached t
+  pub p : ℕ
+  pub x : Party T
+  pub since : ℕ
+  pub small : t.world.turns < 2 ^ 64 - 2
+  pub found : party_of p t.world.latest ≡ Some x
+
+module _ {T : Type 0} {t : Trace T} (caller : Caller t) where
+  open caller use {kind_is, reached, p, x, since, small, found}
+
   abbrev c : ℕ
   c = t.world.capacity
 
@@ -157,83 +168,82 @@ module _ {T : Type 0} (t : Trace T) (kind_is : t.world.kind ≡ kinds.Robust) (r
   abbrev s : sound
   s = reached_sound t kind_is reached
 
-  module _ (p : ℕ) (x : Party T) (since : ℕ) (small : t.world.turns < 2 ^ 64 - 2) (found : party_of p t.world.latest ≡ Some x) where
-    abbrev scene : Scene T
-    scene = scene_of Death t.world.coding t.world.capacity t s p x since
+  abbrev scene : Scene T
+  scene = scene_of Death t.world.coding t.world.capacity t s p x since
 
-    -- the invariant of the set holds before the step
-    inv : Inv scene
-    inv = inv_of Death t.world.coding t.world.capacity t s p x since found small
+  -- the invariant of the set holds before the step
+  inv : Inv scene
+  inv = let holds_for = inv_of Death t.world.coding t.world.capacity t s in holds_for p x since found small
 
-    -- what the call of `p` knows of the events so far
-    abbrev KnowsNow : RobustFlight → Type 0
-    KnowsNow call = CallKnows c p call t.events
+  -- what the call of `p` knows of the events so far
+  abbrev KnowsNow : RobustFlight → Type 0
+  KnowsNow call = CallKnows c p call t.events
 
-    -- the step of a call that knows what its stage says leaves what `Leaves` asks
-    abbrev StepLeaves : RobustStart → RobustFlight → Type 0
-    StepLeaves start call = Knows c call (now scene) → KnowsNow call → Leaves c p t.events start call (old_of s.state.words (ask_of (want call)))
+  -- the step of a call that knows what its stage says leaves what `Leaves` asks
+  abbrev StepLeaves : RobustStart → RobustFlight → Type 0
+  StepLeaves start call = Knows c call (now scene) → KnowsNow call → Leaves c p t.events start call (old_of s.state.words (ask_of (want call)))
 
-    -- a step of a recovery leaves what `Leaves` asks
-    recover_leaves : (mode : ReleaseMode) → IsHere scene (starts.Recover mode) → (stage : RecoverStage)
-        → RecoverAt c mode (all scene) stage → StepLeaves (starts.Recover mode) (recover_at c mode stage)
-    recover_leaves mode here stage at k h =
-        recovered c p t.events mode stage (old_of s.state.words (ask_of (recover_asks stage))) (steps inv mode here refl stage at k h)
+  -- a step of a recovery leaves what `Leaves` asks
+  recover_leaves : (mode : ReleaseMode) → IsHere scene (starts.Recover mode) → (stage : RecoverStage)
+      → RecoverAt c mode (all scene) stage → StepLeaves (starts.Recover mode) (recover_at c mode stage)
+  recover_leaves mode here stage at k h =
+      recovered c p t.events mode stage (old_of s.state.words (ask_of (recover_asks stage))) (steps inv mode here refl stage at k h)
 
-    -- a step of any other call leaves what `Leaves` asks
-    others_leave : (start : RobustStart) (call : RobustFlight) (answer : ℕ) → At c (all scene) start call
-        → ((mode : ReleaseMode) → start ≢ starts.Recover mode) → Leaves c p t.events start call answer
-    others_leave = grind (arith, freely, goes_known, as_it_is)
+  -- a step of any other call leaves what `Leaves` asks
+  others_leave : (start : RobustStart) (call : RobustFlight) (answer : ℕ) → At c (all scene) start call
+      → ((mode : ReleaseMode) → start ≢ starts.Recover mode) → Leaves c p t.events start call answer
+  others_leave = grind (arith, freely, goes_known, as_it_is)
 
-    -- a step of any call leaves what `Leaves` asks, where the call stands at its stage and
-    -- knows what the stage says
-    pub step_leaves : (start : RobustStart) (call : RobustFlight) → IsHere scene start → At c (all scene) start call → StepLeaves start call
-    step_leaves (starts.Recover mode) (calls.Recover run) here at =
-        subst (StepLeaves (starts.Recover mode))
-        (sym (ap (λ n. recover_at n run.given run.call.stage) at.0 ∙ ap (λ m. recover_at c m run.call.stage) at.1))
-        (recover_leaves mode here run.call.stage at.2)
-    step_leaves (starts.Acquire owner) call here at =
-        λ k h. others_leave (starts.Acquire owner) call (old_of s.state.words (ask_of (want call))) at (λ mode e. absurd (cc))
-    step_leaves (starts.Release index owner mode) call here at =
-        λ k h. others_leave (starts.Release index owner mode) call
-        (old_of s.state.words (ask_of (want call))) at (λ mode e. absurd (cc))
-    step_leaves (starts.Find owner) call here at =
-        λ k h. others_leave (starts.Find owner) call (old_of s.state.words (ask_of (want call))) at (λ mode e. absurd (cc))
-    step_leaves starts.BorrowedIndices call here at =
-        λ k h. others_leave starts.BorrowedIndices call (old_of s.state.words (ask_of (want call))) at (λ mode e. absurd (cc))
-    step_leaves starts.IsLocked call here at =
-        λ k h. others_leave starts.IsLocked call (old_of s.state.words (ask_of (want call))) at (λ mode e. absurd (cc))
-    step_leaves start call here at = absurd at
+  -- a step of any call leaves what `Leaves` asks, where the call stands at its stage and
+  -- knows what the stage says
+  pub step_leaves : (start : RobustStart) (call : RobustFlight) → IsHere scene start → At c (all scene) start call → StepLeaves start call
+  step_leaves (starts.Recover mode) (calls.Recover run) here at =
+      subst (StepLeaves (starts.Recover mode))
+      (sym (ap (λ n. recover_at n run.given run.call.stage) at.0 ∙ ap (λ m. recover_at c m run.call.stage) at.1))
+      (recover_leaves mode here run.call.stage at.2)
+  step_leaves (starts.Acquire owner) call here at =
+      λ k h. others_leave (starts.Acquire owner) call (old_of s.state.words (ask_of (want call))) at (λ mode e. absurd (cc))
+  step_leaves (starts.Release index owner mode) call here at =
+      λ k h. others_leave (starts.Release index owner mode) call
+      (old_of s.state.words (ask_of (want call))) at (λ mode e. absurd (cc))
+  step_leaves (starts.Find owner) call here at =
+      λ k h. others_leave (starts.Find owner) call (old_of s.state.words (ask_of (want call))) at (λ mode e. absurd (cc))
+  step_leaves starts.BorrowedIndices call here at =
+      λ k h. others_leave starts.BorrowedIndices call (old_of s.state.words (ask_of (want call))) at (λ mode e. absurd (cc))
+  step_leaves starts.IsLocked call here at =
+      λ k h. others_leave starts.IsLocked call (old_of s.state.words (ask_of (want call))) at (λ mode e. absurd (cc))
+  step_leaves start call here at = absurd at
 
-    -- a decision for a call that waits for one leaves what `Leaves` asks
-    abbrev DecisionLeaves : ℕ → RobustStart → RobustFlight → Type 0
-    DecisionLeaves answer start call = is_question (want call) ≡ true → KnowsNow call → Leaves c p t.events start call answer
+  -- a decision for a call that waits for one leaves what `Leaves` asks
+  abbrev DecisionLeaves : ℕ → RobustStart → RobustFlight → Type 0
+  DecisionLeaves answer start call = is_question (want call) ≡ true → KnowsNow call → Leaves c p t.events start call answer
 
-    -- a decision for a recovery leaves what `Leaves` asks
-    recover_decides : (answer : ℕ) (mode : ReleaseMode) → IsHere scene (starts.Recover mode)
-        → (stage : RecoverStage) → DecisionLeaves answer (starts.Recover mode) (recover_at c mode stage)
-    recover_decides answer mode here recovers.LoadsCounter due h = absurd (cc)
-    recover_decides answer mode here (recovers.LoadsCell index) due h = absurd (cc)
-    recover_decides answer mode here (recovers.Asks index owner) due h =
-        recovered c p t.events mode (recovers.Asks index owner) answer (decided inv mode here refl index owner answer h)
-    recover_decides answer mode here (recovers.EmptiesCell index owner) due h = absurd (cc)
-    recover_decides answer mode here (recovers.Raises index raise) due h = both_ways (is_question (raise_want raise)) (raise_asks_none raise) due
-    recover_decides answer mode here (recovers.Locks index lock) due h = both_ways (is_question (lock_want lock)) (lock_asks_none lock) due
-    recover_decides answer mode here recovers.LoadsCounterAgain due h = absurd (cc)
+  -- a decision for a recovery leaves what `Leaves` asks
+  recover_decides : (answer : ℕ) (mode : ReleaseMode) → IsHere scene (starts.Recover mode)
+      → (stage : RecoverStage) → DecisionLeaves answer (starts.Recover mode) (recover_at c mode stage)
+  recover_decides answer mode here recovers.LoadsCounter due h = absurd (cc)
+  recover_decides answer mode here (recovers.LoadsCell index) due h = absurd (cc)
+  recover_decides answer mode here (recovers.Asks index owner) due h =
+      recovered c p t.events mode (recovers.Asks index owner) answer (decided inv mode here refl index owner answer h)
+  recover_decides answer mode here (recovers.EmptiesCell index owner) due h = absurd (cc)
+  recover_decides answer mode here (recovers.Raises index raise) due h = both_ways (is_question (raise_want raise)) (raise_asks_none raise) due
+  recover_decides answer mode here (recovers.Locks index lock) due h = both_ways (is_question (lock_want lock)) (lock_asks_none lock) due
+  recover_decides answer mode here recovers.LoadsCounterAgain due h = absurd (cc)
 
-    -- a decision for any call leaves what `Leaves` asks
-    pub decision_leaves : (answer : ℕ) (start : RobustStart) (call : RobustFlight) → IsHere scene start
-        → At c (all scene) start call → DecisionLeaves answer start call
-    decision_leaves answer (starts.Recover mode) (calls.Recover run) here at =
-        subst (DecisionLeaves answer (starts.Recover mode))
-        (sym (ap (λ n. recover_at n run.given run.call.stage) at.0 ∙ ap (λ m. recover_at c m run.call.stage) at.1))
-        (recover_decides answer mode here run.call.stage)
-    decision_leaves answer (starts.Acquire owner) call here at =
-        λ due h. others_leave (starts.Acquire owner) call answer at (λ mode e. absurd (cc))
-    decision_leaves answer (starts.Release index owner mode) call here at =
-        λ due h. others_leave (starts.Release index owner mode) call answer at (λ mode e. absurd (cc))
-    decision_leaves answer (starts.Find owner) call here at =
-        λ due h. others_leave (starts.Find owner) call answer at (λ mode e. absurd (cc))
-    decision_leaves answer starts.BorrowedIndices call here at =
-        λ due h. others_leave starts.BorrowedIndices call answer at (λ mode e. absurd (cc))
-    decision_leaves answer starts.IsLocked call here at = λ due h. others_leave starts.IsLocked call answer at (λ mode e. absurd (cc))
-    decision_leaves answer start call here at = absurd at
+  -- a decision for any call leaves what `Leaves` asks
+  pub decision_leaves : (answer : ℕ) (start : RobustStart) (call : RobustFlight) → IsHere scene start
+      → At c (all scene) start call → DecisionLeaves answer start call
+  decision_leaves answer (starts.Recover mode) (calls.Recover run) here at =
+      subst (DecisionLeaves answer (starts.Recover mode))
+      (sym (ap (λ n. recover_at n run.given run.call.stage) at.0 ∙ ap (λ m. recover_at c m run.call.stage) at.1))
+      (recover_decides answer mode here run.call.stage)
+  decision_leaves answer (starts.Acquire owner) call here at =
+      λ due h. others_leave (starts.Acquire owner) call answer at (λ mode e. absurd (cc))
+  decision_leaves answer (starts.Release index owner mode) call here at =
+      λ due h. others_leave (starts.Release index owner mode) call answer at (λ mode e. absurd (cc))
+  decision_leaves answer (starts.Find owner) call here at =
+      λ due h. others_leave (starts.Find owner) call answer at (λ mode e. absurd (cc))
+  decision_leaves answer starts.BorrowedIndices call here at =
+      λ due h. others_leave starts.BorrowedIndices call answer at (λ mode e. absurd (cc))
+  decision_leaves answer starts.IsLocked call here at = λ due h. others_leave starts.IsLocked call answer at (λ mode e. absurd (cc))
+  decision_leaves answer start call here at = absurd at

@@ -38,16 +38,19 @@ module _ {T : Type 0} where
 
   -- ---- after events in which the party frees nothing
 
+  -- with the events `es` the party begins no call, and frees no index that it had not freed
   module _ (p : ℕ) (events es : List (Event T)) (none : BeginsNone p es)
       (frees : (i owner : ℕ) → IsOneOf (Frees i owner) (set_acts_of p (events ++ es)) → IsOneOf (Frees i owner) (set_acts_of p events)) where
     -- what is settled of the party's recovery stays so as events are added
     pub settled_then : (mode : ReleaseMode) → Settled mode p events → Settled mode p (events ++ es)
     settled_then mode settled owner =
-        filled_then p owner ⊥ ⊥ (λ worn. worn) mode NoIndex NoIndex events es none
+        let stays_filled = filled_then p owner ⊥ ⊥ (λ worn. worn) mode NoIndex NoIndex in
+        stays_filled events es none
         (λ i was. inl (frees i owner was)) (λ i never. never) (locked_later events es) (settled owner)
 
   -- ---- after a turn of another party
 
+  -- with the events `es` the party begins no call, and its set acts stay as they were
   module _ (c p : ℕ) (events es : List (Event T)) (none : BeginsNone p es) (same : set_acts_of p (events ++ es) ≡ set_acts_of p events) where
     -- what is settled in a mode stays so as events are added
     still : (mode : ReleaseMode) → Settled mode p events → Settled mode p (events ++ es)

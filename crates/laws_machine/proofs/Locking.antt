@@ -1,7 +1,7 @@
 -- In every reached machine, a recovery of the robust set in mode LockIfLastIndex that answers Unlocked has
 -- met an index that was filled after each that it freed.
 use Rattle.std.proofs.Common.{arith}
-use Rattle.laws_machine.proofs.Names.{◌≡◌, ⊎_elim, ℕ, Bool, true, Option, Some, None, List, [], ◌∷◌, ◌++◌, refl, sym}
+use Rattle.laws_machine.proofs.Names.{◌<◌, ◌-◌, ◌^◌, ◌≡◌, ⊎_elim, ℕ, Bool, true, Option, Some, None, List, [], ◌∷◌, ◌++◌, refl, sym}
 use Rattle.laws_machine.proofs.Names.{ap, subst, ◌∙◌, cases_eq, ReleaseMode, Event, Begun, Died, Start, Robust, Flight}
 use Rattle.laws_machine.proofs.Names.{Registry, RobustStart, RobustFlight, Party, Turn, Begin, Next, Decide, Die}
 use Rattle.laws_machine.proofs.Names.{want_of, ask_of, is_question, goes_of, beside_of, step_of, set_acts_of}
@@ -24,7 +24,7 @@ use Rattle.laws_robust.proofs.Sound.{reached_sound, is_there}
 use Rattle.laws_robust.proofs.CallProgress.{At, RecoverAt}
 use Rattle.laws_machine.specs.Recoveries.{LocksRight}
 use Rattle.laws_machine.proofs.LockKnows.{StageKnows, CallKnows, FlightKnows, flight_later}
-use Rattle.laws_machine.proofs.LockCalls.{Leaves, all_own, effects_own, step_leaves, decision_leaves}
+use Rattle.laws_machine.proofs.LockCalls.{Caller, Leaves, all_own, effects_own, step_leaves, decision_leaves}
 use Rattle.laws_machine.proofs.Others.{others_stay}
 use Rattle.laws_machine.proofs.CallTransition.{left_by, next_left, decision_left, under_way}
 
@@ -101,6 +101,10 @@ module _ {T : Type 0} (t : Trace T) (is : t.world.kind ≡ kinds.Robust) (reache
           right = Each-append LocksRight t.events (events_of t.world turn) extra.right both.1;
         }
 
+  -- a party that stands in the machine, for the lemmas of its calls
+  abbrev caller : (p : ℕ) (x : Party T) (since : ℕ) → t.world.turns < 2 ^ 64 - 2 → party_of p t.world.latest ≡ Some x → Caller t
+  caller p x since small found = record { kind_is = is; reached = reached; p = p; x = x; since = since; small = small; found = found }
+
   module _ (p : ℕ) (free : refusal_of t.world (Next p) ≡ None) where
     -- a step of a call that stands in the machine keeps `Extra`
     by_step : {x : Party T} {since : ℕ} (found : party_of p t.world.latest ≡ Some x) {start : Start T} {flight : Flight T}
@@ -110,10 +114,11 @@ module _ {T : Type 0} (t : Trace T) (is : t.world.kind ≡ kinds.Robust) (reache
         → Extra (after_turn t (Next p))
     by_step {x} {since} found {start = (Robust start)} {flight = (flights.Robust call)} stands knows comes =
         let small = (passes t.world (Next p) free).turns in
-        let there = is_there Death t.world.coding c t s p x since found start call stands in
+        let laws_say = is_there Death t.world.coding c t s in
+        let there = laws_say p x since found start call stands in
         after_it (Next p) p (λ q its. its) (old_of s.state.words (ask_of (want call)))
         (leaves_it (Next p) p (λ q its. its) (old_of s.state.words (ask_of (want call))) start call
-        (step_leaves t is reached p x since small found start call there.here there.at there.knows knows) comes)
+        (step_leaves (caller p x since small found) start call there.here there.at there.knows knows) comes)
     by_step found stands knows comes = absurd stands.at
 
     -- any step keeps `Extra`
@@ -149,10 +154,11 @@ module _ {T : Type 0} (t : Trace T) (is : t.world.kind ≡ kinds.Robust) (reache
         → Extra (after_turn t (Decide p said))
     by_decision {x} {since} found {start = (Robust start)} {flight = (flights.Robust call)} stands due knows comes =
         let small = (passes t.world (Decide p said) free).turns in
-        let there = is_there Death t.world.coding c t s p x since found start call stands in
+        let laws_say = is_there Death t.world.coding c t s in
+        let there = laws_say p x since found start call stands in
         after_it (Decide p said) p (λ q its. its) (number_of said)
         (leaves_it (Decide p said) p (λ q its. its) (number_of said) start call
-        (decision_leaves t is reached p x since small found (number_of said) start call there.here there.at due knows)
+        (decision_leaves (caller p x since small found) (number_of said) start call there.here there.at due knows)
         comes)
     by_decision found stands due knows comes = absurd stands.at
 

@@ -47,14 +47,33 @@ module _ {T : Type 0} where
 
   -- a call that goes on knows what its stage says, where each call of its kind does; once it has ended,
   -- what its state has seen is what a look has met
-  goes_sees : {C G M E A : Type 0} (s : Seen) (state : Option (ContainerState T))
+  goes_sees : {C G M E A : Type 0} {s : Seen} (state : Option (ContainerState T))
       (f : Running C G M → ContainerFlight T) (g : A → Answer T) (h : E → G → M → A) (given : G) (room : M)
       (a : After C E)
       → ((r : Running C G M) → CallSees (f r) s state) → Within s (seen_number state)
       → FlightSees (left_by (any_call (as_call f g (went_on h given room a)))) s state
   goes_sees = grind arith
 
-module _ {T : Type 0} (code : Coding T) (p : ℕ) (events : List (Event T)) (state : Option (ContainerState T)) (turn : Turn T) (mine : IsParty turn p) where
+-- a call stands at this flight, in a container of some capacity, as the acts of its party so far allow
+pub record StandsAt {T : Type 0} (start : ContainerStart T) (flight : ContainerFlight T) : Type 0 where
+  pub c : ℕ  -- the capacity
+  pub z : ℕ  -- the words of a value
+  pub all : List SetAct
+  pub done : List (Act T)
+  pub stands : At c z all done start flight
+
+-- a turn of the party p, with the events before it and the state that the party has then
+pub record PartyTurn (T : Type 0) : Type 0 where
+  pub code : Coding T
+  pub p : ℕ
+  pub events : List (Event T)
+  pub state : Option (ContainerState T)
+  pub turn : Turn T
+  pub mine : IsParty turn p
+
+module _ {T : Type 0} (party_turn : PartyTurn T) where
+  open party_turn use {code, p, events, state, turn, mine}
+
   -- what the step writes before the end of the call
   abbrev did : ContainerFlight T → ℕ → List (Event T)
   did flight answer = effects code p state flight answer ++ questions p flight answer
@@ -101,50 +120,79 @@ module _ {T : Type 0} (code : Coding T) (p : ℕ) (events : List (Event T)) (sta
     -- a call that is no look leaves what `Leaves` asks, where it knows what its stage says
     freely : ((s : Seen) → Within s (seen_number state) → FlightSees (left_by (any_call (after code state flight answer))) s state)
         → Leaves state start flight answer
-    freely flight_sees = grind (arith, seen_by, within_then, after, right_append, effects_right, all_effects, ends_right)
+    freely flight_sees =
+        let outcome = answer_in (any_call (after code state flight answer)) in
+        let wrote_right = effects_right turn events (did flight answer) (all_effects turn p mine code state flight answer) in
+        record {
+          sees = flight_sees (seen_by p (events ++ wrote_by start flight answer)) (within_then outcome);
+          right = right_append MeetsChanges events (did flight answer) (ending_of p (Container start) outcome) wrote_right (ends_right outcome);
+        }
 
   -- a call that is no look leaves what `Leaves` asks, and its party's state as it was
-  pub others_leave : (c z : ℕ) (all : List SetAct) (done : List (Act T)) (start : ContainerStart T)
-      (flight : ContainerFlight T) (answer : ℕ)
-      → At c z all done start flight → IsNoLook start → Within (seen_by p events) (seen_number state)
+  pub others_leave : (start : ContainerStart T) (flight : ContainerFlight T) (answer : ℕ)
+      → StandsAt start flight → IsNoLook start → Within (seen_by p events) (seen_number state)
       → Leaves state start flight answer
-  others_leave c z all done (starts.Add value owner) (calls.Add run) answer at other within =
+  others_leave (starts.Add value owner) (calls.Add run) answer at other within =
       freely (starts.Add value owner) (calls.Add run) answer tt within
-      (λ s h. goes_sees s state calls.Add added as_it_is run.given run.room
+      (λ s h. goes_sees state calls.Add added as_it_is run.given run.room
       (add_after code.size run.call answer) (λ r. h) h)
-  others_leave c z all done (starts.Remove index owner mode) (calls.Remove run) answer at other within =
+  others_leave (starts.Remove index owner mode) (calls.Remove run) answer at other within =
       freely (starts.Remove index owner mode) (calls.Remove run) answer tt within
-      (λ s h. goes_sees s state calls.Remove removed as_it_is run.given run.room
+      (λ s h. goes_sees state calls.Remove removed as_it_is run.given run.room
       (remove_after run.call run.given answer) (λ r. h) h)
-  others_leave c z all done (starts.Replace index value owner) (calls.Replace run) answer at other within =
+  others_leave (starts.Replace index value owner) (calls.Replace run) answer at other within =
       freely (starts.Replace index value owner) (calls.Replace run) answer tt within
-      (λ s h. goes_sees s state calls.Replace replaced as_it_is run.given run.room
+      (λ s h. goes_sees state calls.Replace replaced as_it_is run.given run.room
       (replace_after code.size run.call run.given answer) (λ r. h) h)
-  others_leave c z all done (starts.Find owner) (calls.Find run) answer at other within =
+  others_leave (starts.Find owner) (calls.Find run) answer at other within =
       freely (starts.Find owner) (calls.Find run) answer tt within
-      (λ s h. goes_sees s state calls.Find Number as_it_is run.given
+      (λ s h. goes_sees state calls.Find Number as_it_is run.given
       (find_kept kept_at run.call run.room answer) (find_after code.size run.call run.given answer) (λ r. h) h)
-  others_leave c z all done (starts.Recover owner mode) (calls.Recover run) answer at other within =
+  others_leave (starts.Recover owner mode) (calls.Recover run) answer at other within =
       freely (starts.Recover owner mode) (calls.Recover run) answer tt within
-      (λ s h. goes_sees s state calls.Recover State as_it_is run.given
+      (λ s h. goes_sees state calls.Recover State as_it_is run.given
       (recover_kept kept_at run.call run.room answer) (recover_after code.size run.call run.given answer) (λ r. h)
       h)
-  others_leave c z all done starts.Len (calls.Count which run) answer at other within =
+  others_leave starts.Len (calls.Count which run) answer at other within =
       freely starts.Len (calls.Count which run) answer tt within
-      (λ s h. goes_sees s state (λ r. calls.Count which r) (counted which) as_it_is run.given run.room (borrowed_after run.call answer) (λ r. h) h)
-  others_leave c z all done starts.IsEmpty (calls.Count which run) answer at other within =
+      (λ s h. goes_sees state (λ r. calls.Count which r) (counted which) as_it_is run.given run.room (borrowed_after run.call answer) (λ r. h) h)
+  others_leave starts.IsEmpty (calls.Count which run) answer at other within =
       freely starts.IsEmpty (calls.Count which run) answer tt within
-      (λ s h. goes_sees s state (λ r. calls.Count which r) (counted which) as_it_is run.given run.room (borrowed_after run.call answer) (λ r. h) h)
-  others_leave c z all done starts.IsLocked (calls.IsLocked run) answer at other within =
+      (λ s h. goes_sees state (λ r. calls.Count which r) (counted which) as_it_is run.given run.room (borrowed_after run.call answer) (λ r. h) h)
+  others_leave starts.IsLocked (calls.IsLocked run) answer at other within =
       freely starts.IsLocked (calls.IsLocked run) answer tt within (λ s h. h)
-  others_leave c z all done starts.GetState flight answer at other within = absurd other
-  others_leave c z all done starts.UpdateState flight answer at other within = absurd other
-  others_leave c z all done start flight answer at other within = absurd at
+  others_leave starts.GetState flight answer at other within = absurd other
+  others_leave starts.UpdateState flight answer at other within = absurd other
+  others_leave start flight answer at other within = absurd at.stands
 
 -- ---- a look
 
-module _ {T : Type 0} (code : Coding T) (p : ℕ) (events : List (Event T)) (st : ContainerState T) (turn : Turn T)
-    (mine : IsParty turn p) (which : LookOf) (call : Look T) (old : ℕ) where
+-- a step of a look in a turn of the party p, which has the state st, and loads `old`
+pub record LookTurn (T : Type 0) : Type 0 where
+  pub code : Coding T
+  pub p : ℕ
+  pub events : List (Event T)
+  pub st : ContainerState T
+  pub turn : Turn T
+  pub mine : IsParty turn p
+  pub call : Look T
+  pub old : ℕ
+
+-- the turn of the look, as one of its party
+abbrev pub of_party : {T : Type 0} → LookTurn T → PartyTurn T
+of_party look_turn =
+    record {
+      code = look_turn.code;
+      p = look_turn.p;
+      events = look_turn.events;
+      state = Some look_turn.st;
+      turn = look_turn.turn;
+      mine = look_turn.mine;
+    }
+
+module _ {T : Type 0} (look_turn : LookTurn T) (which : LookOf) where
+  open look_turn use {code, p, events, st, turn, mine, call, old}
+
   abbrev look : ContainerFlight T
   look = calls.Look which call
 
@@ -158,7 +206,7 @@ module _ {T : Type 0} (code : Coding T) (p : ℕ) (events : List (Event T)) (st 
 
   -- what the step writes before the end of the look
   abbrev look_wrote : List (Event T)
-  look_wrote = did code p events (Some st) turn mine look old
+  look_wrote = did (of_party look_turn) look old
 
   -- what an end of the party's own call makes of `s`
   own_end : (s s' : Seen) → (if p == p then s' else s) ≡ s'
@@ -166,7 +214,7 @@ module _ {T : Type 0} (code : Coding T) (p : ℕ) (events : List (Event T)) (st 
 
   -- the number of changes so far is the one that the party has seen
   changes_now : changes_of (events ++ look_wrote) ≡ now.changes
-  changes_now = sym (changes_are p (events ++ look_wrote)) ∙ ap (λ (s : Seen). s.changes) (seen_did code p events (Some st) turn mine look old)
+  changes_now = sym (changes_are p (events ++ look_wrote)) ∙ ap (λ (s : Seen). s.changes) (seen_did (of_party look_turn) look old)
 
   -- what is to be shown of a step with which the look comes to `r`: it knows what its stage says, and what
   -- the step writes is right
@@ -192,16 +240,17 @@ module _ {T : Type 0} (code : Coding T) (p : ℕ) (events : List (Event T)) (st 
   -- a look that goes on, and knows what its stage says
   goes_on : (start : ContainerStart T) (next : Look T) → Out now shown_then which (GoOn next) → LooksSo start (GoOn next)
   goes_on start next out = (
-    rw (seen_none code p events (Some st) turn mine look old) out,
+    rw (seen_none (of_party look_turn) look old) out,
     on_right,
   )
 
   -- if a look has met the number by what is seen after the end `e`, it has met it by the events with `e` last
   sees_end : (e : Event T) {s' : Seen} {number : ℕ} → seen_after p now e ≡ s' → Within s' number → Within (seen_by p (events ++ (look_wrote ++ e ∷ []))) number
-  sees_end e {number = number} seen_is within = subst (λ s. Within s number) (sym (seen_last code p events (Some st) turn mine look old e ∙ seen_is)) within
+  sees_end e {number = number} seen_is within = subst (λ s. Within s number) (sym (seen_last (of_party look_turn) look old e ∙ seen_is)) within
 
-module _ {T : Type 0} (code : Coding T) (p : ℕ) (events : List (Event T)) (st : ContainerState T) (turn : Turn T)
-    (mine : IsParty turn p) (call : Look T) (old : ℕ) where
+module _ {T : Type 0} (look_turn : LookTurn T) where
+  open look_turn use {code, p, events, st, turn, mine, call, old}
+
   -- the party's state after the step
   abbrev after_it : ContainerState T
   after_it = look_shows code call st old
@@ -212,53 +261,51 @@ module _ {T : Type 0} (code : Coding T) (p : ℕ) (events : List (Event T)) (st 
 
   -- what `LooksSo` asks, of a look of this kind
   abbrev So : LookOf → After (Look T) Bool → Type 0
-  So which r = LooksSo code p events st turn mine which call old (looks_as which) r
+  So which r = LooksSo look_turn which (looks_as which) r
 
   -- where a step of a look has the result that `Out` (SeenLooks) asks for, it leaves what `Leaves` asks
   looks_so : (which : LookOf) (r : After (Look T) Bool) → Out seen_now after_it which r → So which r
-  looks_so which (GoOn next) out = goes_on code p events st turn mine which call old (looks_as which) next out
+  looks_so which (GoOn next) out = goes_on look_turn which (looks_as which) next out
   looks_so kinds.GetState (Done changed) out =
       let end_event : Event T = Finished p (Container starts.GetState) (looked kinds.GetState after_it changed) in (
-        sees_end code p events st turn mine kinds.GetState call old end_event
-            (own_end code p events st turn mine kinds.GetState call old seen_now (up_to_date seen_now)) out,
-        with_end code p events st turn mine kinds.GetState call old end_event tt,
+        sees_end look_turn kinds.GetState end_event
+            (own_end look_turn kinds.GetState seen_now (up_to_date seen_now)) out,
+        with_end look_turn kinds.GetState end_event tt,
       )
   looks_so kinds.UpdateState (Done true) out =
       let end_event : Event T = Finished p (Container starts.UpdateState) (Truth true) in
-      let same = changes_now code p events st turn mine kinds.UpdateState call old in
+      let same = changes_now look_turn kinds.UpdateState in
       let less = out.0 in (
-        sees_end code p events st turn mine kinds.UpdateState call old end_event
-            (own_end code p events st turn mine kinds.UpdateState call old seen_now (up_to_date seen_now))
+        sees_end look_turn kinds.UpdateState end_event
+            (own_end look_turn kinds.UpdateState seen_now (up_to_date seen_now))
             out.1,
-        with_end code p events st turn mine kinds.UpdateState call old end_event
-            (rw (seen_did code p events (Some st) turn mine (calls.Look kinds.UpdateState call) old) (omega arith)),
+        with_end look_turn kinds.UpdateState end_event
+            (rw (seen_did (of_party look_turn) (calls.Look kinds.UpdateState call) old) (omega arith)),
       )
   looks_so kinds.UpdateState (Done false) out =
       let end_event : Event T = Finished p (Container starts.UpdateState) (Truth false) in
-      let same = changes_now code p events st turn mine kinds.UpdateState call old in (
-        sees_end code p events st turn mine kinds.UpdateState call old end_event refl
+      let same = changes_now look_turn kinds.UpdateState in (
+        sees_end look_turn kinds.UpdateState end_event refl
             (within_later seen_now (record seen_now { changes = seen_now.changes + 0 })
             (record { begun = refl; least = refl; most = refl; changes = omega arith }) _ out.1),
-        with_end code p events st turn mine kinds.UpdateState call old end_event
+        with_end look_turn kinds.UpdateState end_event
             (same ∙ (out.0 ∙ ap (λ (s : Seen). s.most)
-            (sym (seen_did code p events (Some st) turn mine (calls.Look kinds.UpdateState call) old)))),
+            (sym (seen_did (of_party look_turn) (calls.Look kinds.UpdateState call) old)))),
       )
 
   -- each step of a look leaves what `Leaves` asks, where its first load finds the number of changes
   pub look_leaves : (which : LookOf) → LookSees which call.stage seen_now (Some st) → (call.stage ≡ stages.LoadsChange → old ≡ seen_now.changes)
-      → Leaves code p events (Some st) turn mine
+      → Leaves (of_party look_turn)
       (Some (settled_if (look_steps.look_after code.size call st.seen old) after_it)) (looks_as which)
       (calls.Look which call) old
   look_leaves which sees loads =
-      let h =
-      looks_so which (look_steps.look_after code.size call st.seen old)
-      (step_out code.value_of code.size seen_now call call.stage st which old sees loads) in
-      record { sees = h.0; right = h.1 }
+      let out = step_out code.value_of code.size seen_now call in
+      let (what_it_sees, what_is_right) =
+      looks_so which (look_steps.look_after code.size call st.seen old) (out call.stage st which old sees loads) in
+      record { sees = what_it_sees; right = what_is_right }
 
--- a look of a party that has no state leaves what `Leaves` asks, and changes nothing
-module _ {T : Type 0} (code : Coding T) (p : ℕ) (events : List (Event T)) (turn : Turn T) (mine : IsParty turn p)
-    (call : Look T) (old : ℕ) (which : LookOf) where
-  -- a look that goes on leaves what is to be shown of its step
-  pub look_stays : (start : ContainerStart T) → LookSees {T = T} which call.stage (seen_by p events) None
-      → Leaves code p events None turn mine None start (calls.Look which call) old
-  look_stays = grind (arith, seen_by, append-nil)
+-- a look of a party that has no state leaves what `Leaves` asks, and its party has no state after it
+pub look_stays : {T : Type 0} (party_turn : PartyTurn T) → party_turn.state ≡ None → (call : Look T) (old : ℕ) (which : LookOf) (start : ContainerStart T)
+    → LookSees {T = T} which call.stage (seen_by party_turn.p party_turn.events) None
+    → Leaves party_turn None start (calls.Look which call) old
+look_stays = grind (arith, seen_by, append-nil)

@@ -33,7 +33,7 @@ use Rattle.laws_container.proofs.Terms.{Terms}
 use Rattle.laws_machine.specs.Changes.{Seen, seen_by, CountsChanges, MeetsChanges}
 use Rattle.laws_machine.proofs.Leaving.{next_leaves, decision_leaves}
 use Rattle.laws_machine.proofs.Others.{others_stay}
-use Rattle.laws_machine.proofs.SeenCalls.{Leaves, wrote_by, others_leave, look_leaves, look_stays}
+use Rattle.laws_machine.proofs.SeenCalls.{PartyTurn, Leaves, wrote_by, others_leave, look_leaves, look_stays}
 use Rattle.laws_machine.proofs.SeenKnows.{Within, Grows, LookSees, CallSees, FlightSees, seen_number, changes_are, others_grow, sees_later, IsNoLook}
 use Rattle.laws_machine.proofs.CallTransition.{left_by, under_way}
 use Rattle.laws_machine.proofs.Taken.{decides}
@@ -45,6 +45,17 @@ module _ {T : Type 0} where
   pub record Extra (t : Trace T) : Type 0 where
     pub known : (p : ℕ) → FlightSees (flight_in t.world p) (seen_by p t.events) (state_in t.world.kept p)
     pub right : Each MeetsChanges t.events
+
+-- an allowed turn of the party p alone, which is no look of another party; `answer` is what it hands to the
+-- party's call
+pub record OwnTurn {T : Type 0} (t : Trace T) : Type 0 where
+  pub turn : Turn T
+  pub free : IsAllowed t.world turn
+  pub p : ℕ
+  pub its : IsParty turn p
+  pub mine : (q : ℕ) → IsParty turn q → q ≡ p
+  pub still : (q : ℕ) → q ≢ p → is_look_of t.world q turn ≡ false
+  pub answer : ℕ
 
 module _ {T : Type 0} {terms : Terms} {t : Trace T} (s : frame.Sound (family_by terms t.world.coding t.world.capacity) t)
     (may : MayGoOn terms t) (counts : CountsChanges t) (extra : Extra t) where
@@ -119,10 +130,9 @@ module _ {T : Type 0} {terms : Terms} {t : Trace T} (s : frame.Sound (family_by 
       effect_own (Died o) is_effect = absurd is_effect
       effect_own e is_effect = by_whose (whose e) is_effect refl
 
-  -- the turn is of the party `p` alone, and no look of another party
-  module _ (turn : Turn T) (free : IsAllowed t.world turn) (p : ℕ) (its : IsParty turn p)
-      (mine : (q : ℕ) → IsParty turn q → q ≡ p) (still : (q : ℕ) → q ≢ p → is_look_of t.world q turn ≡ false)
-      (answer : ℕ) where
+  module _ (own_turn : OwnTurn t) where
+    open own_turn use {turn, free, p, its, mine, still, answer}
+
     -- what the turn leaves of the party's call, and what it writes, are as that call's step says
     abbrev TurnIsStep : Registry T → Start T → Flight T → Type 0
     TurnIsStep kept start flight =
@@ -137,14 +147,18 @@ module _ {T : Type 0} {terms : Terms} {t : Trace T} (s : frame.Sound (family_by 
     abbrev state : Option (ContainerState T)
     state = state_of p s.state.states
 
+    -- the turn, as one of the party with this state
+    abbrev turn_with : Option (ContainerState T) → PartyTurn T
+    turn_with o = record { code = t.world.coding; p = p; events = t.events; state = o; turn = turn; mine = its }
+
     -- where the step leaves what `Leaves` asks, with the state that the registry then has,
     -- the turn keeps `Extra`
     leaves_it : {start : ContainerStart T} {flight : ContainerFlight T} {new : Option (ContainerState T)}
-        → Leaves t.world.coding p t.events state turn its new start flight answer
+        → Leaves (turn_with state) new start flight answer
         → state_in (world_after t.world turn).kept p ≡ new
         → TurnIsStep now_kept (Container start) (flights.Container flight) → Extra (after_turn t turn)
     leaves_it {start} {flight} leaves new_is comes =
-        let es = wrote_by t.world.coding p t.events state turn its start flight answer in
+        let es = wrote_by (turn_with state) start flight answer in
         let outcome = answer_in (any_call (after t.world.coding state flight answer)) in
         after_it turn free
         (rw comes.1 (known_by turn free p es mine still
@@ -165,8 +179,8 @@ module _ {T : Type 0} {terms : Terms} {t : Trace T} (s : frame.Sound (family_by 
         → TurnIsStep now_kept (Container start) (flights.Container flight) → Extra (after_turn t turn)
     other_call start flight all done at other rests within comes =
         leaves_it {start = start} {flight = flight} {new = state}
-        (others_leave t.world.coding p t.events state turn its t.world.capacity t.world.coding.size all done start
-        flight answer at other within)
+        (others_leave (turn_with state) start flight answer
+        (record { c = t.world.capacity; z = t.world.coding.size; all = all; done = done; stands = at }) other within)
         (moves turn free p rests ∙ state_is) comes
 
     -- ---- a look
@@ -180,9 +194,10 @@ module _ {T : Type 0} {terms : Terms} {t : Trace T} (s : frame.Sound (family_by 
       -- each step of a look leaves what `Leaves` asks, whether or not the party has a state
       look_leaves_so : (o : Option (ContainerState T)) → LookSees which call.stage (seen_by p t.events) o
           → (call.stage ≡ stages.LoadsChange → answer ≡ (seen_by p t.events).changes)
-          → Leaves t.world.coding p t.events o turn its (left o) (looks_as which) (calls.Look which call) answer
-      look_leaves_so None sees loads = look_stays t.world.coding p t.events turn its call answer which (looks_as which) sees
-      look_leaves_so (Some st) sees loads = look_leaves t.world.coding p t.events st turn its call answer which sees loads
+          → Leaves (turn_with o) (left o) (looks_as which) (calls.Look which call) answer
+      look_leaves_so None sees loads = look_stays (turn_with None) refl call answer which (looks_as which) sees
+      look_leaves_so (Some st) sees loads =
+          look_leaves (record { code = t.world.coding; p = p; events = t.events; st = st; turn = turn; mine = its; call = call; old = answer }) which sees loads
 
       -- the registry then has this state for the party
       writes_so : (o : Option (ContainerState T)) → state_of p s.state.states ≡ o
@@ -219,11 +234,14 @@ module _ {T : Type 0} {terms : Terms} {t : Trace T} (s : frame.Sound (family_by 
     abbrev on_next : (q : ℕ) → q ≢ p → is_look_of t.world q (Next p) ≡ false
     on_next q ne = not_its p q (is_looking (flight_in t.world p)) ne
 
+    -- the step, where the party's call is handed this answer
+    abbrev next_turn : ℕ → OwnTurn t
+    next_turn answer = record { turn = Next p; free = free; p = p; its = refl; mine = λ q its. its; still = on_next; answer = answer }
+
     -- what the step of this call leaves and writes is as the table of steps says
     abbrev StepComes : ContainerStart T → ContainerFlight T → Type 0
     StepComes start flight =
-        TurnIsStep (Next p) free p refl (λ q its. its) on_next (old_of s.state.words (ask_of (want t.world.coding flight)))
-        now_kept (Container start) (flights.Container flight)
+        TurnIsStep (next_turn (old_of s.state.words (ask_of (want t.world.coding flight)))) now_kept (Container start) (flights.Container flight)
 
     -- the first load of a look finds the number of changes, as the word counts the changes
     loads_changes : (which : LookOf) (call : Look T) → call.capacity ≡ t.world.capacity
@@ -237,7 +255,7 @@ module _ {T : Type 0} {terms : Terms} {t : Trace T} (s : frame.Sound (family_by 
         → flight_in t.world p ≡ Some (flights.Container flight)
         → IsNoLook start → CallSees flight (seen_by p t.events) (state_of p s.state.states) → StepComes start flight → Extra (after_turn t (Next p))
     step_other start flight all done at flies other sees comes =
-        other_call (Next p) free p refl (λ q its. its) on_next (old_of s.state.words (ask_of (want t.world.coding flight))) start flight all done at other
+        other_call (next_turn (old_of s.state.words (ask_of (want t.world.coding flight)))) start flight all done at other
         (ap (λ o. (p == p) && is_looking o) flies
         ∙ (ap (λ b. (p == p) && b) (not_looking start flight all done at other) ∙ ap (λ a. a && false) (eq-eqb p p refl)))
         (rests_within start flight all done (seen_by p t.events) (state_of p s.state.states) at other sees) comes
@@ -248,10 +266,10 @@ module _ {T : Type 0} {terms : Terms} {t : Trace T} (s : frame.Sound (family_by 
         → flight_in t.world p ≡ Some (flights.Container flight)
         → CallSees flight (seen_by p t.events) (state_of p s.state.states) → StepComes start flight → Extra (after_turn t (Next p))
     step_by starts.GetState (calls.Look which call) all done at flies sees comes =
-        look_call (Next p) free p refl (λ q its. its) on_next _ which call starts.GetState
+        look_call (next_turn _) which call starts.GetState
         (ap looks_as (sym at.1)) sees (loads_changes which call at.0) comes
     step_by starts.UpdateState (calls.Look which call) all done at flies sees comes =
-        look_call (Next p) free p refl (λ q its. its) on_next _ which call starts.UpdateState
+        look_call (next_turn _) which call starts.UpdateState
         (ap looks_as (sym at.1)) sees (loads_changes which call at.0) comes
     step_by starts.GetState flight all done at flies sees comes = absurd at
     step_by starts.UpdateState flight all done at flies sees comes = absurd at
@@ -272,8 +290,7 @@ module _ {T : Type 0} {terms : Terms} {t : Trace T} (s : frame.Sound (family_by 
     -- a step of any call that stands in the machine keeps `Extra`
     by_step : (x : Party T) (since : ℕ) → party_of p t.world.latest ≡ Some x → (start : Start T) (flight : Flight T)
         → StandsThere fam t s p x since start flight → flight_in t.world p ≡ Some flight
-        → TurnIsStep (Next p) free p refl (λ q its. its) on_next
-        (old_of s.state.words (ask_of (want_of t.world.coding flight))) now_kept start flight
+        → TurnIsStep (next_turn (old_of s.state.words (ask_of (want_of t.world.coding flight)))) now_kept start flight
         → Extra (after_turn t (Next p))
     by_step = grind (arith, is_there, shown, step_by, seen_by, state_in, same_kept)
 
@@ -298,19 +315,21 @@ module _ {T : Type 0} {terms : Terms} {t : Trace T} (s : frame.Sound (family_by 
         call.doing
         in
         by_step caller call.since call.found caller.start flies.flight call.there flies.is
-        (subst (λ k. TurnIsStep (Next p) free p refl (λ q its. its) on_next
-        (old_of s.state.words (ask_of (want_of t.world.coding flies.flight))) k caller.start flies.flight)
+        (subst (λ k. TurnIsStep (next_turn (old_of s.state.words (ask_of (want_of t.world.coding flies.flight)))) k caller.start flies.flight)
         same_kept
-        (subst (λ ws. TurnIsStep (Next p) free p refl (λ q its. its) on_next
-        (old_of ws (ask_of (want_of t.world.coding flies.flight))) t.world.kept caller.start flies.flight)
+        (subst (λ ws. TurnIsStep (next_turn (old_of ws (ask_of (want_of t.world.coding flies.flight)))) t.world.kept caller.start flies.flight)
         same_words (left, wrote, kept)))
 
   -- ---- a decision
 
   module _ (p : ℕ) (said : Bool) (free : IsAllowed t.world (Decide p said)) where
+    -- the decision
+    abbrev decision : OwnTurn t
+    decision = record { turn = Decide p said; free = free; p = p; its = refl; mine = λ q its. its; still = λ q ne. refl; answer = number_of said }
+
     -- what the decision for this call leaves and writes is as the table of steps says
     abbrev DecisionComes : Registry T → Start T → Flight T → Type 0
-    DecisionComes kept start flight = TurnIsStep (Decide p said) free p refl (λ q its. its) (λ q ne. refl) (number_of said) kept start flight
+    DecisionComes kept start flight = TurnIsStep decision kept start flight
 
     -- a decision for a call that is no look keeps `Extra`
     decided_other : (start : ContainerStart T) (flight : ContainerFlight T) (all : List SetAct) (done : List (Act T))
@@ -319,8 +338,7 @@ module _ {T : Type 0} {terms : Terms} {t : Trace T} (s : frame.Sound (family_by 
         → DecisionComes now_kept (Container start) (flights.Container flight)
         → Extra (after_turn t (Decide p said))
     decided_other start flight all done at other sees comes =
-        other_call (Decide p said) free p refl (λ q its. its) (λ q ne. refl) (number_of said) start flight all done
-        at other refl
+        other_call decision start flight all done at other refl
         (rests_within start flight all done (seen_by p t.events) (state_of p s.state.states) at other sees) comes
 
     -- a decision for any call of the container that waits for one keeps `Extra`

@@ -95,8 +95,9 @@ module _ {T : Type 0} (terms : Terms) (t : Trace T) (s : frame.Sound (family_by 
         let named : first_of kinds.Container t.world.capacity start t.world.kept ≡ Some flight =
         rw (← s.kind) first_is in
         let sees = begun_sees start flight (begins_own t.world.capacity t.world.kept start flight named) in
+        let known = known_by s may counts extra (Begin p start) tt p (Begun p start ∷ []) in
         after_it s may counts extra (Begin p start) tt
-        (known_by s may counts extra (Begin p start) tt p (Begun p start ∷ []) (λ q its. its) (others_look start) (refl, tt)
+        (known (λ q its. its) (others_look start) (refl, tt)
         (rw (flies, kept) sees))
         (tt, tt)
 
@@ -108,8 +109,9 @@ module _ {T : Type 0} (terms : Terms) (t : Trace T) (s : frame.Sound (family_by 
   turn_kept (Next p) free = next_kept s may counts extra p free
   turn_kept (Decide p said) free = decision_kept s may counts extra p said free
   turn_kept (Die owner) free =
+      let known = other_known s may counts extra (Die owner) tt (Died owner ∷ []) in
       after_it s may counts extra (Die owner) tt
-      (λ q. other_known s may counts extra (Die owner) tt (Died owner ∷ []) q (λ none. none) refl
+      (λ q. known q (λ none. none) refl
       (subst (Grows (seen_by q t.events)) (sym (one_more q t.events (Died owner)))
       (record { begun = refl; least = refl; most = refl; changes = omega arith })))
       (tt, tt)

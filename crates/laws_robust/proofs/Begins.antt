@@ -61,14 +61,18 @@ module _ {T : Type 0} (scene : Scene T) (good : Good scene.by scene.capacity sce
   -- a begin does to the set what a turn may do
   pub begins : Does scene scene.set.words (Begun p start ∷ [])
   begins =
-      hands_on scene good scene.set.words es leaves keeps (refl, tt) (tt, tt) (tt, tt)
-      (record {
-        owned = λ calm h. record { held = λ i owner e. same i ∙ h.held i owner (sym (same_holder i) ∙ e); settled = settles h };
-        holds = λ calm. (tt, tt);
-        right = λ calm q ne i owner h.
-            fold-append (right_after i) _ events es ∙ (still_by T p q start i (right_of i events) h.right ∙ sym h.right);
-        holder = λ calm q ne i owner h. same_holder i;
-        settled = λ calm i owner h none.
-            fold-append (settled_after i) None events es ∙ not_taken_from T p start i owner (settled_of i events) h none;
+      hands_on scene good scene.set.words es leaves keeps (record {
+        own = (refl, tt);
+        right = (tt, tt);
+        answers = (tt, tt);
+        hands = record {
+          owned = λ calm h. record { held = λ i owner e. same i ∙ h.held i owner (sym (same_holder i) ∙ e); settled = settles h };
+          holds = λ calm. (tt, tt);
+          right = λ calm q ne i owner h.
+              fold-append (right_after i) _ events es ∙ (still_by T p q start i (right_of i events) h.right ∙ sym h.right);
+          holder = λ calm q ne i owner h. same_holder i;
+          settled = λ calm i owner h none.
+              fold-append (settled_after i) None events es ∙ not_taken_from T p start i owner (settled_of i events) h none;
+        };
+        grants = λ unchanged less i none. same_holder i ∙ none;
       })
-      (λ unchanged less i none. same_holder i ∙ none)

@@ -67,39 +67,41 @@ module _ {T : Type 0} (p : ℕ) (P : ℕ → List (Event T) → Type 0) where
           through = λ i below t. counts.through i below (through_less p (P i) events es none t);
         }
 
-    -- the index `k` is counted, or not, as `P` holds of it now
-    module _ (b : Bool) (new : ℕ) (adds : new ≡ (if b then 1 else 0) + number) (once : b ≡ true → P k events) (not : b ≡ false → P k events → ⊥) where
-      -- `P` held of each index that is counted at a moment of the call
-      pub still_once : (i : ℕ) → i < k + 1 → chosen_with counts.chosen k b i ≡ true → HeldSometime p (P i) events
-      still_once i below chosen_here = ⊎_elim here there (cases_eq i k)
-        where
-          -- if the index `k` itself is counted, `P` held of it at a moment of the call
-          here : i ≡ k → HeldSometime p (P i) events
-          here same =
-              let chose : b ≡ true = sym (with_here counts.chosen k b) ∙ (ap (chosen_with counts.chosen k b) (sym same) ∙ chosen_here) in
-              rw same (held_now p (P k) events (once chose))
+-- The party `p` has come to `k` indices, and has counted `number` of them. The index `k` is counted if `b` says so, which is
+-- where `P` holds of it now; `new` is the number with it.
+module _ {T : Type 0} {p : ℕ} (P : ℕ → List (Event T) → Type 0) {k number : ℕ} {events : List (Event T)} (counts : IsCount p P k number events)
+    (b : Bool) {new : ℕ} (adds : new ≡ (if b then 1 else 0) + number) (once : b ≡ true → P k events) (not : b ≡ false → P k events → ⊥) where
+  -- `P` held of each index that is counted at a moment of the call
+  pub still_once : (i : ℕ) → i < k + 1 → chosen_with counts.chosen k b i ≡ true → HeldSometime p (P i) events
+  still_once i below chosen_here = ⊎_elim here there (cases_eq i k)
+    where
+      -- if the index `k` itself is counted, `P` held of it at a moment of the call
+      here : i ≡ k → HeldSometime p (P i) events
+      here same =
+          let chose : b ≡ true = sym (with_here counts.chosen k b) ∙ (ap (chosen_with counts.chosen k b) (sym same) ∙ chosen_here) in
+          rw same (held_now p (P k) events (once chose))
 
-          -- of another index that is counted, `P` held at a moment of the call
-          there : i ≢ k → HeldSometime p (P i) events
-          there ne = counts.once i (omega arith) (sym (with_there counts.chosen k b i ne) ∙ chosen_here)
+      -- of another index that is counted, `P` held at a moment of the call
+      there : i ≢ k → HeldSometime p (P i) events
+      there ne = counts.once i (omega arith) (sym (with_there counts.chosen k b i ne) ∙ chosen_here)
 
-      -- if `P` held of the index `k` throughout the call, it is counted
-      chosen_now : (z : Bool) → b ≡ z → HeldThroughout p (P k) events → z ≡ true
-      chosen_now true e held_throughout = refl
-      chosen_now false e held_throughout = absurd (not e (through_now p (P k) events held_throughout))
+  -- if `P` held of the index `k` throughout the call, it is counted
+  chosen_now : (z : Bool) → b ≡ z → HeldThroughout p (P k) events → z ≡ true
+  chosen_now true e held_throughout = refl
+  chosen_now false e held_throughout = absurd (not e (through_now p (P k) events held_throughout))
 
-      -- an index of which `P` held throughout the call is counted
-      pub still_through : (i : ℕ) → i < k + 1 → HeldThroughout p (P i) events → chosen_with counts.chosen k b i ≡ true
-      still_through i below held_throughout = let by_chosen_now = chosen_now in grind arith
+  -- an index of which `P` held throughout the call is counted
+  pub still_through : (i : ℕ) → i < k + 1 → HeldThroughout p (P i) events → chosen_with counts.chosen k b i ≡ true
+  still_through i below held_throughout = let by_chosen_now = chosen_now in grind arith
 
-      -- the count with one index more, which is counted just where `P` holds of it now
-      pub count_next : IsCount p P (k + 1) new events
-      count_next =
-          let next : suc k ≡ k + 1 = omega arith in
-          record {
-            chosen = chosen_with counts.chosen k b;
-            is = ap (count_below (chosen_with counts.chosen k b)) (sym next)
-                ∙ (count_with counts.chosen k b ∙ (ap (λ n. (if b then 1 else 0) + n) counts.is ∙ sym adds));
-            once = still_once;
-            through = still_through;
-          }
+  -- the count with one index more, which is counted just where `P` holds of it now
+  pub count_next : IsCount p P (k + 1) new events
+  count_next =
+      let next : suc k ≡ k + 1 = omega arith in
+      record {
+        chosen = chosen_with counts.chosen k b;
+        is = ap (count_below (chosen_with counts.chosen k b)) (sym next)
+            ∙ (count_with counts.chosen k b ∙ (ap (λ n. (if b then 1 else 0) + n) counts.is ∙ sym adds));
+        once = still_once;
+        through = still_through;
+      }

@@ -90,5 +90,6 @@ module _ {T : Type 0} (by : GoneBy) (c : ℕ) (words dead : List ℕ) (events : 
       → Knowing c flight (view by words events q since changes backs)
       → Knowing c flight (view by words (events ++ es) q since changes backs)
   death_known q since changes backs (flights.Robust flight) knowing =
-      knows_later by words words events es q since changes changes backs death_goes (death_spares q) (inl (refl, refl)) c flight knowing
+      knows_later {v = view by words events q since changes backs}
+      (record { words' = words; es = es; changes' = changes; goes = death_goes; spares = death_spares q; seen = inl (refl, refl) }) c flight knowing
   death_known q since changes backs flight knowing = absurd knowing

@@ -155,11 +155,20 @@ module _ {T : Type 0} (scene : Scene T) where
     same_dead : (owner : ℕ) → is_dead owner (events ++ es) ≡ is_dead owner events
     same_dead owner = fold-append (dead_after owner) false events es ∙ keeps.dead owner (is_dead owner events)
 
-    -- a step that leaves the cells and the lock does what a turn may do, where `Hands` holds of its events
-    pub hands_on : AreOwn p es → AreRight (SetDoes c) events es → AreRight (AnswersBy by (IsWorn by words') c) events es → Hands es
-        → (counter_of words' ≡ counter_of ws → counter_of ws < greatest → (i : ℕ) → holder_of i events ≡ None → holder_of i (events ++ es) ≡ None)
-        → Does scene words' es
-    hands_on own right answers hands grants =
+    -- What has to be shown of such a step: its events are the party's, are right in what they do to the set and in their answers, hand on
+    -- the indices as they may (`Hands`), and where the counter stays as it was, below its end, they grant no index.
+    pub record HandsOn : Type 0 where
+      pub own : AreOwn p es
+      pub right : AreRight (SetDoes c) events es
+      pub answers : AreRight (AnswersBy by (IsWorn by words') c) events es
+      pub hands : Hands es
+      pub grants : counter_of words' ≡ counter_of ws → counter_of ws < greatest → (i : ℕ) → holder_of i events ≡ None → holder_of i (events ++ es) ≡ None
+
+    -- such a step does what a turn may do
+    pub hands_on : HandsOn → Does scene words' es
+    hands_on shown =
+        let own = shown.own in
+        let hands = shown.hands in
         record {
           own = own;
           -- what holds of the set before the turn holds after it
@@ -174,16 +183,16 @@ module _ {T : Type 0} (scene : Scene T) where
                 low = λ t. let low = stays.low (good.lock ∙ (sym same_lock ∙ t)) in omega arith;
                 bound = stays.bound;
                 died = λ owner. good.died owner ∙ sym (same_dead owner);
-                does = Each-append (SetDoes c) events es good.does right;
+                does = Each-append (SetDoes c) events es good.does shown.right;
                 answers =
                     Each-append (AnswersBy by (IsWorn by words') c) events es
                     (answers_on (IsWorn by ws) (IsWorn by words') (worn_on by ws words' stays.stuck) by c events good.answers)
-                    answers;
+                    shown.answers;
                 owned = λ calm. hands.owned calm (good.owned (calm_less by events es calm));
                 holds = λ calm. Each-append HoldsRight events es (good.holds (calm_less by events es calm)) (hands.holds calm);
               };
           -- the turn does to any party no more than a turn may do
-          goes = let filled = same_filled in let dead = same_dead in let less = well_formed_less events es in grind arith;
+          goes = let grants = shown.grants in let filled = same_filled in let dead = same_dead in let less = well_formed_less events es in grind arith;
           -- each other party keeps its right to an index, and what it has done
           spares = λ q ne.
               record {
@@ -281,15 +290,19 @@ module _ {T : Type 0} (scene : Scene T) where
       -- a step that leaves the cells and the lock, and whose events are quiet, does what a turn may do
       pub quietly : Does scene words' es
       quietly =
-          hands_on good_before words' es stays keeps own right answers
-          (record {
-            owned = λ calm. still_owned;
-            holds = λ calm. quiet.holds events;
-            right = λ calm q ne i owner h. right_more i;
-            holder = λ calm q ne i owner h. holder_more i;
-            settled = λ calm i owner h none. settled_more i ∙ h;
+          hands_on good_before words' es stays keeps (record {
+            own = own;
+            right = right;
+            answers = answers;
+            hands = record {
+              owned = λ calm. still_owned;
+              holds = λ calm. quiet.holds events;
+              right = λ calm q ne i owner h. right_more i;
+              holder = λ calm q ne i owner h. holder_more i;
+              settled = λ calm i owner h none. settled_more i ∙ h;
+            };
+            grants = λ same less i none. holder_more i ∙ none;
           })
-          (λ same less i none. holder_more i ∙ none)
 
     -- ---- an index is filled
 

@@ -1,5 +1,5 @@
--- Each step of a find, and each answer to its question, keeps the invariant: it keeps the invariant
--- (`Shows`, Invariant).
+-- Each step of a find, and each answer to its question, keeps the invariant, in the form that the frame asks
+-- of a turn (`Shows`, Invariant).
 use Rattle.laws_robust.proofs.Names.{◌≡◌, ◌≢◌, ℕ, ◌+◌, ◌<◌, ◌≤◌, ◌==◌, if◌then◌else◌, nat_lt, Bool, true, false}
 use Rattle.laws_robust.proofs.Names.{Option, Some, None, List, [], refl, ap, ◌∙◌, arith, nat_tests, Ask, After, GoOn}
 use Rattle.laws_robust.proofs.Names.{Done, FindStage, at_find, find_comes_to, find_after, cell_word, empty, one_more}
@@ -48,13 +48,13 @@ module _ {T : Type 0} (scene : Scene T) (inv : Inv scene) (owner : ℕ) (fits : 
         let few = good_before.few in
         let most = count_within p (IsFilledWith owner) k found events counted in
         let next : one_more found ≡ 1 + found = omega arith in
-        count_next p (IsFilledWith owner) k found events counted true (one_more found) next
+        count_next (IsFilledWith owner) counted true next
         (λ e. filled_by scene inv k below owner fits cell_is) (λ e. absurd (cc))
 
     -- a cell that does not have the owner adds none
     none_counts : cell ws k ≢ owner → Counted (k + 1) found
     none_counts other =
-        count_next p (IsFilledWith owner) k found events counted false found (omega arith) (λ e. absurd (cc))
+        count_next (IsFilledWith owner) counted false (omega arith) (λ e. absurd (cc))
         (λ e filled. other (good_before.cells k below ∙ ap cell_of filled))
 
   -- ---- what a step leads to
@@ -71,8 +71,15 @@ module _ {T : Type 0} (scene : Scene T) (inv : Inv scene) (owner : ℕ) (fits : 
       -- the find may end with the number `found`
       ends_there : Lead ask (Done found)
       ends_there =
-          ends_quietly scene inv ask false here (stays_same scene inv (words_after ws ask) same) (λ i o. refl) (λ i r. refl)
-          (record { bound = k + 1; within = omega arith; count = counted }) none (omega arith) paid
+          ends_quietly scene inv ask false here (record {
+            stays = stays_same scene inv (words_after ws ask) same;
+            settles = λ i o. refl;
+            rights = λ i r. refl;
+            right = record { bound = k + 1; within = omega arith; count = counted };
+            done = none;
+            few = omega arith;
+            paid = paid;
+          })
 
       -- a find whose step leaves the words comes to the next index, or ends behind the last
       comes_to_next : Lead ask (find_comes_to (call_at stage) (k + 1) found)

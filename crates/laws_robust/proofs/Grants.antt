@@ -32,14 +32,23 @@ module _ {T : Type 0} (scene : Scene T) (inv : Inv scene) where
 
   -- the events grant the index `i` to the owner (`granted`), or end the call that was granted it (`done`),
   -- and leave the other indices
-  module _ (words' : List ℕ) (es : List (Event T)) (granted done : Bool) (i owner : ℕ) (stays : Leaves scene words') (keeps : Keeps es)
-      (holders : (j : ℕ) (o : Option ℕ) → fold (holder_after j) o es ≡ (if granted && (i == j) then Some owner else o))
-      (settled : (j : ℕ) (o : Option ℕ) → fold (settled_after j) o es ≡ (if done && (i == j) then Some owner else o))
-      (rights : (j : ℕ) (r : Right) → fold (right_after j) r es ≡ (if done && (i == j) then Settled owner else r))
-      (mine : IsCalm by (events ++ es) → IsBy p i owner events) where
+  pub record GivesIndex (words' : List ℕ) (es : List (Event T)) (granted done : Bool) (i owner : ℕ) : Type 0 where
+    -- the step leaves the cells and the lock, and its events fill and free nothing
+    pub stays : Leaves scene words'
+    pub keeps : Keeps es
+    -- who holds each index after the events, for whom it is settled, and who has the right to it
+    pub holders : (j : ℕ) (o : Option ℕ) → fold (holder_after j) o es ≡ (if granted && (i == j) then Some owner else o)
+    pub settled : (j : ℕ) (o : Option ℕ) → fold (settled_after j) o es ≡ (if done && (i == j) then Some owner else o)
+    pub rights : (j : ℕ) (r : Right) → fold (right_after j) r es ≡ (if done && (i == j) then Settled owner else r)
+    -- in a calm run the party has the right to the index
+    pub mine : IsCalm by (events ++ es) → IsBy p i owner events
+
+  module _ {words' : List ℕ} {es : List (Event T)} {granted done : Bool} {i owner : ℕ} (given : GivesIndex words' es granted done i owner) where
+    open given use {stays as leaves_cells, keeps as keeps_filled, holders, settled, rights, mine as has_right}
+
     -- the events leave what each index is filled with
     same : (j : ℕ) → filled_of j (events ++ es) ≡ filled_of j events
-    same j = same_filled scene good_before words' es stays keeps j
+    same j = same_filled scene good_before words' es leaves_cells keeps_filled j
 
     -- after a grant the owner holds the index, and any other index is held as before
     holder_then : (j : ℕ) → holder_of j (events ++ es) ≡ (if granted && (i == j) then Some owner else holder_of j events)
@@ -60,7 +69,7 @@ module _ {T : Type 0} (scene : Scene T) (inv : Inv scene) where
 
       -- no other party has a right to it
       other_index : {q : ℕ} → q ≢ p → {j o : ℕ} → IsBy q j o events → j ≢ i
-      other_index ne is_by is = let ours = (mine calm).right in grind arith
+      other_index ne is_by is = let ours = (has_right calm).right in grind arith
 
       -- an index that may be given back is another than `i`
       unsettled : (j o : ℕ) → settled_of j events ≡ Some o → j ≢ i
@@ -72,15 +81,19 @@ module _ {T : Type 0} (scene : Scene T) (inv : Inv scene) where
         → (counter_of words' ≡ counter_of ws → counter_of ws < greatest → (j : ℕ) → holder_of j events ≡ None → holder_of j (events ++ es) ≡ None)
         → Does scene words' es
     gives own right answers holds grants =
-        hands_on scene good_before words' es stays keeps own right answers
-        (record {
-          owned = still_owned;
-          holds = holds;
-          right = λ calm q ne j o h. right_then j ∙ other_stays done i j (Settled owner) (right_of j events) (other_index calm ne h);
-          holder = λ calm q ne j o h. holder_then j ∙ other_stays granted i j (Some owner) (holder_of j events) (other_index calm ne h);
-          settled = λ calm j o h none. settled_then j ∙ (other_stays done i j (Some owner) (settled_of j events) (unsettled calm j o h) ∙ h);
+        hands_on scene good_before words' es leaves_cells keeps_filled (record {
+          own = own;
+          right = right;
+          answers = answers;
+          hands = record {
+            owned = still_owned;
+            holds = holds;
+            right = λ calm q ne j o h. right_then j ∙ other_stays done i j (Settled owner) (right_of j events) (other_index calm ne h);
+            holder = λ calm q ne j o h. holder_then j ∙ other_stays granted i j (Some owner) (holder_of j events) (other_index calm ne h);
+            settled = λ calm j o h none. settled_then j ∙ (other_stays done i j (Some owner) (settled_of j events) (unsettled calm j o h) ∙ h);
+          };
+          grants = grants;
         })
-        grants
 
   -- ---- the step raises the counter as it grants the index
 
@@ -116,8 +129,16 @@ module _ {T : Type 0} (scene : Scene T) (inv : Inv scene) where
     -- the grant without the call's end does what a turn may do
     pub grants_alone : Does scene words' (Granted p i owner ∷ [])
     grants_alone =
-        gives words' granting true false i owner stays keeps (λ j o. refl) (λ j o. refl) (λ j r. refl) (λ calm. (mine calm).0)
-        (refl, tt) ((unlocked scene inv (raised_open scene inv words' raised), alive), tt) (tt, tt) (λ calm. ((mine calm).1, tt)) (raises granting)
+        let given : GivesIndex words' granting true false i owner =
+        record {
+          stays = stays;
+          keeps = keeps;
+          holders = λ j o. refl;
+          settled = λ j o. refl;
+          rights = λ j r. refl;
+          mine = λ calm. (mine calm).0;
+        } in
+        gives given (refl, tt) ((unlocked scene inv (raised_open scene inv words' raised), alive), tt) (tt, tt) (λ calm. ((mine calm).1, tt)) (raises granting)
 
     -- the run was well-formed and honest as the index was granted
     by_then : IsCalm by (events ++ (granting ++ ending)) → IsCalm by (events ++ granting)
@@ -126,7 +147,14 @@ module _ {T : Type 0} (scene : Scene T) (inv : Inv scene) where
     -- the grant with the call's end does what a turn may do
     pub grants : Does scene words' (Granted p i owner ∷ Finished p (Robust (Acquire owner)) (Index i) ∷ [])
     grants =
-        gives words' (granting ++ ending) true true i owner stays (record { filled = λ j o. refl; locked = λ b. refl; dead = λ o b. refl })
-        (λ j o. refl) (λ j o. refl) (λ j r. refl) (λ calm. (mine (by_then calm)).0)
-        (refl, (refl, tt)) ((unlocked scene inv (raised_open scene inv words' raised), alive), (tt, tt)) (tt, (tt, tt))
+        let given : GivesIndex words' (granting ++ ending) true true i owner =
+        record {
+          stays = stays;
+          keeps = record { filled = λ j o. refl; locked = λ b. refl; dead = λ o b. refl };
+          holders = λ j o. refl;
+          settled = λ j o. refl;
+          rights = λ j r. refl;
+          mine = λ calm. (mine (by_then calm)).0;
+        } in
+        gives given (refl, (refl, tt)) ((unlocked scene inv (raised_open scene inv words' raised), alive), (tt, tt)) (tt, (tt, tt))
         (λ calm. ((mine (by_then calm)).1, (tt, tt))) (raises (granting ++ ending))

@@ -32,10 +32,21 @@ use Rattle.laws_robust.proofs.Cases.{on_bool}
 pub some_is : (o : Option ℕ) (owner : ℕ) → o ≡ Some owner → is_some o ≡ true
 some_is o owner e = ap is_some e
 
--- The party `p` is in an acquire for the owner, who is alive. `c` is the capacity, `ws` the words before
--- the step; the call has taken at most `extra` steps beside the acquire.
-module _ {T : Type 0} (scene : Scene T) (inv : Inv scene) (owner : ℕ) (fits : owner < empty) (alive : is_dead owner scene.events ≡ false) (extra : ℕ) where
-  open scene use {by as by, capacity as c, party as p, steps as steps, backs as backs, events as events}
+-- An acquire for an owner who is alive, by the party of the scene, as a call of the set or as a part of another call.
+pub record Acquiring (T : Type 0) : Type 0 where
+  -- the turn, and what holds of the machine before it
+  pub scene : Scene T
+  pub inv : Inv scene
+  -- the argument of the acquire, who can be in a cell and is alive
+  pub owner : ℕ
+  pub fits : owner < empty
+  pub alive : is_dead owner scene.events ≡ false
+  -- the call has taken at most so many steps beside the acquire
+  pub extra : ℕ
+
+module _ {T : Type 0} (acquiring : Acquiring T) where
+  open acquiring use {scene, inv, owner, fits, alive, extra}
+  open acquiring.scene use {by as by, capacity as c, party as p, steps as steps, backs as backs, events as events}
 
   -- the words of the set before the step
   abbrev ws : List ℕ
@@ -215,20 +226,22 @@ module _ {T : Type 0} (scene : Scene T) (inv : Inv scene) (owner : ℕ) (fits : 
       -- a step of the raise is as `Lead` asks
       raises_step : raises_to (Some (raise_ask raise)) (raise_goes_back raise (counter_of ws)) (raise_after raise (counter_of ws))
       raises_step =
-          raise_step scene inv raises_to raise knows.paid
-          (λ number ask back same held few.
-          let low = few (extra + 1 + c) (c + 1) (omega arith) (omega arith) in
-          caller.quiet (acquires.Raises i (raises.ExchangesCounter number)) ask back same (below, done)
-          (record { paid = held; scanned = tt; owns = knows.owns; says = tt; gone = tt }) (omega arith))
-          (λ ask back same shut paid few.
-          let low = few (extra + 1 + c) (c + 1) (omega arith) (omega arith) in
-          caller.fails failures.IsLocked ask back same (is_shut scene inv shut, inr (record { index = i; is = done })) paid (omega arith))
-          (λ ask back same worn end paid few.
-          let low = few (extra + 1 + c) (c + 1) (omega arith) (omega arith) in
-          caller.grants i ask back below done owns_it (inr (worn, end, same)) paid (omega arith))
-          (λ ask less new paid few.
-          let low = few (extra + 1 + c) (c + 1) (omega arith) (omega arith) in
-          caller.grants i ask false below done owns_it (inl (less, new)) paid (omega arith))
+          raise_step scene inv raises_to raise (record {
+            paid = knows.paid;
+            goes = λ number ask back same held few.
+                let low = few (extra + 1 + c) (c + 1) (omega arith) (omega arith) in
+                caller.quiet (acquires.Raises i (raises.ExchangesCounter number)) ask back same (below, done)
+                (record { paid = held; scanned = tt; owns = knows.owns; says = tt; gone = tt }) (omega arith);
+            meets = λ ask back same shut paid few.
+                let low = few (extra + 1 + c) (c + 1) (omega arith) (omega arith) in
+                caller.fails failures.IsLocked ask back same (is_shut scene inv shut, inr (record { index = i; is = done })) paid (omega arith);
+            rests = λ ask back same worn end paid few.
+                let low = few (extra + 1 + c) (c + 1) (omega arith) (omega arith) in
+                caller.grants i ask back below done owns_it (inr (worn, end, same)) paid (omega arith);
+            closes = λ ask less new paid few.
+                let low = few (extra + 1 + c) (c + 1) (omega arith) (omega arith) in
+                caller.grants i ask false below done owns_it (inl (less, new)) paid (omega arith);
+          })
         where
           -- where the run is well-formed and honest, the party has the right to the index,
           -- and nobody holds it

@@ -2,7 +2,7 @@
 -- a step; `Caller` says what it shows of each form of a step, and the lemmas that each step then shows it.
 use Rattle.laws_robust.proofs.Names.{inr, inl, ◌⊎◌, ◌≡◌, ◌≢◌, ℕ, ◌+◌, ◌*◌, ◌<◌, ◌≤◌, ◌==◌, if◌then◌else◌, Bool, true}
 use Rattle.laws_robust.proofs.Names.{false, Option, Some, None, is_some, List, [], ◌∷◌, ◌++◌, set, refl, ap, subst}
-use Rattle.laws_robust.proofs.Names.{arith, sym, Ok, Err, nat_tests, Ask, After, GoOn, Done, ReleaseMode}
+use Rattle.laws_robust.proofs.Names.{arith, Ok, Err, nat_tests, Ask, After, GoOn, Done, ReleaseMode}
 use Rattle.laws_robust.proofs.Names.{LockIfLastIndex, Default, ReleaseState, IndexIsNotOwnedByProvidedOwner, Lock}
 use Rattle.laws_robust.proofs.Names.{Raise, ReleaseStage, cell_word, empty, locked, greatest, raise_after}
 use Rattle.laws_robust.proofs.Names.{raise_goes_back, lock_after, lock_goes_back, Released, at_release}
@@ -26,7 +26,7 @@ use Rattle.laws_robust.proofs.Gone.{calm_less}
 use Rattle.laws_robust.proofs.Invariant.{IsWorn, Scene, Inv, Good, Does}
 use Rattle.laws_robust.proofs.Knows.{Knows, IsPaid, FoundOne}
 use Rattle.laws_robust.proofs.CallProgress.{at_least_one, release_at, release_number, raise_number, lock_number, for_back, ReleaseAt, LockAt}
-use Rattle.laws_robust.proofs.Parts.{raise_ask, lock_ask, raise_step, lock_step, IsSaid}
+use Rattle.laws_robust.proofs.Parts.{raise_ask, lock_ask, raise_step, lock_moves, IsSaid}
 use Rattle.laws_robust.proofs.Rights.{right_of, IsBy}
 use Rattle.laws_robust.proofs.Stages.{all, now, sees, then_sees, backs_then, exchanges, fails_same, exchange_sets}
 use Rattle.laws_robust.proofs.Cases.{on_bool}
@@ -35,15 +35,29 @@ use Rattle.laws_robust.proofs.Cases.{on_bool}
 first_few : (c index owner backs n : ℕ) (mode : ReleaseMode) → n ≤ 1 → n ≤ most_steps c (Release index owner mode) backs
 first_few = grind arith
 
--- The party `p` is in a release of the index for the owner. `c` is the capacity, `ws` the words before the
--- step; the call has taken at most `extra` steps beside the release.
-module _ {T : Type 0} (scene : Scene T) (inv : Inv scene) (index owner : ℕ) (mode : ReleaseMode) (fits : owner < empty) (below : index < scene.capacity)
-    (lives : LivesToRelease owner scene.events (span_of scene.party scene.events))
-    (began : IsCalm scene.by (scene.events ++ FreedOf scene.party index owner ∷ [])
-    → (is_gone scene.by owner scene.events ≡ false)
-    × SinceBegin scene.party (λ part since. settled_of index part ≡ Some owner) scene.events)
-    (extra : ℕ) where
-  open scene use {by as by, capacity as c, party as p, steps as steps, backs as backs, events as events}
+-- A release of the index for its owner, by the party of the scene, as a call of the set or as a part of another call.
+pub record Releasing (T : Type 0) : Type 0 where
+  -- the turn, and what holds of the machine before it
+  pub scene : Scene T
+  pub inv : Inv scene
+  -- the arguments of the release: the owner can be in a cell, and the index is below the capacity
+  pub index : ℕ
+  pub owner : ℕ
+  pub mode : ReleaseMode
+  pub fits : owner < empty
+  pub below : index < scene.capacity
+  -- the owner lives; and where the run is calm with the freeing of the index, he is not gone, and the index was settled for him
+  -- when the call began
+  pub lives : LivesToRelease owner scene.events (span_of scene.party scene.events)
+  pub began : IsCalm scene.by (scene.events ++ FreedOf scene.party index owner ∷ [])
+      → (is_gone scene.by owner scene.events ≡ false)
+      × SinceBegin scene.party (λ part since. settled_of index part ≡ Some owner) scene.events
+  -- the call has taken at most so many steps beside the release
+  pub extra : ℕ
+
+module _ {T : Type 0} (releasing : Releasing T) where
+  open releasing use {scene, inv, index, owner, mode, fits, below, lives, began, extra}
+  open releasing.scene use {by as by, capacity as c, party as p, steps as steps, backs as backs, events as events}
 
   -- the words of the set before the step
   abbrev ws : List ℕ
@@ -171,20 +185,22 @@ module _ {T : Type 0} (scene : Scene T) (inv : Inv scene) (index owner : ℕ) (m
       -- a step of the raise is as `Lead` asks: the raise goes on, or the release goes to its lock or its end
       raises_step : raises_to (Some (raise_ask raise)) (raise_goes_back raise (counter_of ws)) (raise_after raise (counter_of ws))
       raises_step =
-          raise_step scene inv raises_to raise knows.paid
-          (λ number ask back same held few.
-          let low = few (extra + 1) (for_back c mode) (at_least_one c mode) (omega arith) in
-          caller.quiet (releases.Raises (raises.ExchangesCounter number)) ask back (stays_same scene inv (words_after ws ask) same) done
-          (record { paid = held; scanned = tt; owns = tt; says = tt; gone = tt }) (omega arith))
-          (λ ask back same shut paid few.
-          let low = few (extra + 1) (for_back c mode) (at_least_one c mode) (omega arith) in
-          closes mode refl states.Locked ask back (stays_same scene inv (words_after ws ask) same) paid (omega arith))
-          (λ ask back same worn end paid few.
-          let low = few (extra + 1) (for_back c mode) (at_least_one c mode) (omega arith) in
-          closes mode refl states.Unlocked ask back (stays_same scene inv (words_after ws ask) same) paid (omega arith))
-          (λ ask less new paid few.
-          let low = few (extra + 1) (for_back c mode) (at_least_one c mode) (omega arith) in
-          closes mode refl states.Unlocked ask false (stays_raised scene inv (words_after ws ask) less new) paid (omega arith))
+          raise_step scene inv raises_to raise (record {
+            paid = knows.paid;
+            goes = λ number ask back same held few.
+                let low = few (extra + 1) (for_back c mode) (at_least_one c mode) (omega arith) in
+                caller.quiet (releases.Raises (raises.ExchangesCounter number)) ask back (stays_same scene inv (words_after ws ask) same) done
+                (record { paid = held; scanned = tt; owns = tt; says = tt; gone = tt }) (omega arith);
+            meets = λ ask back same shut paid few.
+                let low = few (extra + 1) (for_back c mode) (at_least_one c mode) (omega arith) in
+                closes mode refl states.Locked ask back (stays_same scene inv (words_after ws ask) same) paid (omega arith);
+            rests = λ ask back same worn end paid few.
+                let low = few (extra + 1) (for_back c mode) (at_least_one c mode) (omega arith) in
+                closes mode refl states.Unlocked ask back (stays_same scene inv (words_after ws ask) same) paid (omega arith);
+            closes = λ ask less new paid few.
+                let low = few (extra + 1) (for_back c mode) (at_least_one c mode) (omega arith) in
+                closes mode refl states.Unlocked ask false (stays_raised scene inv (words_after ws ask) less new) paid (omega arith);
+          })
 
     -- ---- the lock
 
@@ -219,30 +235,35 @@ module _ {T : Type 0} (scene : Scene T) (inv : Inv scene) (index owner : ℕ) (m
       locks_step : locks_to (Some (lock_ask lock)) (lock_goes_back lock (old_of ws (Some (lock_ask lock))))
           (locked_by p lock (old_of ws (Some (lock_ask lock)))) (lock_after c lock (old_of ws (Some (lock_ask lock))))
       locks_step =
-          lock_step scene inv (FoundOne owner index (now scene)) said locks_to lock at knows.paid knows.scanned knows.says
-          (λ next ask back stays next_at paid scanned says few.
-          let low = few (extra + 3) (c + 3) (omega arith) (omega arith) in
-          caller.quiet (releases.Locks next) ask back stays (is, next_at, done)
-          (record { paid = paid; scanned = scanned; owns = tt; says = says; gone = tt })
-          (rw is (omega arith)))
-          (λ ask same shut paid few.
-          let low = few (extra + 3) (c + 3) (omega arith) (omega arith) in
-          caller.ended states.Locked ask false (stays_same scene inv (words_after ws ask) same)
-          (rw is (is_shut scene inv shut))
-          done paid (few_end ask false (omega arith)))
-          (λ filled ask stays open_now more says paid few.
-          let low = few (extra + 3) (c + 3) (omega arith) (omega arith) in
-          caller.ended states.Unlocked ask false stays
-          (rw is (unlocked scene inv open_now, inr (says more)))
-          done paid (few_end ask false (omega arith)))
-          (λ ask stays open_now worn paid few.
-          let low = few (extra + 3) (c + 3) (omega arith) (omega arith) in
-          caller.ended states.Unlocked ask false stays
-          (rw is (unlocked scene inv open_now, inl worn))
-          done paid (few_end ask false (omega arith)))
-          (λ ask none less new paid few.
-          let low = few (extra + 3) (c + 3) (omega arith) (omega arith) in
-          caller.locks ask is none less new done paid (few_end ask false (omega arith)))
+          lock_moves scene inv (FoundOne owner index (now scene)) said locks_to lock (record {
+            at = at;
+            paid = knows.paid;
+            scanned = knows.scanned;
+            says = knows.says;
+            goes = λ next ask back stays next_at paid scanned says few.
+                let low = few (extra + 3) (c + 3) (omega arith) (omega arith) in
+                caller.quiet (releases.Locks next) ask back stays (is, next_at, done)
+                (record { paid = paid; scanned = scanned; owns = tt; says = says; gone = tt })
+                (rw is (omega arith));
+            meets = λ ask same shut paid few.
+                let low = few (extra + 3) (c + 3) (omega arith) (omega arith) in
+                caller.ended states.Locked ask false (stays_same scene inv (words_after ws ask) same)
+                (rw is (is_shut scene inv shut))
+                done paid (few_end ask false (omega arith));
+            finds = λ filled ask stays open_now more says paid few.
+                let low = few (extra + 3) (c + 3) (omega arith) (omega arith) in
+                caller.ended states.Unlocked ask false stays
+                (rw is (unlocked scene inv open_now, inr (says more)))
+                done paid (few_end ask false (omega arith));
+            rests = λ ask stays open_now worn paid few.
+                let low = few (extra + 3) (c + 3) (omega arith) (omega arith) in
+                caller.ended states.Unlocked ask false stays
+                (rw is (unlocked scene inv open_now, inl worn))
+                done paid (few_end ask false (omega arith));
+            shuts = λ ask none less new paid few.
+                let low = few (extra + 3) (c + 3) (omega arith) (omega arith) in
+                caller.locks ask is none less new done paid (few_end ask false (omega arith));
+          })
 
     -- ---- any step
 

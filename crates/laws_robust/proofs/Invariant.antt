@@ -1,7 +1,7 @@
 -- What holds of the machine of a robust index set between any two turns beside what the frame says of every machine, and
 -- what a turn must show to keep it.
 use Rattle.laws_robust.proofs.Names.{◌≡◌, ◌≢◌, ℕ, ◌+◌, ◌-◌, ◌^◌, ◌<◌, ◌≤◌, ◌==◌, false, Some, List, ◌++◌, length}
-use Rattle.laws_robust.proofs.Names.{fold, refl, sym, ap, subst, ◌∙◌, arith, empty, locked, greatest, Event, Start}
+use Rattle.laws_robust.proofs.Names.{fold, refl, sym, ap, ◌∙◌, arith, empty, locked, greatest, Event, Start}
 use Rattle.laws_robust.proofs.Names.{Flight, Party, Coding, is_locked, has_died, cell_of, SetDoes}
 use Rattle.laws_robust.proofs.Names.{HoldsRight, promise, SetAct, set_acts, filled_of, is_dead, wrote_in, set_acts_of}
 use Rattle.laws_robust.proofs.Names.{party_of, put, Stands, Each, Span, own_after, span_of, AreOwn, AllFollow}
@@ -16,7 +16,7 @@ use Rattle.model.proofs.Frame as frame
 use Rattle.model.proofs.Frame.{Family}
 use Rattle.laws_robust.specs.Gone.{GoneBy, Death, Word, IsCalm, AsksBy, AnswersBy}
 use Rattle.laws_robust.proofs.Core.{counter_of, cell}
-use Rattle.laws_robust.proofs.Knows.{View, Knows, Goes, Spares, IsSeen, knows_later}
+use Rattle.laws_robust.proofs.Knows.{View, Knows, OthersTurn, Goes, Spares, IsSeen, later, knows_later}
 use Rattle.laws_robust.proofs.CallProgress.{number_of, At}
 use Rattle.laws_robust.proofs.Rights.{AreOwned}
 
@@ -192,11 +192,9 @@ module _ {T : Type 0} where
     pub seen : IsSeen scene.set.words words' scene.changes changes'
 
   -- what a call knows stays known after a turn of another party
-  any_knows : (by : GoneBy) (c : ℕ) (words words' : List ℕ) (events es : List (Event T)) (q changes changes' : ℕ)
-      → Goes words words' events es → Spares by q events es → IsSeen words words' changes changes'
-      → (since backs : ℕ) (flight : Flight T) → Knowing c flight (view by words events q since changes backs)
-      → Knowing c flight (view by words' (events ++ es) q since changes' backs)
-  any_knows = grind (arith, knows_later)
+  any_knows : (c : ℕ) {v : View T} (turn : OthersTurn v) (flight : Flight T) → Knowing c flight v → Knowing c flight (later turn)
+  any_knows c turn (flights.Robust flight) knowing = knows_later turn c flight knowing
+  any_knows c turn flight knowing = absurd knowing
 
   -- where a call stands depends on what its party has written
   pub at_written : (c : ℕ) (w w' : List (Event T)) (start : Start T) (flight : Flight T) → w' ≡ w
@@ -204,7 +202,7 @@ module _ {T : Type 0} where
   at_written c w w' start flight same standing = rw same standing
 
   -- the turn shows this (`shows`), and the invariant held before it (`holds_now`, `inv`)
-  module _ (scene : Scene T) (words' : List ℕ) (from : Span T) (y : Party T) (es : List (Event T)) (changes' : ℕ)
+  module _ (scene : Scene T) {words' : List ℕ} {from : Span T} {y : Party T} {es : List (Event T)} {changes' : ℕ}
       (shows : Shows scene words' from y es changes')
       (holds_now : Holds scene.by scene.capacity scene.set scene.latest scene.events scene.turns)
       (inv : frame.Inv (family_by scene.by scene.coding scene.capacity) scene.set scene.latest scene.events scene.changes) where
@@ -226,7 +224,17 @@ module _ {T : Type 0} where
           others =
               λ q ne start flight at.
               (at_written c (wrote_of q set.events) (wrote_of q (events ++ es)) start flight (still_wrote q ne) at, still_wrote q ne);
-          others_know = λ q ne. any_knows by c set.words words' events es q scene.changes changes' shows.does.goes (shows.does.spares q ne) shows.seen;
+          others_know = λ q ne since backs flight known.
+              any_knows c {v = view by set.words events q since scene.changes backs}
+              (record {
+                words' = words';
+                es = es;
+                changes' = changes';
+                goes = shows.does.goes;
+                spares = shows.does.spares q ne;
+                seen = shows.seen;
+              })
+              flight known;
         })
 
     -- what holds of the set holds after a turn that shows this

@@ -344,15 +344,25 @@ module _ {T : Type 0} where
     pub settled : IsCalm by (events ++ es) → (i owner : ℕ) → is_gone by owner events ≡ false
         → settled_of i events ≡ Some owner → NoneTakes i owner es → settled_of i (events ++ es) ≡ Some owner
 
-  -- what the party `q` sees before a turn of another party, and after it
-  module _ (by : GoneBy) (words words' : List ℕ) (events es : List (Event T)) (q since changes changes' backs : ℕ)
-      (goes : Goes words words' events es) (spares : Spares by q events es)
-      (seen : IsSeen words words' changes changes') where
-    -- what the party `q` may see before the turn
-    abbrev pub before : View T
-    before = record { by = by; words = words; events = events; party = q; since = since; changes = changes; backs = backs }
+  -- A turn of another party than the one that sees `v`: the words and the number of changes that it leaves, the events that it writes, and
+  -- what it does to the set (`Goes`), spares of it for the party (`Spares`), and shows of the changes (`IsSeen`).
+  pub record OthersTurn (v : View T) : Type 0 where
+    pub words' : List ℕ
+    pub es : List (Event T)
+    pub changes' : ℕ
+    pub goes : Goes v.words words' v.events es
+    pub spares : Spares v.by v.party v.events es
+    pub seen : IsSeen v.words words' v.changes changes'
 
-    -- what the party `q` may see after the turn
+  module _ {v : View T} (turn : OthersTurn v) where
+    open v use {by, words, events, party as q, since, changes, backs}
+    open turn use {words', es, changes', goes, spares, seen}
+
+    -- what the party sees before the turn
+    abbrev before : View T
+    before = v
+
+    -- what the party may see after the turn
     abbrev pub later : View T
     later = record { by = by; words = words'; events = events ++ es; party = q; since = since; changes = changes'; backs = backs }
 
@@ -405,7 +415,10 @@ module _ {T : Type 0} where
 
     -- what a release knows of moments stays known
     release_says : (c index owner : ℕ) (stage : ReleaseStage) → ReleaseSays c index owner stage before → ReleaseSays c index owner stage later
-    release_says = grind (arith, lock_says, freed_later)
+    release_says c index owner releases.EmptiesCell said = tt
+    release_says c index owner (releases.Raises raise) said = tt
+    release_says c index owner (releases.Locks lock) said =
+        lock_says c (FoundOne owner index before) (FoundOne owner index later) (λ k filled found some. freed_later owner index (found some)) lock said
 
     -- what a find says of its count it says after further events
     find_says : (owner : ℕ) (stage : FindStage) → FindSays owner stage before → FindSays owner stage later

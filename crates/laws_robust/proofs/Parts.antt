@@ -1,7 +1,7 @@
 -- The steps of the three parts of which calls of a robust index set are made: a raise of the counter, a count
--- of filled cells, and a lock. `Lead ask back r` is what the call has to show of a step with the operation
--- `ask`, after which the part is as `r` says (of a lock it also has the events that the step writes). The lemmas
--- say that each step of the part shows that.
+-- of filled cells, and a lock. `Lead ask back r` is what the call has to show of a step with the operation `ask`, which turns back or not
+-- (`back`), and after which the part is as `r` says; of a lock, `Lead ask back did r` has also the events `did` that the step writes. The
+-- call shows `Lead` of each form of step (`CountGoes`, `LockGoes` and the others), and the lemmas say that each step of the part shows it.
 use Rattle.laws_robust.proofs.Names.{eq-eqb, ◌≡◌, ◌≢◌, ℕ, ◌+◌, ◌*◌, ◌<◌, ◌≤◌, ◌==◌, ◌&&◌, ⊎_elim, inl, if◌then◌else◌}
 use Rattle.laws_robust.proofs.Names.{nat_lt, Bool, true, false, not, Option, Some, None, List, [], ◌∷◌, set, refl}
 use Rattle.laws_robust.proofs.Names.{sym, ap, subst, ◌∙◌, arith, ne_eqb, cases_lt, nat_tests, Ask, After, GoOn, Done}
@@ -131,17 +131,30 @@ module _ {T : Type 0} (scene : Scene T) (inv : Inv scene) where
     raise_finds raise goes meets rests ask back same paid few = let by_finds_counter = finds_counter in grind arith
 
     -- each step of a raise is as `Lead` asks, where each form of such a step is (`RaiseGoes` and the others)
-    pub raise_step : (raise : Raise) → Paid (raise_holds raise) (now scene) → RaiseGoes raise → RaiseMeets raise → RaiseStays raise → RaiseEnds raise
+    raise_by : (raise : Raise) → Paid (raise_holds raise) (now scene) → RaiseGoes raise → RaiseMeets raise → RaiseStays raise → RaiseEnds raise
         → Lead (Some (raise_ask raise)) (raise_goes_back raise (counter_of ws)) (raise_after raise (counter_of ws))
-    raise_step raises.LoadsCounter paid goes meets rests closes =
+    raise_by raises.LoadsCounter paid goes meets rests closes =
         raise_finds raises.LoadsCounter goes meets rests (Some (loads 0)) false (loads_same ws 0) (omega arith) (λ n w some low. omega arith)
-    raise_step (raises.ExchangesCounter number) paid goes meets rests closes = go (counter_of ws == number) refl
+    raise_by (raises.ExchangesCounter number) paid goes meets rests closes = go (counter_of ws == number) refl
       where
         -- the cases are whether the counter is still the number that the raise has found
         go : (b : Bool) → (counter_of ws == number) ≡ b
             → Lead (Some (exchanges 0 number (one_more number))) (not b)
             (if b then Done states.Unlocked else raise_sees (counter_of ws))
         go = grind (arith, paid_of, exchanges, one_more, before_end, raised, raise_finds, fails_same, paid_back, nat_tests)
+
+    -- that a raise has paid, and what the call shows of each form of a step of it
+    pub record RaiseShows (raise : Raise) : Type 0 where
+      pub paid : Paid (raise_holds raise) (now scene)
+      pub goes : RaiseGoes raise
+      pub meets : RaiseMeets raise
+      pub rests : RaiseStays raise
+      pub closes : RaiseEnds raise
+
+    -- each step of such a raise is as `Lead` asks
+    pub raise_step : (raise : Raise) → RaiseShows raise
+        → Lead (Some (raise_ask raise)) (raise_goes_back raise (counter_of ws)) (raise_after raise (counter_of ws))
+    raise_step raise shows = raise_by raise shows.paid shows.goes shows.meets shows.rests shows.closes
 
   -- ---- the counter that a count has loaded, which it holds unless the counter is at its end
 
@@ -259,12 +272,12 @@ module _ {T : Type 0} (scene : Scene T) (inv : Inv scene) where
 
       -- each step of a count is as `Lead` asks, where each form of such a step is
       -- (`CountGoes` and the others)
-      pub count_step : (count : Count) → CountAt c count → Paid (count_holds count) (now scene)
+      count_by : (count : Count) → CountAt c count → Paid (count_holds count) (now scene)
           → Scanned (count_scan c count) (now scene) → CountSays c Says count → CountGoes count → CountMeets count
           → CountStays count → CountEnds count
           → Lead (Some (count_ask count)) (count_goes_back count (old_of ws (Some (count_ask count))))
           (count_after c count (old_of ws (Some (count_ask count))))
-      count_step counts.LoadsCounter at paid scanned says goes meets rests closes =
+      count_by counts.LoadsCounter at paid scanned says goes meets rests closes =
           let some = good_before.some in
           let same = loads_same ws 0 in
           let same_counter : counter_of (words_after ws (Some (loads 0))) ≡ counter_of ws = ap counter_of same in
@@ -275,7 +288,7 @@ module _ {T : Type 0} (scene : Scene T) (inv : Inv scene) where
           (omega arith, omega arith) (found_held (Some (loads 0)) same open_now (omega arith))
           (omega arith, λ end. same_counter ∙ end, λ before zero is calm i less. absurd (omega arith)) said.none (λ n w wide low. omega arith))
           (λ t. let none : c ≤ 0 = grind (arith, nat_tests) in absurd (omega arith)))
-      count_step (counts.LoadsCell number k filled) at paid scanned says goes meets rests closes =
+      count_by (counts.LoadsCell number k filled) at paid scanned says goes meets rests closes =
           on_bool (λ b. Lead (Some (loads (cell_word k))) false (count_comes_to c number (k + 1) (if b then filled else one_more filled))) (cell ws k == empty)
           (λ t.
           let is : cell ws k ≡ empty = grind (arith, nat_tests) in
@@ -296,7 +309,7 @@ module _ {T : Type 0} (scene : Scene T) (inv : Inv scene) where
           (count_comes number k filled goes rests at.0 (omega arith) paid scanned.0 scanned.1
           (said.filled_next k filled (cell ws k) at.0 some.1 says)
           (λ before zero is calm i less. absurd (omega arith))))
-      count_step (counts.ExchangesCounter number filled) at paid scanned says goes meets rests closes =
+      count_by (counts.ExchangesCounter number filled) at paid scanned says goes meets rests closes =
           on_bool (λ b. Lead (Some (exchanges 0 number (one_more number))) (not b)
           (if b then Done (ends.Filled filled (one_more number)) else GoOn counts.LoadsCounter))
           (counter_of ws == number)
@@ -314,8 +327,26 @@ module _ {T : Type 0} (scene : Scene T) (inv : Inv scene) where
           goes counts.LoadsCounter (Some (exchanges 0 number (one_more number))) true (fails_same ws 0 number (one_more number) other) tt
           (paid_back scene number (Some (exchanges 0 number (one_more number))) events other paid) tt tt (λ n w wide low. omega arith))
 
+      -- where a count stands, what it knows, and what the call shows of each form of a step of it
+      pub record CountShows (count : Count) : Type 0 where
+        pub at : CountAt c count
+        pub paid : Paid (count_holds count) (now scene)
+        pub scanned : Scanned (count_scan c count) (now scene)
+        pub says : CountSays c Says count
+        pub goes : CountGoes count
+        pub meets : CountMeets count
+        pub rests : CountStays count
+        pub closes : CountEnds count
+
+      -- each step of such a count is as `Lead` asks
+      pub count_step : (count : Count) → CountShows count
+          → Lead (Some (count_ask count)) (count_goes_back count (old_of ws (Some (count_ask count))))
+          (count_after c count (old_of ws (Some (count_ask count))))
+      count_step count shows = count_by count shows.at shows.paid shows.scanned shows.says shows.goes shows.meets shows.rests shows.closes
+
     -- ---- a lock
 
+    -- `Lead ask back did r`: unlike a raise and a count, a lock has a step that writes an event, the exchange by which it locks the set
     module _ (Lead : Option Ask → Bool → List (Event T) → After Lock ReleaseState → Type 0) where
       -- a bound of the call's steps with the lock's own number holds after this step with `number` in its place
       abbrev pub LockSteps : Lock → ℕ → Option Ask → Bool → Type 0
@@ -407,7 +438,7 @@ module _ {T : Type 0} (scene : Scene T) (inv : Inv scene) where
           (locked_by p lock (old_of ws (Some (lock_ask lock))))
           (lock_after c lock (old_of ws (Some (lock_ask lock))))
       lock_step (locks.Counts count) at paid scanned says goes meets finds rests shuts =
-          count_step (λ ask back r. Lead ask back [] (lock_counted r)) count at paid scanned says
+          count_by (λ ask back r. Lead ask back [] (lock_counted r)) count at paid scanned says
           (λ next ask back same next_at next_paid next_scanned next_says few. goes (locks.Counts next)
           ask back (stays_same scene inv (words_after ws ask) same) next_at next_paid next_scanned next_says
           (λ n w more bound. few n w (omega arith) bound))
@@ -435,3 +466,23 @@ module _ {T : Type 0} (scene : Scene T) (inv : Inv scene) where
           (stays_same scene inv (words_after ws (Some (exchanges 0 number locked))) (fails_same ws 0 number locked other))
           tt
           (paid_back scene number (Some (exchanges 0 number locked)) events other paid) tt tt (λ n w more bound. omega arith))
+
+      -- where a lock stands, what it knows, and what the call shows of each form of a step of it
+      pub record LockShows (lock : Lock) : Type 0 where
+        pub at : LockAt c lock
+        pub paid : Paid (lock_holds lock) (now scene)
+        pub scanned : Scanned (lock_scan c lock) (now scene)
+        pub says : LockSays c Says lock
+        pub goes : LockGoes lock
+        pub meets : LockMeets lock
+        pub finds : LockFinds lock
+        pub rests : LockStays lock
+        pub shuts : LockLocks lock
+
+      -- each step of such a lock is as `Lead` asks
+      pub lock_moves : (lock : Lock) → LockShows lock
+          → Lead (Some (lock_ask lock)) (lock_goes_back lock (old_of ws (Some (lock_ask lock))))
+          (locked_by p lock (old_of ws (Some (lock_ask lock))))
+          (lock_after c lock (old_of ws (Some (lock_ask lock))))
+      lock_moves lock shows =
+          lock_step lock shows.at shows.paid shows.scanned shows.says shows.goes shows.meets shows.finds shows.rests shows.shuts

@@ -1,10 +1,10 @@
 -- The steps of a recovery of the robust set from the decision about an owner to the raise of the counter,
--- by which it frees an index. Each keeps the invariant: it keeps the invariant (`Shows`, Invariant).
+-- by which it frees an index. Each keeps the invariant, in the form that the frame asks of a turn (`Shows`, Invariant).
 use Rattle.laws_robust.proofs.Names.{◌≡◌, ◌≢◌, ℕ, ◌+◌, ◌*◌, ◌≤◌, ◌==◌, ⊎_elim, inl, if◌then◌else◌, Bool, true, false}
 use Rattle.laws_robust.proofs.Names.{Option, Some, None, List, [], ◌∷◌, ◌++◌, refl, sym, ap, subst, ◌∙◌, arith}
 use Rattle.laws_robust.proofs.Names.{cases_lt, nat_tests, fold-append, Ask, After, GoOn, Done, ReleaseMode}
 use Rattle.laws_robust.proofs.Names.{LockIfLastIndex, Default, ReleaseState, Raise, RecoverStage, cell_word, empty}
-use Rattle.laws_robust.proofs.Names.{locked, first_lock, raise_after, raise_goes_back, at_recover, recover_comes_to}
+use Rattle.laws_robust.proofs.Names.{locked, raise_after, raise_goes_back, at_recover, recover_comes_to}
 use Rattle.laws_robust.proofs.Names.{recover_raised, went_on, State, Event, FreedOf, Told, cell_of, StillToFree}
 use Rattle.laws_robust.proofs.Names.{LivesToRelease, SetAct, Frees, Asks, Yes, filled_of, set_acts_of}
 use Rattle.laws_robust.proofs.Names.{IsOneOf, HasJustFreed, as_it_is, as_call, words_after, step_count}
@@ -30,7 +30,7 @@ use Rattle.laws_robust.proofs.Past.{through_now}
 use Rattle.laws_robust.proofs.Stages.{IsHere, now, sees, backs_then, loads, exchanges}
 use Rattle.laws_robust.proofs.Stages.{loads_same, fails_same, exchange_sets, set_acts_more, StepOf, AnswerOf, Leads}
 use Rattle.laws_robust.proofs.Stages.{goes_on, goes_quietly}
-use Rattle.laws_robust.proofs.Recovers.{asked_then, comes_quietly, ends_so, good_before, gone_then, open_then}
+use Rattle.laws_robust.proofs.Recovers.{DoesOneMore, asked_then, comes_quietly, ends_so, good_before, gone_then, open_then}
 use Rattle.laws_robust.proofs.Cases.{on_bool}
 
 -- The party `p` recovers in this mode. `c` is the capacity, `ws` the words before the step, `done` what the
@@ -70,8 +70,17 @@ module _ {T : Type 0} (scene : Scene T) (inv : Inv scene) (mode : ReleaseMode) (
     says_no =
         let four = at_least_four c mode in
         let paid = knows.paid in
-        (comes_quietly scene inv mode here) index at.0.within (recovers.Asks index owner) None false (omega arith)
-        (stays_same scene inv ws refl) (omega arith) at.0.asked at.0.freed knows.says.0 knows.says.1 knows.gone
+        comes_quietly scene inv mode here (recovers.Asks index owner) None false (record {
+          below = at.0.within;
+          few = omega arith;
+          stays = stays_same scene inv ws refl;
+          paid = omega arith;
+          asked = at.0.asked;
+          freed = at.0.freed;
+          open_once = knows.says.0;
+          says = knows.says.1;
+          gone = knows.gone;
+        })
 
     module _ (may : MayBeTold by owner events) where
       -- the event of a yes about the index and its owner
@@ -86,6 +95,9 @@ module _ {T : Type 0} (scene : Scene T) (inv : Inv scene) (mode : ReleaseMode) (
       tells_set_acts : set_acts_of p (events ++ telling) ≡ done ++ Yes index owner ∷ []
       tells_set_acts = set_acts_more scene (Recover mode) here telling tells_does.own (λ start w. refl)
 
+      tells_one : DoesOneMore scene (Yes index owner) telling ws
+      tells_one = record { begins = tt; more = tells_set_acts; does = tells_does }
+
       -- the yes to this index is about this index and owner, and the owner is gone
       frees_this : (i o : ℕ) → Yes index owner ≡ Yes i o → (is_gone by o (events ++ telling) ≡ true) × ((i ≡ index) × (o ≡ owner))
       frees_this = grind (arith, gone_told)
@@ -94,33 +106,34 @@ module _ {T : Type 0} (scene : Scene T) (inv : Inv scene) (mode : ReleaseMode) (
       says_yes : Lead None false telling (GoOn (at_recover (call_at (recovers.Asks index owner)) (recovers.EmptiesCell index owner)))
       says_yes =
           let paid = knows.paid in
-          goes_on scene None false
-          telling here (λ start w. refl) tells_does (at.2, tt) (may, tt) (omega arith) (
-            refl,
-            refl,
-            (
-              record {
-                within = at.0.within;
-                asked = asks_more (index + 1) (Yes index owner) done at.0.asked tt;
-                freed = freed_more (Yes index owner) done at.0.freed
-                    (λ i o e. absurd (cc));
-              },
-              at.1,
-              record { before = done; is = refl },
-              still_one (Asks index owner) (Yes index owner) done (by_latest (Asks index owner) done at.2),
-            ),
-          )
-          (record {
-            paid = omega arith;
-            scanned = tt;
-            owns = tt;
-            says = (
-              (open_then scene inv mode here) (Yes index owner) telling ws tt tells_set_acts tells_does knows.says.0,
-              (asked_then scene inv mode here) (Yes index owner) telling ws tt tells_set_acts tells_does (index + 1) knows.says.1,
+          goes_on scene None false telling here (record {
+            longer = λ start w. refl;
+            does = tells_does;
+            follows = (at.2, tt);
+            asks = (may, tt);
+            few = omega arith;
+            stands = (
+              refl,
+              refl,
+              (
+                record {
+                  within = at.0.within;
+                  asked = asks_more (index + 1) (Yes index owner) done at.0.asked tt;
+                  freed = freed_more (Yes index owner) done at.0.freed (λ i o e. absurd (cc));
+                },
+                at.1,
+                record { before = done; is = refl },
+                still_one (Asks index owner) (Yes index owner) done (by_latest (Asks index owner) done at.2),
+              ),
             );
-            gone =
-                (gone_then scene inv mode here) (Yes index owner) telling ws tt tells_set_acts tells_does (λ i o. ⊥)
-                (λ i o. (i ≡ index) × (o ≡ owner)) knows.gone (λ i o never. absurd never) frees_this;
+            known = record {
+              paid = omega arith;
+              scanned = tt;
+              owns = tt;
+              says = (open_then tells_one knows.says.0, asked_then tells_one (index + 1) knows.says.1);
+              gone =
+                  gone_then tells_one (λ i o. ⊥) (λ i o. (i ≡ index) × (o ≡ owner)) knows.gone (λ i o never. absurd never) frees_this;
+            };
           })
 
     -- any answer to a recovery's question that may be told keeps the invariant (`Shows`)
@@ -169,9 +182,17 @@ module _ {T : Type 0} (scene : Scene T) (inv : Inv scene) (mode : ReleaseMode) (
     misses other =
         let four = at_least_four c mode in
         let paid = knows.paid in
-        (comes_quietly scene inv mode here) index at.0.within (recovers.EmptiesCell index owner) exchange false (omega arith)
-        (stays_same scene inv _ (fails_same ws (cell_word index) owner empty other))
-        (omega arith) at.0.asked at.0.freed knows.says.0 knows.says.1 (gone_already other)
+        comes_quietly scene inv mode here (recovers.EmptiesCell index owner) exchange false (record {
+          below = at.0.within;
+          few = omega arith;
+          stays = stays_same scene inv _ (fails_same ws (cell_word index) owner empty other);
+          paid = omega arith;
+          asked = at.0.asked;
+          freed = at.0.freed;
+          open_once = knows.says.0;
+          says = knows.says.1;
+          gone = gone_already other;
+        })
 
     module _ (is : cell ws index ≡ owner) where
       -- by the events the index is filled with the owner
@@ -194,6 +215,9 @@ module _ {T : Type 0} (scene : Scene T) (inv : Inv scene) (mode : ReleaseMode) (
       frees_set_acts : set_acts_of p (events ++ freeing) ≡ done ++ Frees index owner ∷ []
       frees_set_acts = set_acts_more scene (Recover mode) here freeing frees_does.own (λ start w. refl)
 
+      frees_one : DoesOneMore scene (Frees index owner) freeing (words_after ws exchange)
+      frees_one = record { begins = tt; more = frees_set_acts; does = frees_does }
+
       -- after the free the index is not filled with the owner
       freed_here : (i o : ℕ) → (i ≡ index) × (o ≡ owner) → filled_of i (events ++ freeing) ≢ Some o
       freed_here = grind (arith, some_none, fold-append, at_same)
@@ -208,32 +232,33 @@ module _ {T : Type 0} (scene : Scene T) (inv : Inv scene) (mode : ReleaseMode) (
           (recovers.Raises index raises.LoadsCounter)))
       empties =
           let paid = knows.paid in
-          goes_on scene exchange false
-          freeing here (λ start w. refl) frees_does (at.2, tt) (tt, tt) (omega arith) (
-            refl,
-            refl,
-            (
-              record {
-                within = at.0.within;
-                asked = asks_more (index + 1) (Frees index owner) done at.0.asked tt;
-                freed = freed_more
-                    (Frees index owner) done at.0.freed asked_about;
-              },
-              record { index = index; owner = owner; latest = record { before = done; is = refl } },
-            ),
-          )
-          (record {
-            paid = omega arith;
-            scanned = tt;
-            owns = tt;
-            says = (
-              (open_then scene inv mode here) (Frees index owner) freeing (words_after ws exchange) tt frees_set_acts frees_does knows.says.0,
-              (asked_then scene inv mode here) (Frees index owner) freeing (words_after ws exchange) tt frees_set_acts frees_does (index + 1) knows.says.1,
+          goes_on scene exchange false freeing here (record {
+            longer = λ start w. refl;
+            does = frees_does;
+            follows = (at.2, tt);
+            asks = (tt, tt);
+            few = omega arith;
+            stands = (
+              refl,
+              refl,
+              (
+                record {
+                  within = at.0.within;
+                  asked = asks_more (index + 1) (Frees index owner) done at.0.asked tt;
+                  freed = freed_more (Frees index owner) done at.0.freed asked_about;
+                },
+                record { index = index; owner = owner; latest = record { before = done; is = refl } },
+              ),
             );
-            gone =
-                (gone_then scene inv mode here) (Frees index owner) freeing (words_after ws exchange) tt frees_set_acts frees_does
-                (λ i o. (i ≡ index) × (o ≡ owner)) (λ i o. ⊥) knows.gone (λ i o exempt. inl (freed_here i o exempt))
-                (λ i o e. absurd (cc));
+            known = record {
+              paid = omega arith;
+              scanned = tt;
+              owns = tt;
+              says = (open_then frees_one knows.says.0, asked_then frees_one (index + 1) knows.says.1);
+              gone =
+                  gone_then frees_one (λ i o. (i ≡ index) × (o ≡ owner)) (λ i o. ⊥) knows.gone (λ i o exempt. inl (freed_here i o exempt))
+                  (λ i o e. absurd (cc));
+            };
           })
 
     -- the exchange of the cell keeps the invariant (`Shows`), whether it finds the owner or not
@@ -295,8 +320,17 @@ module _ {T : Type 0} (scene : Scene T) (inv : Inv scene) (mode : ReleaseMode) (
         → Lead ask back [] (recover_raised (call_at (recovers.Raises index raise)) index m (Done states.Unlocked))
     goes_by_mode Default mode_is ask back stays paid few =
         let four = at_least_four c mode in
-        (comes_quietly scene inv mode here) index course.within (recovers.Raises index raise) ask back (omega arith) stays
-        paid course.asked course.freed knows.says.0 knows.says.1 knows.gone
+        comes_quietly scene inv mode here (recovers.Raises index raise) ask back (record {
+          below = course.within;
+          few = omega arith;
+          stays = stays;
+          paid = paid;
+          asked = course.asked;
+          freed = course.freed;
+          open_once = knows.says.0;
+          says = knows.says.1;
+          gone = knows.gone;
+        })
     goes_by_mode LockIfLastIndex mode_is ask back stays paid few =
         goes_quietly scene inv ask
         back here stays few (refl, refl, (course, just, mode_is, tt))
@@ -306,22 +340,24 @@ module _ {T : Type 0} (scene : Scene T) (inv : Inv scene) (mode : ReleaseMode) (
     pub raises_step : raises_to (Some (raise_ask raise)) (raise_goes_back raise (counter_of ws)) (raise_after raise (counter_of ws))
     raises_step =
         let one = at_least_one c mode in
-        raise_step scene inv raises_to raise knows.paid
-        (λ number ask back same held few.
-        let low = few (3 + index * for_index c mode) (for_back c mode) one (omega arith) in
-        goes_quietly scene inv ask
-        back here (stays_same scene inv (words_after ws ask) same)
-        (omega arith) (refl, refl, (course, just))
-        (record { paid = held; scanned = tt; owns = tt; says = knows.says; gone = knows.gone }))
-        (λ ask back same shut paid few.
-        let low = few (3 + index * for_index c mode) (for_back c mode) one (omega arith) in
-        let four = at_least_four c mode in
-        let times = times_below c index (for_index c mode) course.within in
-        (ends_so scene inv mode here) states.Locked ask back
-        (stays_same scene inv (words_after ws ask) same) (is_shut scene inv shut) (omega arith) paid)
-        (λ ask back same worn end paid few.
-        let low = few (3 + index * for_index c mode) (for_back c mode) one (omega arith) in
-        goes_by_mode mode refl ask back (stays_same scene inv (words_after ws ask) same) paid (omega arith))
-        (λ ask less new paid few.
-        let low = few (3 + index * for_index c mode) (for_back c mode) one (omega arith) in
-        goes_by_mode mode refl ask false (stays_raised scene inv (words_after ws ask) less new) paid (omega arith))
+        raise_step scene inv raises_to raise (record {
+          paid = knows.paid;
+          goes = λ number ask back same held few.
+              let low = few (3 + index * for_index c mode) (for_back c mode) one (omega arith) in
+              goes_quietly scene inv ask
+              back here (stays_same scene inv (words_after ws ask) same)
+              (omega arith) (refl, refl, (course, just))
+              (record { paid = held; scanned = tt; owns = tt; says = knows.says; gone = knows.gone });
+          meets = λ ask back same shut paid few.
+              let low = few (3 + index * for_index c mode) (for_back c mode) one (omega arith) in
+              let four = at_least_four c mode in
+              let times = times_below c index (for_index c mode) course.within in
+              (ends_so scene inv mode here) states.Locked ask back
+              (stays_same scene inv (words_after ws ask) same) (is_shut scene inv shut) (omega arith) paid;
+          rests = λ ask back same worn end paid few.
+              let low = few (3 + index * for_index c mode) (for_back c mode) one (omega arith) in
+              goes_by_mode mode refl ask back (stays_same scene inv (words_after ws ask) same) paid (omega arith);
+          closes = λ ask less new paid few.
+              let low = few (3 + index * for_index c mode) (for_back c mode) one (omega arith) in
+              goes_by_mode mode refl ask false (stays_raised scene inv (words_after ws ask) less new) paid (omega arith);
+        })

@@ -16,13 +16,13 @@ use Rattle.model.specs.declared.families.indices.robust.calls.RobustFlight.TheVa
 use Rattle.laws_robust.specs.Gone.{IsCalm, MayBeTold}
 use Rattle.laws_robust.proofs.Core.{counter_of}
 use Rattle.laws_robust.proofs.SetActs.{asks_more, freed_more}
-use Rattle.laws_robust.proofs.Effects.{quiet_none, stays_same}
+use Rattle.laws_robust.proofs.Effects.{Stays, quiet_none, stays_same}
 use Rattle.laws_robust.proofs.Invariant.{Scene, Inv, Does, wrote_of}
 use Rattle.laws_robust.proofs.Knows.{Knows, IsPaid}
 use Rattle.laws_robust.proofs.CallProgress.{recover_at, recover_number, lock_number, for_back, for_index, RecoverAt, LockAt, IsInCourse}
 use Rattle.laws_robust.proofs.Locks.{locks}
-use Rattle.laws_robust.proofs.Parts.{lock_ask, lock_step, IsSaid}
-use Rattle.laws_robust.proofs.Recovers.{nothing_said, comes_quietly, comes_loudly, open_then, asked_then, gone_then}
+use Rattle.laws_robust.proofs.Parts.{lock_ask, lock_moves, IsSaid}
+use Rattle.laws_robust.proofs.Recovers.{DoesOneMore, nothing_said, comes_quietly, comes_loudly, open_then, asked_then, gone_then}
 use Rattle.laws_robust.proofs.Recovers.{loads_counter, loads_cell}
 use Rattle.laws_robust.proofs.RecoverFrees.{decided, empties_cell, loads_again, raises_step}
 use Rattle.laws_robust.proofs.Stages.{IsHere, all, now, sees, backs_then, set_acts_more, StepOf, AnswerOf, Leads, goes_quietly}
@@ -93,6 +93,9 @@ module _ {T : Type 0} (scene : Scene T) (inv : Inv scene) (mode : ReleaseMode) (
       locks_set_acts : set_acts_of p (events ++ locking) ≡ done ++ Locks ∷ []
       locks_set_acts = set_acts_more scene (Recover mode) here locking locks_does.own (λ start w. refl)
 
+      locks_one : DoesOneMore scene Locks locking (words_after ws ask)
+      locks_one = record { begins = tt; more = locks_set_acts; does = locks_does }
+
       -- the `Locked` that the step writes may follow in the span of the recovery
       stands_there : AllFollow (Stands promise c) (Open (Robust (Recover mode)) (wrote_of p events)) locking
       stands_there = grind (arith, promise)
@@ -100,13 +103,36 @@ module _ {T : Type 0} (scene : Scene T) (inv : Inv scene) (mode : ReleaseMode) (
       -- the recovery that locks the set goes on to the next index, or to the second look at the counter
       locks_set : Lead ask false locking (recover_comes_to (call_at (recovers.Locks index lock)) (index + 1))
       locks_set =
-          comes_loudly scene inv mode here index course.within (recovers.Locks index lock) ask false few
-          locking (λ start w. refl) locks_does stands_there (tt, tt) paid
-          (asks_more (index + 1) Locks done course.asked tt) (freed_more Locks done course.freed (λ i o e. absurd (cc)))
-          (open_then scene inv mode here Locks locking (words_after ws ask) tt locks_set_acts locks_does knows.says.0)
-          (asked_then scene inv mode here Locks locking (words_after ws ask) tt locks_set_acts locks_does (index + 1) knows.says.1)
-          (gone_then scene inv mode here Locks locking (words_after ws ask) tt locks_set_acts locks_does (λ i o. ⊥)
-          (λ i o. ⊥) knows.gone (λ i o never. absurd never) (λ i o e. absurd (cc)))
+          comes_loudly scene inv mode here (recovers.Locks index lock) ask false locking (record {
+            below = course.within;
+            few = few;
+            longer = λ start w. refl;
+            does = locks_does;
+            follows = stands_there;
+            asks = (tt, tt);
+            paid = paid;
+            asked = asks_more (index + 1) Locks done course.asked tt;
+            freed = freed_more Locks done course.freed (λ i o e. absurd (cc));
+            open_once = open_then locks_one knows.says.0;
+            says = asked_then locks_one (index + 1) knows.says.1;
+            gone = gone_then locks_one (λ i o. ⊥) (λ i o. ⊥) knows.gone (λ i o never. absurd never) (λ i o e. absurd (cc));
+          })
+
+    -- a step of the lock that writes nothing, and with which the lock ends, brings the recovery past the index
+    passes : (ask : Option Ask) → Stays scene (words_after ws ask) → IsPaid (sees scene ask false) → Few ask false 1 (index + 1)
+        → Lead ask false [] (recover_comes_to (call_at (recovers.Locks index lock)) (index + 1))
+    passes ask stays paid few =
+        comes_quietly scene inv mode here (recovers.Locks index lock) ask false (record {
+          below = course.within;
+          few = few;
+          stays = stays;
+          paid = paid;
+          asked = course.asked;
+          freed = course.freed;
+          open_once = knows.says.0;
+          says = knows.says.1;
+          gone = knows.gone;
+        })
 
     -- the step of the lock keeps the invariant (`Shows`)
     locks_step : locks_to (Some (lock_ask lock)) (lock_goes_back lock (old_of ws (Some (lock_ask lock))))
@@ -114,28 +140,29 @@ module _ {T : Type 0} (scene : Scene T) (inv : Inv scene) (mode : ReleaseMode) (
     locks_step =
         let wide = for_a_back in
         let each = for_an_index in
-        lock_step scene inv (λ j filled. Unit {0}) said locks_to lock at knows.paid knows.scanned (nothing_said c lock)
-        (λ next ask back stays next_at paid scanned says few.
-        let low = few (5 + index * for_index c mode) (for_back c mode) (omega arith) (omega arith) in
-        goes_quietly scene inv ask back
-        here stays (omega arith) (refl, refl, (course, just, may_lock, next_at))
-        (record { paid = paid; scanned = scanned; owns = tt; says = knows.says; gone = knows.gone }))
-        (λ ask same shut paid few.
-        let low = few (5 + index * for_index c mode) (for_back c mode) (omega arith) (omega arith) in
-        comes_quietly scene inv mode here index course.within (recovers.Locks index lock) ask false
-        (omega arith) (stays_same scene inv (words_after ws ask) same) paid course.asked course.freed knows.says.0
-        knows.says.1 knows.gone)
-        (λ filled ask stays open_now more says paid few.
-        let low = few (5 + index * for_index c mode) (for_back c mode) (omega arith) (omega arith) in
-        comes_quietly scene inv mode here index course.within (recovers.Locks index lock) ask false
-        (omega arith) stays paid course.asked course.freed knows.says.0 knows.says.1 knows.gone)
-        (λ ask stays open_now worn paid few.
-        let low = few (5 + index * for_index c mode) (for_back c mode) (omega arith) (omega arith) in
-        comes_quietly scene inv mode here index course.within (recovers.Locks index lock) ask false
-        (omega arith) stays paid course.asked course.freed knows.says.0 knows.says.1 knows.gone)
-        (λ ask none less new paid few.
-        let low = few (5 + index * for_index c mode) (for_back c mode) (omega arith) (omega arith) in
-        locks_set ask none less new paid (omega arith))
+        lock_moves scene inv (λ j filled. Unit {0}) said locks_to lock (record {
+          at = at;
+          paid = knows.paid;
+          scanned = knows.scanned;
+          says = nothing_said c lock;
+          goes = λ next ask back stays next_at paid scanned says few.
+              let low = few (5 + index * for_index c mode) (for_back c mode) (omega arith) (omega arith) in
+              goes_quietly scene inv ask back
+              here stays (omega arith) (refl, refl, (course, just, may_lock, next_at))
+              (record { paid = paid; scanned = scanned; owns = tt; says = knows.says; gone = knows.gone });
+          meets = λ ask same shut paid few.
+              let low = few (5 + index * for_index c mode) (for_back c mode) (omega arith) (omega arith) in
+              passes ask (stays_same scene inv (words_after ws ask) same) paid (omega arith);
+          finds = λ filled ask stays open_now more says paid few.
+              let low = few (5 + index * for_index c mode) (for_back c mode) (omega arith) (omega arith) in
+              passes ask stays paid (omega arith);
+          rests = λ ask stays open_now worn paid few.
+              let low = few (5 + index * for_index c mode) (for_back c mode) (omega arith) (omega arith) in
+              passes ask stays paid (omega arith);
+          shuts = λ ask none less new paid few.
+              let low = few (5 + index * for_index c mode) (for_back c mode) (omega arith) (omega arith) in
+              locks_set ask none less new paid (omega arith);
+        })
 
   -- ---- any step
 

@@ -1,5 +1,5 @@
 -- The steps of a recovery of the robust set that load the counter or a cell, and its end. Each keeps the
--- invariant: it keeps the invariant (`Shows`, Invariant).
+-- invariant, in the form that the frame asks of a turn (`Shows`, Invariant).
 use Rattle.laws_robust.proofs.Names.{◌≡◌, ◌≢◌, ℕ, ◌+◌, ◌*◌, ◌<◌, ◌≤◌, ◌==◌, ◌⊎◌, ⊎_elim, inl, inr, if◌then◌else◌}
 use Rattle.laws_robust.proofs.Names.{nat_lt, Bool, true, false, Option, Some, List, [], ◌∷◌, ◌++◌, refl, sym}
 use Rattle.laws_robust.proofs.Names.{subst, ◌∙◌, arith, AllByRecursion, cases_lt, nat_tests, fold-append, Ask}
@@ -40,6 +40,51 @@ most_is c backs LockIfLastIndex = omega arith
 pub nothing_said : (c : ℕ) (lock : Lock) → LockSays c (λ k filled. Unit {0}) lock
 nothing_said c lock = grind arith
 
+-- ---- what a recovery knows once it has done one thing more to the set
+
+-- The party takes a step that leaves the words `words'` and writes the events `es`, which begin no call: it does to the set what a turn may do,
+-- and the call has done `d` after all that it had done before.
+pub record DoesOneMore {T : Type 0} (scene : Scene T) (d : SetAct) (es : List (Event T)) (words' : List ℕ) : Type 0 where
+  pub begins : BeginsNone scene.party es
+  pub more : set_acts_of scene.party (scene.events ++ es) ≡ set_acts_of scene.party scene.events ++ d ∷ []
+  pub does : Does scene words' es
+
+module _ {T : Type 0} {scene : Scene T} {d : SetAct} {es : List (Event T)} {words' : List ℕ} (step : DoesOneMore scene d es words') where
+  open scene use {by as by_terms, party as p, events as events}
+  open step use {begins, more, does}
+
+  -- where the set was unlocked at a moment of the call before the step, so it was by the events after the step
+  pub open_then : WasOpen (now scene) → HeldSometime p IsUnlocked (events ++ es)
+  open_then was_open = held_later p IsUnlocked events es begins was_open
+
+  -- an act of the recovery is one after the step
+  still_one_then : {one : SetAct} → IsOneOf one (set_acts_of p events) → IsOneOf one (set_acts_of p (events ++ es))
+  still_one_then {one = one} is_one = subst (IsOneOf one) (sym more) (still_one one d (set_acts_of p events) is_one)
+
+  -- each index below `k` that was to be freed throughout the call has still been asked about after the step
+  pub asked_then : (k : ℕ) → AskedBelow k (now scene) → (i owner : ℕ) → i < k
+      → HeldThroughout p (StillToFree p owner i) (events ++ es) → IsOneOf (Asks i owner) (set_acts_of p (events ++ es))
+  asked_then k asked_below i owner below through =
+      still_one_then (asked_below i owner below (through_less p (StillToFree p owner i) events es begins through))
+
+  -- what a recovery knows of the indices that it was told to free, once it has done `d`
+  pub gone_then : (Was Now : ℕ → ℕ → Type 0) → GoneBut Was (now scene)
+      → ((i owner : ℕ) → Was i owner → (filled_of i (events ++ es) ≢ Some owner) ⊎ Now i owner)
+      → ((i owner : ℕ) → d ≡ Yes i owner → (is_gone by_terms owner (events ++ es) ≡ true) × Now i owner)
+      → (i owner : ℕ) → IsOneOf (Yes i owner) (set_acts_of p (events ++ es))
+      → (is_gone by_terms owner (events ++ es) ≡ true)
+      × (IsHonestBy by_terms (events ++ es) → (filled_of i (events ++ es) ≢ Some owner) ⊎ Now i owner)
+  gone_then Was Now gone_but was new i owner told =
+      ⊎_elim
+      (λ earlier.
+      let k = gone_but i owner earlier in (
+        gone_more by_terms owner events es k.0,
+        λ honest. ⊎_elim (λ gone. inl (λ e. gone (stays_lost by_terms events es does.goes.fills i owner honest k.0 e)))
+            (λ exempt. was i owner exempt) (k.1 (honest_less by_terms events es honest)),
+      ))
+      (λ is. let k = new i owner is in (k.0, λ honest. inr k.1))
+      (was_one (Yes i owner) d (set_acts_of p events) (subst (IsOneOf (Yes i owner)) more told))
+
 -- The party `p` recovers in this mode. `c` is the capacity, `ws` the words before the step, `done` what the
 -- recovery has done to the set.
 module _ {T : Type 0} (scene : Scene T) (inv : Inv scene) (mode : ReleaseMode) (here : IsHere scene (Recover mode)) where
@@ -79,105 +124,103 @@ module _ {T : Type 0} (scene : Scene T) (inv : Inv scene) (mode : ReleaseMode) (
       → IsPaid (sees scene ask back) → Lead ask back [] (Done state)
   ends_so state ask back stays right few paid =
       let most = most_is c (backs_then scene back) mode in
-      ends_quietly scene inv ask back here stays (λ i o. refl) (λ i r. refl) right tt (omega arith) paid
+      ends_quietly scene inv ask back here (record {
+        stays = stays;
+        settles = λ i o. refl;
+        rights = λ i r. refl;
+        right = right;
+        done = tt;
+        few = omega arith;
+        paid = paid;
+      })
 
   -- ---- the next index, or the second look at the counter
 
-  -- the step is the last at the index `index`
-  module _ (index : ℕ) (below : index < c) (stage : RecoverStage) (ask : Option Ask) (back : Bool) (few : Few ask back 1 (index + 1)) where
-    -- where no index follows, the recovery keeps within its bound
-    few_last : c ≤ index + 1 → steps + step_count ask ≤ 1 + c * for_index c mode + backs_then scene back * for_back c mode
-    few_last last = grind arith
+  -- where no index follows, a recovery that has come past this one keeps within its bound
+  few_last : {index : ℕ} (ask : Option Ask) (back : Bool) → Few ask back 1 (index + 1) → index < c → c ≤ index + 1
+      → steps + step_count ask ≤ 1 + c * for_index c mode + backs_then scene back * for_back c mode
+  few_last ask back few below last = grind arith
 
-    -- what the recovery has asked, freed and knows, as far as this index
-    module _ (stays : Stays scene (words_after ws ask)) (paid : IsPaid (sees scene ask back))
-        (asked : AllByRecursion (λ i. i < index + 1) (asked_in done)) (freed : FreedWereAsked done)
-        (open_once : WasOpen (now scene))
-        (says : AskedBelow (index + 1) (now scene)) (gone : GoneBut (λ i o. ⊥) (now scene)) where
-      -- a step that leaves all words but the counter, and writes nothing, leads a recovery to the next
-      -- index, or to the second look at the counter
-      pub comes_quietly : Lead ask back [] (recover_comes_to (call_at stage) (index + 1))
-      comes_quietly =
-          by_test (λ s. Lead ask back [] (GoOn (at_recover (call_at stage) s))) (nat_lt (index + 1) c)
-          (recovers.LoadsCell (index + 1)) recovers.LoadsCounterAgain
-          (λ t.
-          let more : index + 1 < c = grind (arith, nat_tests) in
-          goes_quietly scene inv ask
-          back here stays few (refl, refl, record { within = more; asked = asked; freed = freed })
-          (record { paid = paid; scanned = tt; owns = tt; says = (open_once, says); gone = gone }))
-          (λ t.
-          let last : c ≤ index + 1 = grind (arith, nat_tests) in
-          let end : index + 1 ≡ c = omega arith in
-          goes_quietly scene inv ask back
-          here stays (few_last last) (refl, refl, freed)
-          (record { paid = paid; scanned = tt; owns = tt; says = rw (← end) says; gone = gone }))
+  -- What has to be shown of the last step at `index`, which writes nothing and leaves all words but the counter: it is within the bound, and
+  -- what the recovery has asked, freed and knows as far as this index.
+  pub record ComesQuietly (index : ℕ) (ask : Option Ask) (back : Bool) : Type 0 where
+    pub below : index < c
+    pub few : Few ask back 1 (index + 1)
+    pub stays : Stays scene (words_after ws ask)
+    pub paid : IsPaid (sees scene ask back)
+    pub asked : AllByRecursion (λ i. i < index + 1) (asked_in done)
+    pub freed : FreedWereAsked done
+    pub open_once : WasOpen (now scene)
+    pub says : AskedBelow (index + 1) (now scene)
+    pub gone : GoneBut (λ i o. ⊥) (now scene)
 
-    -- a step that writes the events `did`: what the recovery has asked, freed and knows with them
-    module _ (did : List (Event T)) (longer : Lengthens (did ++ [])) (does : Does scene (words_after ws ask) (did ++ []))
-        (stands : AllFollow (Stands promise c) (Open (Robust (Recover mode)) (wrote_of p events)) (did ++ []))
-        (asks : AreRight (AsksBy by) events (did ++ [])) (paid : IsPaid (sees scene ask back))
-        (asked : AllByRecursion (λ i. i < index + 1) (asked_in (done ++ set_acts (did ++ []))))
-        (freed : FreedWereAsked (done ++ set_acts (did ++ [])))
-        (open_once : WasOpen (then_sees scene ask back (did ++ [])))
-        (says : AskedBelow (index + 1) (then_sees scene ask back (did ++ []))) (gone : GoneBut (λ i o. ⊥) (then_sees scene ask back (did ++ []))) where
-      -- a step that writes an event leads a recovery to the next index, or to the second look at the counter
-      pub comes_loudly : Lead ask back did (recover_comes_to (call_at stage) (index + 1))
-      comes_loudly =
-          by_test (λ s. Lead ask back did (GoOn (at_recover (call_at stage) s))) (nat_lt (index + 1) c)
-          (recovers.LoadsCell (index + 1)) recovers.LoadsCounterAgain
-          (λ t.
-          let more : index + 1 < c = grind (arith, nat_tests) in
-          goes_on scene ask back did
-          here longer does stands asks few (refl, refl, record { within = more; asked = asked; freed = freed })
-          (record { paid = omega arith; scanned = tt; owns = tt; says = (open_once, says); gone = gone }))
-          (λ t.
-          let last : c ≤ index + 1 = grind (arith, nat_tests) in
-          let end : index + 1 ≡ c = omega arith in
-          goes_on scene ask back did here
-          longer does stands asks (few_last last) (refl, refl, freed)
-          (record {
-            paid = omega arith;
-            scanned = tt;
-            owns = tt;
-            says = rw (← end) says;
-            gone = gone;
-          }))
+  -- such a step leads a recovery to the next index, or to the second look at the counter
+  pub comes_quietly : {index : ℕ} (stage : RecoverStage) (ask : Option Ask) (back : Bool) → ComesQuietly index ask back
+      → Lead ask back [] (recover_comes_to (call_at stage) (index + 1))
+  comes_quietly {index} stage ask back comes =
+      by_test (λ s. Lead ask back [] (GoOn (at_recover (call_at stage) s))) (nat_lt (index + 1) c)
+      (recovers.LoadsCell (index + 1)) recovers.LoadsCounterAgain
+      (λ t.
+      let more : index + 1 < c = grind (arith, nat_tests) in
+      goes_quietly scene inv ask back here comes.stays comes.few
+      (refl, refl, record { within = more; asked = comes.asked; freed = comes.freed })
+      (record { paid = comes.paid; scanned = tt; owns = tt; says = (comes.open_once, comes.says); gone = comes.gone }))
+      (λ t.
+      let last : c ≤ index + 1 = grind (arith, nat_tests) in
+      let below = comes.below in
+      let end : index + 1 ≡ c = omega arith in
+      let said = comes.says in
+      goes_quietly scene inv ask back here comes.stays (few_last ask back comes.few below last) (refl, refl, comes.freed)
+      (record { paid = comes.paid; scanned = tt; owns = tt; says = rw (← end) said; gone = comes.gone }))
 
-  -- ---- what a recovery knows once it has done `d` to the set
+  -- What has to be shown of the last step at `index`, which writes the events `did`: they do not end the call and may stand in it, the step
+  -- does to the set what a turn may do, it is within the bound, and what the recovery has asked, freed and knows with these events.
+  pub record ComesLoudly (index : ℕ) (ask : Option Ask) (back : Bool) (did : List (Event T)) : Type 0 where
+    pub below : index < c
+    pub few : Few ask back 1 (index + 1)
+    pub longer : Lengthens (did ++ [])
+    pub does : Does scene (words_after ws ask) (did ++ [])
+    pub follows : AllFollow (Stands promise c) (Open (Robust (Recover mode)) (wrote_of p events)) (did ++ [])
+    pub asks : AreRight (AsksBy by) events (did ++ [])
+    pub paid : IsPaid (sees scene ask back)
+    pub asked : AllByRecursion (λ i. i < index + 1) (asked_in (done ++ set_acts (did ++ [])))
+    pub freed : FreedWereAsked (done ++ set_acts (did ++ []))
+    pub open_once : WasOpen (then_sees scene ask back (did ++ []))
+    pub says : AskedBelow (index + 1) (then_sees scene ask back (did ++ []))
+    pub gone : GoneBut (λ i o. ⊥) (then_sees scene ask back (did ++ []))
 
-  module _ (d : SetAct) (es : List (Event T)) (words' : List ℕ) (begins : BeginsNone p es)
-      (more : set_acts_of p (events ++ es) ≡ done ++ d ∷ []) (does : Does scene words' es) where
-    -- a call during which the set was once unlocked had it so after the step, too
-    pub open_then : WasOpen (now scene) → HeldSometime p IsUnlocked (events ++ es)
-    open_then was_open = held_later p IsUnlocked events es begins was_open
-
-    -- an act of the recovery is one after the step
-    still_one_then : {one : SetAct} → IsOneOf one done → IsOneOf one (set_acts_of p (events ++ es))
-    still_one_then {one = one} is_one = subst (IsOneOf one) (sym more) (still_one one d done is_one)
-
-    -- each index below `k` that was to be freed throughout the call has still been asked about after the step
-    pub asked_then : (k : ℕ) → AskedBelow k (now scene) → (i owner : ℕ) → i < k
-        → HeldThroughout p (StillToFree p owner i) (events ++ es) → IsOneOf (Asks i owner) (set_acts_of p (events ++ es))
-    asked_then k asked_below i owner below through =
-        still_one_then (asked_below i owner below (through_less p (StillToFree p owner i) events es begins through))
-
-    -- what a recovery knows of the indices that it was told to free, once it has done `d`
-    pub gone_then : (Was Now : ℕ → ℕ → Type 0) → GoneBut Was (now scene)
-        → ((i owner : ℕ) → Was i owner → (filled_of i (events ++ es) ≢ Some owner) ⊎ Now i owner)
-        → ((i owner : ℕ) → d ≡ Yes i owner → (is_gone by owner (events ++ es) ≡ true) × Now i owner)
-        → (i owner : ℕ) → IsOneOf (Yes i owner) (set_acts_of p (events ++ es))
-        → (is_gone by owner (events ++ es) ≡ true)
-        × (IsHonestBy by (events ++ es) → (filled_of i (events ++ es) ≢ Some owner) ⊎ Now i owner)
-    gone_then Was Now gone_but was new i owner told =
-        ⊎_elim
-        (λ earlier.
-        let k = gone_but i owner earlier in (
-          gone_more by owner events es k.0,
-          λ honest. ⊎_elim (λ gone. inl (λ e. gone (stays_lost by events es does.goes.fills i owner honest k.0 e)))
-              (λ exempt. was i owner exempt) (k.1 (honest_less by events es honest)),
-        ))
-        (λ is. let k = new i owner is in (k.0, λ honest. inr k.1))
-        (was_one (Yes i owner) d done (subst (IsOneOf (Yes i owner)) more told))
+  -- such a step leads a recovery to the next index, or to the second look at the counter
+  pub comes_loudly : {index : ℕ} (stage : RecoverStage) (ask : Option Ask) (back : Bool) (did : List (Event T)) → ComesLoudly index ask back did
+      → Lead ask back did (recover_comes_to (call_at stage) (index + 1))
+  comes_loudly {index} stage ask back did comes =
+      let paid_for = comes.paid in
+      by_test (λ s. Lead ask back did (GoOn (at_recover (call_at stage) s))) (nat_lt (index + 1) c)
+      (recovers.LoadsCell (index + 1)) recovers.LoadsCounterAgain
+      (λ t.
+      let more : index + 1 < c = grind (arith, nat_tests) in
+      goes_on scene ask back did here (record {
+        longer = comes.longer;
+        does = comes.does;
+        follows = comes.follows;
+        asks = comes.asks;
+        few = comes.few;
+        stands = (refl, refl, record { within = more; asked = comes.asked; freed = comes.freed });
+        known = record { paid = omega arith; scanned = tt; owns = tt; says = (comes.open_once, comes.says); gone = comes.gone };
+      }))
+      (λ t.
+      let last : c ≤ index + 1 = grind (arith, nat_tests) in
+      let below = comes.below in
+      let end : index + 1 ≡ c = omega arith in
+      let said = comes.says in
+      goes_on scene ask back did here (record {
+        longer = comes.longer;
+        does = comes.does;
+        follows = comes.follows;
+        asks = comes.asks;
+        few = few_last ask back comes.few below last;
+        stands = (refl, refl, comes.freed);
+        known = record { paid = omega arith; scanned = tt; owns = tt; says = rw (← end) said; gone = comes.gone };
+      }))
 
   -- ---- the load of the counter
 
@@ -247,9 +290,17 @@ module _ {T : Type 0} (scene : Scene T) (inv : Inv scene) (mode : ReleaseMode) (
     passes_empty cell_empty =
         let four = at_least_four c mode in
         let paid = knows.paid in
-        comes_quietly index course.within (recovers.LoadsCell index) load false (omega arith)
-        (stays_same scene inv _ (loads_same ws (cell_word index))) (omega arith) asked_next course.freed knows.says.0
-        (passed_says cell_empty) knows.gone
+        comes_quietly (recovers.LoadsCell index) load false (record {
+          below = course.within;
+          few = omega arith;
+          stays = stays_same scene inv _ (loads_same ws (cell_word index));
+          paid = omega arith;
+          asked = asked_next;
+          freed = course.freed;
+          open_once = knows.says.0;
+          says = passed_says cell_empty;
+          gone = knows.gone;
+        })
 
     -- the cell has an owner
     module _ (other : cell ws index ≢ empty) where
@@ -272,6 +323,9 @@ module _ {T : Type 0} (scene : Scene T) (inv : Inv scene) (mode : ReleaseMode) (
       asks_set_acts : set_acts_of p (events ++ asking) ≡ done ++ Asks index (cell ws index) ∷ []
       asks_set_acts = set_acts_more scene (Recover mode) here asking asks_does.own (λ start w. refl)
 
+      asks_one : DoesOneMore scene (Asks index (cell ws index)) asking (words_after ws load)
+      asks_one = record { begins = tt; more = asks_set_acts; does = asks_does }
+
       -- a recovery that asks about one more index has asked about each that it freed
       asks_freed : FreedWereAsked (done ++ Asks index (cell ws index) ∷ [])
       asks_freed = freed_more (Asks index (cell ws index)) done course.freed (λ i owner e. absurd (cc))
@@ -279,8 +333,7 @@ module _ {T : Type 0} (scene : Scene T) (inv : Inv scene) (mode : ReleaseMode) (
       -- once it has asked about the owner in the cell, the recovery has asked about all up to the index
       asks_says : AskedBelow (index + 1) (then_sees scene load false asking)
       asks_says i owner below through =
-          ⊎_elim (λ before. asked_then (Asks index (cell ws index)) asking (words_after ws load) tt asks_set_acts asks_does
-          index knows.says.1 i owner before through)
+          ⊎_elim (λ before. asked_then asks_one index knows.says.1 i owner before through)
           (λ last.
           let same : i ≡ index = omega arith in
           ⊎_elim (λ filled. filled_here i owner same filled)
@@ -299,29 +352,32 @@ module _ {T : Type 0} (scene : Scene T) (inv : Inv scene) (mode : ReleaseMode) (
       asks_about : Lead load false asking (GoOn (at_recover (call_at (recovers.LoadsCell index)) (recovers.Asks index (cell ws index))))
       asks_about =
           let paid = knows.paid in
-          goes_on scene load
-          false asking here (λ start w. refl) asks_does (course.asked, tt) ((is_filled.1, knows.says.0), tt)
-          (omega arith) (
-            refl,
-            refl,
-            (
-              record {
-                within = course.within;
-                asked = asks_more (index + 1) (Asks index (cell ws index)) done asked_next (omega arith, tt);
-                freed = asks_freed;
-              },
-              is_filled.0,
-              record { before = done; is = refl },
-            ),
-          )
-          (record {
-            paid = omega arith;
-            scanned = tt;
-            owns = tt;
-            says = (open_then (Asks index (cell ws index)) asking (words_after ws load) tt asks_set_acts asks_does knows.says.0, asks_says);
-            gone =
-                gone_then (Asks index (cell ws index)) asking (words_after ws load) tt asks_set_acts asks_does (λ i o. ⊥)
-                (λ i o. ⊥) knows.gone (λ i o never. absurd never) (λ i o e. absurd (cc));
+          goes_on scene load false asking here (record {
+            longer = λ start w. refl;
+            does = asks_does;
+            follows = (course.asked, tt);
+            asks = ((is_filled.1, knows.says.0), tt);
+            few = omega arith;
+            stands = (
+              refl,
+              refl,
+              (
+                record {
+                  within = course.within;
+                  asked = asks_more (index + 1) (Asks index (cell ws index)) done asked_next (omega arith, tt);
+                  freed = asks_freed;
+                },
+                is_filled.0,
+                record { before = done; is = refl },
+              ),
+            );
+            known = record {
+              paid = omega arith;
+              scanned = tt;
+              owns = tt;
+              says = (open_then asks_one knows.says.0, asks_says);
+              gone = gone_then asks_one (λ i o. ⊥) (λ i o. ⊥) knows.gone (λ i o never. absurd never) (λ i o e. absurd (cc));
+            };
           })
 
     -- the load of a cell keeps the invariant (`Shows`), whether the cell is empty or not

@@ -1,5 +1,4 @@
--- Each step of a release of the robust index set keeps the invariant: it keeps the
--- invariant (`Shows`, Invariant).
+-- Each step of a release of the robust index set keeps the invariant, in the form that the frame asks of a turn (`Shows`, Invariant).
 use Rattle.laws_robust.proofs.Names.{◌≡◌, ◌≢◌, ℕ, ◌+◌, ◌<◌, ◌≤◌, inl, inr, Bool, true, false, Option, Some, None}
 use Rattle.laws_robust.proofs.Names.{List, [], ◌∷◌, ◌++◌, set, refl, ap, subst, arith, sym, Ok, flat_map-append}
 use Rattle.laws_robust.proofs.Names.{fold-append, Ask, After, Done, ReleaseMode, LockIfLastIndex, Default}
@@ -11,7 +10,6 @@ use Rattle.laws_robust.proofs.Names.{settled_of, is_dead, HasDone, as_it_is, Sin
 use Rattle.laws_robust.proofs.Names.{words_after, step_count}
 use Rattle.steps.specs.declared.indices.enums.ReleaseState.TheVariants as states
 use Rattle.steps.specs.declared.indices.enums.RobustUniqueIndexSetReleaseError.{RobustUniqueIndexSetReleaseError}
-use Rattle.steps.specs.declared.indices.robust.parts.Raise.TheVariants as raises
 use Rattle.steps.specs.declared.indices.robust.release.Release as calls
 use Rattle.steps.specs.declared.indices.robust.release.ReleaseStage.TheVariants as releases
 use Rattle.model.specs.declared.families.indices.robust.RobustStart.TheVariants.{Release}
@@ -20,7 +18,7 @@ use Rattle.laws_robust.specs.Gone.{GoneBy, Word, is_gone, GivesBackRight, IsHone
 use Rattle.laws_robust.proofs.Core.{counter_of}
 use Rattle.laws_robust.proofs.Effects.{Stays, quiet_end, stays_same}
 use Rattle.laws_robust.proofs.Gone.{lives_freed}
-use Rattle.laws_robust.proofs.HeldRelease.{Caller, Ends, StepAt, held_step}
+use Rattle.laws_robust.proofs.HeldRelease.{Releasing, Caller, Ends, StepAt, held_step}
 use Rattle.laws_robust.proofs.Invariant.{IsWorn, Scene, Inv, wrote_of}
 use Rattle.laws_robust.proofs.Knows.{Knows, IsPaid}
 use Rattle.laws_robust.proofs.CallProgress.{release_at, release_number, ReleaseAt}
@@ -71,9 +69,25 @@ module _ {T : Type 0} {scene : Scene T} (inv : Inv scene) (index owner : ℕ) (f
         → (is_gone by owner events ≡ false) × SinceBegin p (λ part since. settled_of index part ≡ Some owner) events
     began = grind (arith, lives_freed, gives_back)
 
+    -- the release, as `HeldRelease` takes it
+    abbrev releasing : Releasing T
+    releasing =
+        record {
+          scene = scene;
+          inv = inv;
+          index = index;
+          owner = owner;
+          mode = mode;
+          fits = fits;
+          below = below;
+          lives = lives;
+          began = began;
+          extra = 0;
+        }
+
     -- what the state says with which the release ends
     abbrev EndShows : List ℕ → ReleaseMode → ReleaseState → Type 0
-    EndShows words' m state = Ends scene inv index owner mode fits below lives began 0 words' m state
+    EndShows words' m state = Ends releasing words' m state
 
     -- a step that ends the release with this state keeps the invariant (`Shows`)
     ends_with : (m : ReleaseMode) → IsHere scene (Release index owner m)
@@ -84,14 +98,35 @@ module _ {T : Type 0} {scene : Scene T} (inv : Inv scene) (index owner : ℕ) (f
         → Lead m ask back [] (Done (Ok state))
     ends_with Default is_here states.Locked ask back stays why done paid few = absurd why
     ends_with Default is_here states.Unlocked ask back stays why done paid few =
-        ends_quietly scene inv ask back is_here stays
-        (λ j o. refl) (λ j r. refl) tt done (omega arith) paid
+        ends_quietly scene inv ask back is_here (record {
+          stays = stays;
+          settles = λ i o. refl;
+          rights = λ i r. refl;
+          right = tt;
+          done = done;
+          few = omega arith;
+          paid = paid;
+        })
     ends_with LockIfLastIndex is_here states.Locked ask back stays why done paid few =
-        ends_quietly scene inv ask back is_here
-        stays (λ j o. refl) (λ j r. refl) why (inl done) (omega arith) paid
+        ends_quietly scene inv ask back is_here (record {
+          stays = stays;
+          settles = λ i o. refl;
+          rights = λ i r. refl;
+          right = why;
+          done = inl done;
+          few = omega arith;
+          paid = paid;
+        })
     ends_with LockIfLastIndex is_here states.Unlocked ask back stays why done paid few =
-        ends_quietly scene inv ask back is_here
-        stays (λ j o. refl) (λ j r. refl) why done (omega arith) paid
+        ends_quietly scene inv ask back is_here (record {
+          stays = stays;
+          settles = λ i o. refl;
+          rights = λ i r. refl;
+          right = why;
+          done = done;
+          few = omega arith;
+          paid = paid;
+        })
 
     -- the acts of a release that locks are the free and the lock
     all_done : all scene ≡ Frees index owner ∷ [] → set_acts (wrote_of p events ++ Locked p ∷ []) ≡ Frees index owner ∷ Locks ∷ []
@@ -110,36 +145,53 @@ module _ {T : Type 0} {scene : Scene T} (inv : Inv scene) (index owner : ℕ) (f
         → Lead m ask false (Locked p ∷ []) (Done (Ok states.Locked))
     locks_with Default is_here ask mode none less new done paid few = absurd (cc)
     locks_with LockIfLastIndex is_here ask mode none less new done paid few =
-        ends scene (State states.Locked) ask false (Locked p ∷ []) is_here (λ start w. refl)
-        (locks scene inv (words_after ws ask) (Finished p (Robust (Release index owner LockIfLastIndex)) (State states.Locked) ∷ [])
-        (quiet_end p (Robust (Release index owner LockIfLastIndex)) (State states.Locked) (λ j o. refl) (λ j r. refl))
-        (refl, tt) (tt, tt) (now_locked, tt) none less new)
-        (done, ((refl, inr (all_done done)), tt)) (tt, (tt, tt)) (omega arith) paid
+        ends scene (State states.Locked) ask false (Locked p ∷ []) is_here (record {
+          longer = λ start w. refl;
+          does =
+              locks scene inv (words_after ws ask) (Finished p (Robust (Release index owner LockIfLastIndex)) (State states.Locked) ∷ [])
+              (quiet_end p (Robust (Release index owner LockIfLastIndex)) (State states.Locked) (λ j o. refl) (λ j r. refl))
+              (refl, tt) (tt, tt) (now_locked, tt) none less new;
+          follows = (done, ((refl, inr (all_done done)), tt));
+          asks = (tt, (tt, tt));
+          few = omega arith;
+          paid = paid;
+        })
 
     -- `HeldRelease` asks the caller of a release for this: what a step leads to that goes on, frees, or ends
-    caller : Caller scene inv index owner mode fits below lives began 0 (Lead mode)
+    caller : Caller releasing (Lead mode)
     caller =
         record {
           quiet =
               λ next ask back stays at known few. goes_quietly scene inv ask back here stays (omega arith) (refl, refl, fits, below, at)
               known;
           freed = λ ask new does none known few.
-              goes_on scene ask
-              false (FreedOf p index owner ∷ []) here (λ start w. refl) does
-              ((refl, refl, none), tt) (tt, tt) (omega arith) (refl, refl, fits, below, ap (λ d. d ++ Frees index owner ∷ []) none) known;
+              goes_on scene ask false (FreedOf p index owner ∷ []) here (record {
+                longer = λ start w. refl;
+                does = does;
+                follows = ((refl, refl, none), tt);
+                asks = (tt, tt);
+                few = omega arith;
+                stands = (refl, refl, fits, below, ap (λ d. d ++ Frees index owner ∷ []) none);
+                known = known;
+              });
           refused = λ ask same other none paid few.
-              ends_quietly scene inv ask false
-              here (stays_same scene inv (words_after ws ask) same) (λ i o. refl) (λ i r. refl)
-              (not_owned_right by (IsWorn by (words_after ws ask)) c p index owner mode IndexIsNotOwnedByProvidedOwner events other)
-              (not_owned_done T index owner mode IndexIsNotOwnedByProvidedOwner (all scene) none) (omega arith) paid;
+              ends_quietly scene inv ask false here (record {
+                stays = stays_same scene inv (words_after ws ask) same;
+                settles = λ i o. refl;
+                rights = λ i r. refl;
+                right = not_owned_right by (IsWorn by (words_after ws ask)) c p index owner mode IndexIsNotOwnedByProvidedOwner events other;
+                done = not_owned_done T index owner mode IndexIsNotOwnedByProvidedOwner (all scene) none;
+                few = omega arith;
+                paid = paid;
+              });
           ended = ends_with mode here;
           locks = locks_with mode here;
         }
 
     abbrev held : (stage : ReleaseStage) → ReleaseAt c index owner mode (all scene) stage
         → Knows c (release_at c index owner mode stage) (now scene) → steps ≤ 0 + release_number c mode stage backs
-        → StepAt scene inv index owner mode fits below lives began 0 (Lead mode) caller stage
-    held = held_step scene inv index owner mode fits below lives began 0 (Lead mode) caller
+        → StepAt releasing (Lead mode) caller stage
+    held = held_step releasing (Lead mode) caller
 
     -- any step of a release keeps the invariant (`Shows`), where the release stands at its stage and knows
     -- what the stage says

@@ -45,7 +45,7 @@ use Rattle.laws_robust.proofs.Stages.{IsHere, all, now, StepOf, DecisionOf}
 
 -- ---- a step of a call that no row refuses
 
--- the parts of calls, an acquire and a release ask no question
+-- a raise asks no question
 pub raise_asks_none : (raise : Raise) → is_question (raise_want raise) ≡ false
 raise_asks_none = grind arith
 
@@ -244,8 +244,8 @@ module _ {T : Type 0} (by : GoneBy) (code : Coding T) (c : ℕ) (t : Trace T) (s
         record {
           state = _;
           fit = record { kept = refl; words = refl };
-          holds = holds_more (scene_of p x since) _ (Open (Robust start) (wrote_of p t.events)) _ _ _ moves s.holds s.inv;
-          owes = owes (scene_of p x since) _ (Open (Robust start) (wrote_of p t.events)) _ _ _ moves s.holds s.inv there.here;
+          holds = holds_more (scene_of p x since) moves s.holds s.inv;
+          owes = owes (scene_of p x since) moves s.holds s.inv there.here;
         }
     comes room not_refused stands_there = absurd stands_there.at
 
@@ -269,8 +269,8 @@ module _ {T : Type 0} (by : GoneBy) (code : Coding T) (c : ℕ) (t : Trace T) (s
         record {
           state = _;
           fit = record { kept = refl; words = refl };
-          holds = holds_more (scene_of p x since) _ (Open (Robust start) (wrote_of p t.events)) _ _ _ moves s.holds s.inv;
-          owes = owes (scene_of p x since) _ (Open (Robust start) (wrote_of p t.events)) _ _ _ moves s.holds s.inv there.here;
+          holds = holds_more (scene_of p x since) moves s.holds s.inv;
+          owes = owes (scene_of p x since) moves s.holds s.inv there.here;
         }
     decides room said may_decide asks stands_there = absurd stands_there.at
 
@@ -314,8 +314,8 @@ module _ {T : Type 0} (by : GoneBy) (code : Coding T) (c : ℕ) (t : Trace T) (s
         record {
           state = _;
           fit = record { kept = refl; words = refl };
-          holds = holds_more scene s.state.words (span_of p t.events) party_after (Begun p (Robust start) ∷ []) t.world.changes shows s.holds s.inv;
-          owes = owes scene s.state.words (span_of p t.events) party_after (Begun p (Robust start) ∷ []) t.world.changes shows s.holds s.inv refl;
+          holds = holds_more scene shows s.holds s.inv;
+          owes = owes scene shows s.holds s.inv refl;
         }
 
     -- the span of a party whose call begins is open with nothing written

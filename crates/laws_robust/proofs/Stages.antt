@@ -1,7 +1,7 @@
 -- What a step of a call of the robust index set has to show (`Leads`, `StepOf`), and the lemmas for a call
 -- that goes on and for one that ends.
 use Rattle.laws_robust.proofs.Names.{◌≡◌, ◌≢◌, ℕ, ◌+◌, ◌≤◌, ◌==◌, ⊎_elim, inl, inr, if◌then◌else◌, Bool, true, false}
-use Rattle.laws_robust.proofs.Names.{Option, Some, None, List, [], ◌∷◌, ◌++◌, get_or, set, fold, refl, sym, ap, subst}
+use Rattle.laws_robust.proofs.Names.{Option, Some, None, List, [], ◌∷◌, ◌++◌, get_or, set, fold, refl, sym, ap}
 use Rattle.laws_robust.proofs.Names.{◌∙◌, append-nil, arith, eq-eqb, ne_eqb, nat_tests, set-get_or, flat_map-append}
 use Rattle.laws_robust.proofs.Names.{fold-append, Ask, After, GoOn, Done, Answer, Event, Finished, Robust, Flight}
 use Rattle.laws_robust.proofs.Names.{RobustStart, RobustFlight, Over, Party, ask_of, most_steps, want, after}
@@ -182,55 +182,66 @@ module _ {T : Type 0} (scene : Scene T) where
 
   -- ---- the call goes on, or ends
 
-  -- a step after which the call goes on keeps the invariant (`Shows`), where the call stands at its next
-  -- stage, knows what that stage says, and is within its bound of steps
-  pub goes_on :
-      {start : RobustStart} {flight : RobustFlight} (ask : Option Ask) (back : Bool) (did : List (Event T)) → IsHere start → Lengthens (did ++ [])
-      → Does scene (words_after ws ask) (did ++ [])
-      → AllFollow (Stands promise c) (Open (Robust start) (wrote_of p events)) (did ++ [])
-      → AreRight (AsksBy by) events (did ++ [])
-      → steps + step_count ask ≤ standing.number_of c flight (backs_then back)
-      → At c (set_acts_of p events ++ set_acts (did ++ [])) start flight
-      → Knows c flight (then_sees ask back (did ++ []))
-      → Leads start ask back did (GoOn flight)
-  goes_on {start = start} ask back did here longer does stands asks few at known =
+  -- What has to be shown of a step with the operation `ask` after which the call goes on: the events `did` that it writes do not end the call
+  -- and may stand in it, it does to the set what a turn may do, and after it the call is within its steps, stands at its next
+  -- stage and knows what that stage says.
+  pub record GoesOn (start : RobustStart) (flight : RobustFlight) (ask : Option Ask) (back : Bool) (did : List (Event T)) : Type 0 where
+    pub longer : Lengthens (did ++ [])
+    pub does : Does scene (words_after ws ask) (did ++ [])
+    pub follows : AllFollow (Stands promise c) (Open (Robust start) (wrote_of p events)) (did ++ [])
+    pub asks : AreRight (AsksBy by) events (did ++ [])
+    pub few : steps + step_count ask ≤ standing.number_of c flight (backs_then back)
+    pub stands : At c (set_acts_of p events ++ set_acts (did ++ [])) start flight
+    pub known : Knows c flight (then_sees ask back (did ++ []))
+
+  -- such a step keeps the invariant (`Shows`)
+  pub goes_on : {start : RobustStart} {flight : RobustFlight} (ask : Option Ask) (back : Bool) (did : List (Event T))
+      → IsHere start → GoesOn start flight ask back did → Leads start ask back did (GoOn flight)
+  goes_on {start = start} ask back did here goes =
+      let own = goes.does.own in
       record {
-        does = does;
-        stands = stands;
-        asks = asks;
+        does = goes.does;
+        stands = goes.follows;
+        asks = goes.asks;
         here =
             record {
-              span = longer start (wrote_of p events) ∙ ap (λ es. Open (Robust start) es) (sym (wrote_more start here (did ++ []) does.own longer));
-              steps = few;
-              at = rw (set_acts_more start here (did ++ []) does.own longer) at;
+              span =
+                  goes.longer start (wrote_of p events)
+                  ∙ ap (λ es. Open (Robust start) es) (sym (wrote_more start here (did ++ []) own goes.longer));
+              steps = goes.few;
+              at = rw (set_acts_more start here (did ++ []) own goes.longer) goes.stands;
             };
-        knows = known;
+        knows = goes.known;
         seen = is_seen ws ask changes;
       }
 
-  -- a step that ends the call keeps the invariant (`Shows`), where the call is within its bound of steps
-  -- and its end is right
-  pub ends :
-      {start : RobustStart} (answer : Answer T) (ask : Option Ask) (back : Bool) (did : List (Event T)) → IsHere start → Lengthens did
-      → Does scene (words_after ws ask) (did ++ Finished p (Robust start) answer ∷ [])
-      → AllFollow (Stands promise c) (Open (Robust start) (wrote_of p events)) (did ++ Finished p (Robust start) answer ∷ [])
-      → AreRight (AsksBy by) events (did ++ Finished p (Robust start) answer ∷ [])
-      → steps + step_count ask ≤ most_steps c start (backs_then back)
-      → IsPaid (then_sees ask back (did ++ Finished p (Robust start) answer ∷ []))
-      → Leads start ask back did (Done answer)
-  ends {start = start} answer ask back did here longer does stands asks few paid =
+  -- What has to be shown of a step with the operation `ask` that ends the call with `answer`: the events `did`, and then the end, may stand in the
+  -- call, it does to the set what a turn may do, and the call is within its bound of steps and has paid for its turns back.
+  pub record Ends (start : RobustStart) (answer : Answer T) (ask : Option Ask) (back : Bool) (did : List (Event T)) : Type 0 where
+    pub longer : Lengthens did
+    pub does : Does scene (words_after ws ask) (did ++ Finished p (Robust start) answer ∷ [])
+    pub follows : AllFollow (Stands promise c) (Open (Robust start) (wrote_of p events)) (did ++ Finished p (Robust start) answer ∷ [])
+    pub asks : AreRight (AsksBy by) events (did ++ Finished p (Robust start) answer ∷ [])
+    pub few : steps + step_count ask ≤ most_steps c start (backs_then back)
+    pub paid : IsPaid (then_sees ask back (did ++ Finished p (Robust start) answer ∷ []))
+
+  -- such a step keeps the invariant (`Shows`)
+  pub ends : {start : RobustStart} (answer : Answer T) (ask : Option Ask) (back : Bool) (did : List (Event T))
+      → IsHere start → Ends start answer ask back did → Leads start ask back did (Done answer)
+  ends {start = start} answer ask back did here ending =
+      let paid = ending.paid in
       record {
-        does = does;
-        stands = stands;
-        asks = asks;
+        does = ending.does;
+        stands = ending.follows;
+        asks = ending.asks;
         here =
             record {
               answer = answer;
               wrote = wrote_of p events ++ did;
               span =
                   fold-append own_after (Open (Robust start) (wrote_of p events)) did (Finished p (Robust start) answer ∷ [])
-                  ∙ ap (λ s. own_after s (Finished p (Robust start) answer)) (longer start (wrote_of p events));
-              steps = few;
+                  ∙ ap (λ s. own_after s (Finished p (Robust start) answer)) (ending.longer start (wrote_of p events));
+              steps = ending.few;
             };
         knows = omega arith;
         seen = is_seen ws ask changes;
@@ -247,22 +258,38 @@ module _ {T : Type 0} (scene : Scene T) where
         → Knows c flight (view by (words_after ws ask) events p (since_then ask) (changes_then ask) (backs_then back))
         → Leads start ask back [] (GoOn flight)
     goes_quietly {start = start} {flight = flight} ask back here stays few at known =
-        goes_on ask back [] here none_lengthens (quietly scene inv (words_after ws ask) [] stays.leaves quiet_none tt tt tt) tt tt few
-        (rw (append-nil (set_acts_of p events)) at)
-        (rw (append-nil events) known)
+        goes_on ask back [] here (record {
+          longer = none_lengthens;
+          does = quietly scene inv (words_after ws ask) [] stays.leaves quiet_none tt tt tt;
+          follows = tt;
+          asks = tt;
+          few = few;
+          stands = rw (append-nil (set_acts_of p events)) at;
+          known = rw (append-nil events) known;
+        })
 
-    -- a step that writes nothing but the end of the call keeps the invariant (`Shows`)
-    pub ends_quietly :
-        {start : RobustStart} {answer : Answer T} (ask : Option Ask) (back : Bool) → IsHere start → Stays scene (words_after ws ask)
-        → ((i : ℕ) (o : Option ℕ) → settled_after i o (Finished p (Robust start) answer) ≡ o)
-        → ((i : ℕ) (r : Right) → right_after i r (Finished p (Robust start) answer) ≡ r)
-        → AnswersBy by (IsWorn by (words_after ws ask)) c events (Finished p (Robust start) answer)
-        → HasDone start answer (set_acts_of p events)
-        → steps + step_count ask ≤ most_steps c start (backs_then back)
-        → IsPaid (then_sees ask back (Finished p (Robust start) answer ∷ []))
-        → Leads start ask back [] (Done answer)
-    ends_quietly {start = start} {answer = answer} ask back here stays settles rights right done few paid =
-        ends answer ask back [] here none_lengthens
-        (quietly scene inv (words_after ws ask) (Finished p (Robust start) answer ∷ []) stays.leaves
-        (quiet_end p (Robust start) answer settles rights) (refl, tt) (tt, tt) (right, tt))
-        ((refl, done), tt) (tt, tt) few paid
+    -- What has to be shown of a step that ends the call with `answer`, leaves all words but the counter and writes nothing but the end: the
+    -- set reads nothing in that end, the answer is right and as the call has done, and the call is within its steps and has paid.
+    pub record EndsQuietly (start : RobustStart) (answer : Answer T) (ask : Option Ask) (back : Bool) : Type 0 where
+      pub stays : Stays scene (words_after ws ask)
+      pub settles : (i : ℕ) (o : Option ℕ) → settled_after i o (Finished p (Robust start) answer) ≡ o
+      pub rights : (i : ℕ) (r : Right) → right_after i r (Finished p (Robust start) answer) ≡ r
+      pub right : AnswersBy by (IsWorn by (words_after ws ask)) c events (Finished p (Robust start) answer)
+      pub done : HasDone start answer (set_acts_of p events)
+      pub few : steps + step_count ask ≤ most_steps c start (backs_then back)
+      pub paid : IsPaid (then_sees ask back (Finished p (Robust start) answer ∷ []))
+
+    -- such a step keeps the invariant (`Shows`)
+    pub ends_quietly : {start : RobustStart} {answer : Answer T} (ask : Option Ask) (back : Bool)
+        → IsHere start → EndsQuietly start answer ask back → Leads start ask back [] (Done answer)
+    ends_quietly {start = start} {answer = answer} ask back here ending =
+        ends answer ask back [] here (record {
+          longer = none_lengthens;
+          does =
+              quietly scene inv (words_after ws ask) (Finished p (Robust start) answer ∷ []) ending.stays.leaves
+              (quiet_end p (Robust start) answer ending.settles ending.rights) (refl, tt) (tt, tt) (ending.right, tt);
+          follows = ((refl, ending.done), tt);
+          asks = (tt, tt);
+          few = ending.few;
+          paid = ending.paid;
+        })

@@ -79,8 +79,16 @@ module _ {T : Type 0} {scene : Scene T Value} (inv : Inv outline scene) (small :
         → KnowsBacks k (since + change_of (layout ho k) loads_word) (changes_then scene loads_word) (backs + 0) stage
         → StepShows loads_word false (GoOn (load_at room_then stage))
     loaded_word stage knows few_steps paid =
-        quiet scene inv false starts.Load loads_word (load_at room_then stage) k refl refl g
-        (set-get_or (layout ho k) place 0) few_steps knows paid (λ q ne st f h. h)
+        quiet scene inv false starts.Load loads_word (load_at room_then stage) k (record {
+          version = refl;
+          now = refl;
+          good = g;
+          words_then = set-get_or (layout ho k) place 0;
+          steps = few_steps;
+          at = knows;
+          knows = paid;
+          others = λ q ne st f h. h;
+        })
 
     abbrev next_cell : LoadStage
     next_cell = loading.LoadsCell version (cell_word code.size (before_version version)) (at + 1)

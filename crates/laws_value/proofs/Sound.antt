@@ -80,8 +80,8 @@ module _ {T : Type 0} (t : Trace T) (turn : Turn T) (p : ℕ) (mine : IsParty tu
 
 -- the run `t` is sound
 module _ {T : Type 0} (code : Coding T) (c : ℕ) (t : Trace T) (sound : frame.Sound (family code c) t) where
-  -- between two turns the words hold the value that stands by the events, and the role's word
-  -- says who holds the role
+  -- between two turns the words hold the value that stands by the events, the moments and the answers so far
+  -- are right, and the machine keeps who holds the role
   value_kept : t.world.coding ≡ code → IsValue t
   value_kept same =
       let world = t.world in

@@ -67,15 +67,22 @@ module _ {T : Type 0} (scene : Scene T Value) where
   abbrev pub StepOf : AtomicStart T → AtomicFlight T → Type 0
   StepOf start flight = StepShowsBy start (ask_of (want code flight)) (goes_back flight (old_for flight)) (after code flight (old_for flight))
 
+  -- a step with which the call goes on to `flight`, and which leaves the core `k'` with the version and the value that stood
+  pub record GoesOn (back : Bool) (start : AtomicStart T) (ask : Option Ask) (flight : AtomicFlight T) (k' : Core) : Type 0 where
+    pub version : k'.version ≡ k.version
+    pub now : k'.now ≡ k.now
+    pub good : Good code.size k'
+    pub words_then : words_after words ask ≡ layout ho k'
+    -- the call is within its bound of steps, stands at its next stage and knows what the stage says
+    pub steps : scene.steps + step_count ask ≤ (family code scene.capacity).number [] (flights.Atomic flight) (scene.backs + one_if back)
+    pub at : At code ho k' p start flight
+    pub knows : KnowsFlight k' (scene.since + change_of words ask) (changes_then ask) (scene.backs + one_if back) flight
+    -- the calls of other parties stand where they stood
+    pub others : (q : ℕ) → q ≢ p → (s : AtomicStart T) (f : AtomicFlight T) → At code ho k q s f → At code ho k' q s f
+
   module _ (inv : Inv outline scene) where
     -- a call goes on, and the step leaves the version and the value that stands
-    pub quiet :
-        (back : Bool) (start : AtomicStart T) (ask : Option Ask) (flight : AtomicFlight T) (k' : Core)
-        → k'.version ≡ k.version → k'.now ≡ k.now → Good code.size k' → words_after words ask ≡ layout ho k'
-        → scene.steps + step_count ask ≤ (family code scene.capacity).number [] (flights.Atomic flight) (scene.backs + one_if back)
-        → At code ho k' p start flight
-        → KnowsFlight k' (scene.since + change_of words ask) (changes_then ask) (scene.backs + one_if back) flight
-        → ((q : ℕ) → q ≢ p → (s : AtomicStart T) (f : AtomicFlight T) → At code ho k q s f → At code ho k' q s f)
+    pub quiet : (back : Bool) (start : AtomicStart T) (ask : Option Ask) (flight : AtomicFlight T) (k' : Core) → GoesOn back start ask flight k'
         → StepShowsWith ho [] start ask back (GoOn flight)
     quiet = grind arith
 

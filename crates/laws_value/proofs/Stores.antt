@@ -70,18 +70,23 @@ module _ {T : Type 0} {scene : Scene T Value} (inv : Inv outline scene) (value :
       → KnowsStore code.size (then_core at) (code.words_of value) stage → 1 + at + 1 ≤ store_number code.size stage
       → StepShows (stores_word at) (GoOn (store_at value stage))
   stored_word at below few_steps stage knows more =
-      quiet scene inv false (starts.Store value) (stores_word at) (store_at value stage) (then_core at)
-      refl refl (fills code.size at (word at) below g)
-      (core.set_at k.version (free ho) k.cells (word_at (cell_word code.size k.version) at)
-      (code.size * (k.version % 2) + at) (word at) (asked_place code.size k.version at coded.few below))
-      (omega arith)
-      (holds, refl, knows)
-      (omega arith)
-      (λ q ne. kept code ho ho k (then_core at) q (record {
-        holder = λ h. h;
-        store = λ h words stage other. absurd (clash ho p q ne holds h);
-        load = λ room stage other. load_stays code.size k (then_core at) room stage refl refl other;
-      }))
+      quiet scene inv false (starts.Store value) (stores_word at) (store_at value stage) (then_core at) (record {
+        version = refl;
+        now = refl;
+        good = fills code.size at (word at) below g;
+        words_then =
+            core.set_at k.version (free ho) k.cells (word_at (cell_word code.size k.version) at)
+            (code.size * (k.version % 2) + at) (word at) (asked_place code.size k.version at coded.few below);
+        steps = omega arith;
+        at = (holds, refl, knows);
+        knows = omega arith;
+        others =
+            λ q ne. kept code ho ho k (then_core at) q (record {
+              holder = λ h. h;
+              store = λ h words stage other. absurd (clash ho p q ne holds h);
+              load = λ room stage other. load_stays code.size k (then_core at) room stage refl refl other;
+            });
+      })
 
   -- the step in which a store stores a word into the cell: it goes on to the next word, or to the version
   -- behind the last

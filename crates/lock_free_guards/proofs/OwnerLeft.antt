@@ -185,8 +185,8 @@ module _ (p : ℕ) (start : Start ℕ) where
       ∙ (ap (λ (s : Span ℕ). fold own_after s (wrote_by p visits)) (grows_one es v.index v.owner v.came)
       ∙ (grows (es ++ wrote_of p v) visits ∙ ap (Open start) (append_assoc es (wrote_of p v) (wrote_by p visits))))
 
--- v and w are what the pass knew before the recovery and after it, q is the party that ended one last
-module _ (owner : ℕ) (mode : ReleaseMode) (state : ReleaseState) (v w : View ℕ) (h : HasRecoveredOwner owner mode state v w) (q : ℕ)
+-- v and w are what the pass knew before the recovery and after it, and q is the party that ended one last.
+module _ {owner : ℕ} {mode : ReleaseMode} {state : ReleaseState} {v w : View ℕ} (h : HasRecoveredOwner owner mode state v w) (q : ℕ)
     (before : List (Event ℕ)) (is : w.seen ≡ before ++ Finished q (Robust (Recover mode)) (State state) ∷ []) where
   abbrev start : Start ℕ
   start = Robust (Recover mode)
@@ -259,7 +259,6 @@ owner_answered owner mode states.Unlocked v w recovered_owner right_recovery =
       since = right_recovery.since;
       right = (
         right_recovery.right.0,
-        leaves_none owner mode states.Unlocked v w recovered_owner right_recovery.by right_recovery.before
-            right_recovery.is right_recovery.right.1,
+        leaves_none recovered_owner right_recovery.by right_recovery.before right_recovery.is right_recovery.right.1,
       );
     }

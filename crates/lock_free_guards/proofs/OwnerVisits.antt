@@ -21,9 +21,9 @@ use Rattle.lock_free_guards.specs.Recovered.{IsToldFor, HasRecoveredOwner}
 
 -- ---- what the first closure said
 
--- named is the owner that a closure is told of: with each call it stays, and the closure says yes
--- just if it has the index
-module _ {F : Type 0} (step : F → ℕ → ℕ → Bool → F → Type 0) (named : F → ℕ) (owner : ℕ)
+-- `named` is the owner whose indices a closure has freed: no call changes this owner, and the closure says yes about an
+-- index just if it is this owner's.
+module _ {F : Type 0} {step : F → ℕ → ℕ → Bool → F → Type 0} (named : F → ℕ) (owner : ℕ)
     (says : (p : F) (o i : ℕ) (b : Bool) (q : F) → step p o i b q → (named q ≡ named p) × (b ≡ (o == named p))) where
   -- At each visit the first closure said yes just if the index had this owner.
   told_for : (f last : F) (visits : List Visit) → named f ≡ owner → FoldsTo (asks step) f (questions_of visits) last → All (IsToldFor owner) visits
@@ -33,9 +33,9 @@ module _ {F : Type 0} (step : F → ℕ → ℕ → Bool → F → Type 0) (name
       All-cons (IsToldFor owner) v visits (here.1 ∙ ap (λ n. v.owner == n) is) (told_for h.0 last visits (here.0 ∙ is) h.2)
 
   -- a recovery whose first closure says yes about an owner's indices alone is a recovery for this owner
-  pub recovers_owner : {S : Type 0} (tell : S → ℕ → ℕ → S → Type 0) (mode : ReleaseMode) (state : ReleaseState) (f last : F) (s s_last : S) (v w : View ℕ)
+  pub recovers_owner : {S : Type 0} {tell : S → ℕ → ℕ → S → Type 0} {mode : ReleaseMode} {state : ReleaseState} {f last : F} {s s_last : S} {v w : View ℕ}
       → named f ≡ owner → HasRecovered step tell mode state f s last s_last v w → HasRecoveredOwner owner mode state v w
-  recovers_owner tell mode state f last s s_last v w is recovered =
+  recovers_owner {f} {last} is recovered =
       record {
         by = recovered.by;
         mine = recovered.mine;
@@ -101,22 +101,22 @@ module _ (owner p : ℕ) where
         )
 
 -- the visits freed as many of his as the second closure was told of
-pub freed_his : {F S : Type 0} (step : F → ℕ → ℕ → Bool → F → Type 0) (named : F → ℕ) (owner : ℕ)
+pub freed_his : {F S : Type 0} {step : F → ℕ → ℕ → Bool → F → Type 0} (named : F → ℕ) (owner : ℕ)
     → ((p : F) (o i : ℕ) (b : Bool) (q : F) → step p o i b q → (named q ≡ named p) × (b ≡ (o == named p)))
-    → (tell : S → ℕ → ℕ → S → Type 0) (mode : ReleaseMode) (state : ReleaseState) (f last : F) (s s_last : S) (v w : View ℕ) → named f ≡ owner
+    → {tell : S → ℕ → ℕ → S → Type 0} {mode : ReleaseMode} {state : ReleaseState} {f last : F} {s s_last : S} {v w : View ℕ} → named f ≡ owner
     → (h : HasRecovered step tell mode state f s last s_last v w)
     → number_freed owner w.made ≡ number_freed owner v.made + length (freed_of h.visits)
-freed_his step named owner says tell mode state f last s s_last v w is h =
+freed_his named owner says {mode} {state} {f} {last} {v} {w} is h =
     omega (
       arith,
       sum_made (frees_of owner) h.by (Robust (Recover mode)) (State state) (wrote_by h.by h.visits) v w h.called,
-      all_of_owner owner h.by h.visits (told_for step named owner says f last h.visits is h.visited.asked),
+      all_of_owner owner h.by h.visits (told_for named owner says f last h.visits is h.visited.asked),
     )
 
 -- the recovery freed no index of another owner
-pub freed_no_other : (owner : ℕ) (mode : ReleaseMode) (state : ReleaseState) (v w : View ℕ) → HasRecoveredOwner owner mode state v w → (o : ℕ)
+pub freed_no_other : {owner : ℕ} {mode : ReleaseMode} {state : ReleaseState} {v w : View ℕ} → HasRecoveredOwner owner mode state v w → (o : ℕ)
     → o ≢ owner → number_freed o w.made ≡ number_freed o v.made
-freed_no_other owner mode state v w recovered_owner o apart =
+freed_no_other {owner} {mode} {state} {v} {w} recovered_owner o apart =
     let made =
     sum_made (frees_of o) recovered_owner.by (Robust (Recover mode)) (State state)
     (wrote_by recovered_owner.by recovered_owner.visits) v w recovered_owner.called in

@@ -38,8 +38,8 @@ use Rattle.lock_free_guards.specs.Tries.{refused_by, EndsTries, EndsSometime, En
 use Rattle.lock_free_guards.specs.Unique.{HoldsMore, HoldsTheSame}
 use Rattle.lock_free_guards.proofs.Trying.{unlocked_before}
 
--- the call c of party p leads from v to w
-module _ (p : ℕ) (start : Start ℕ) (one : Answer ℕ) (wrote : List (Event ℕ)) (v w : View ℕ) (c : Called p start one wrote v w) where
+-- The call c of party p leads from v to w.
+module _ {p : ℕ} {start : Start ℕ} {one : Answer ℕ} {wrote : List (Event ℕ)} {v w : View ℕ} (c : Called p start one wrote v w) where
   -- a call adds its begin, its end and what it wrote to what the pass made
   makes : length w.made ≡ length v.made + (2 + length wrote)
   makes =
@@ -55,8 +55,8 @@ module _ (p : ℕ) (start : Start ℕ) (one : Answer ℕ) (wrote : List (Event �
   no_call none = (absurd (omega (arith, makes, ap length none)))
 
   -- two calls that lead from v to w have one party, one start and one answer
-  one_answer : (q : ℕ) (other : Answer ℕ) (written : List (Event ℕ)) → Called q start other written v w → Finished p start one ≡ Finished q start other
-  one_answer q other written d =
+  one_answer : {q : ℕ} {other : Answer ℕ} {written : List (Event ℕ)} → Called q start other written v w → Finished p start one ≡ Finished q start other
+  one_answer {q} {other} {written} d =
       let same_end = append_cancel_left v.made _ _ (sym c.made ∙ d.made) in
       let rest : wrote ++ Finished p start one ∷ [] ≡ written ++ Finished q start other ∷ [] = cc in
       (same_from_push _ _ _ _ rest).1
@@ -67,7 +67,7 @@ module _ (owner : ℕ) (v w : View ℕ) where
   -- the guard is of another index than the one that was granted, which clause `acquired` refuses
   pub acquire_guards_another_index : (index other : ℕ) → other ≢ index → HasAcquired owner index v w → HasAcquired owner other v w → ⊥
   acquire_guards_another_index index other apart right wrong =
-      let e = one_answer _ _ _ _ v w right.taken.called _ _ _ wrong.taken.called in
+      let e = one_answer right.taken.called wrong.taken.called in
       let same : other ≡ index = cc in
       apart same
 
@@ -81,7 +81,7 @@ module _ (owner : ℕ) (v w : View ℕ) where
 
   -- the body makes a guard without a call, which clause `acquired` refuses
   pub acquire_calls_nothing : (index : ℕ) → w.made ≡ v.made → HasAcquired owner index v w → ⊥
-  acquire_calls_nothing index none wrong = no_call _ _ _ _ v w wrong.taken.called none
+  acquire_calls_nothing index none wrong = no_call wrong.taken.called none
 
   -- the body answers `OutOfIndices` where the lock was seen, which clause `failed` refuses
   pub acquire_says_full_of_a_locked_set : is_locked v.seen ≡ true → HasFailed owner OutOfIndices v w → ⊥
@@ -96,13 +96,13 @@ module _ (owner : ℕ) (v w : View ℕ) where
 module _ (given : GiveBack) (v w : View ℕ) where
   -- the body makes no call, which clauses `released` and `refused` refuse
   pub release_does_nothing : (answer : Released) → w.made ≡ v.made → HasGiven given answer v w → ⊥
-  release_does_nothing answer none wrong = no_call _ _ _ _ v w wrong.called none
+  release_does_nothing answer none wrong = no_call wrong.called none
 
   -- the body gives the index back, and answers that it is another owner's, which clause `refused` refuses
   pub release_denies_what_it_did : (state : ReleaseState) (failure : RobustUniqueIndexSetReleaseError) → HasGiven given (Ok state) v w
       → HasGiven given (Err failure) v w → ⊥
   release_denies_what_it_did state failure right wrong =
-      let e = one_answer _ _ _ _ v w right.called _ _ _ wrong.called in
+      let e = one_answer right.called wrong.called in
       absurd (cc)
 
 -- ---- `recover_owner`
@@ -133,7 +133,7 @@ recover_owner_says_yes_of_all owner index other apart told =
 module _ (owner : ℕ) (mode : ReleaseMode) (state : ReleaseState) (v w : View ℕ) (wrong : HasRecoveredOwner owner mode state v w) where
   -- the body makes no call, which clause `recovered` refuses
   pub recover_owner_does_nothing : w.made ≡ v.made → ⊥
-  recover_owner_does_nothing none = no_call _ _ _ _ v w wrong.called none
+  recover_owner_does_nothing none = no_call wrong.called none
 
   -- the body comes to an index of a set that was seen locked, which clause `recovered` refuses
   pub recover_owner_goes_on_at_a_lock : is_locked v.seen ≡ true → wrong.visits ≢ [] → ⊥
@@ -170,7 +170,7 @@ two_each start (p ∷ ps) = omega (arith, two_each start ps)
 -- to what the pass made
 ends_long : (n : ℕ) (u w : View ℕ) → EndsTries n (Indices Acquire) (unique.WasRefused OutOfIndices) u w → length w.made ≡ length u.made + 2 * (n + 1)
 ends_long n u w ends_tries =
-    let last = makes _ _ _ _ ends_tries.begun w ends_tries.last.taken.called in
+    let last = makes ends_tries.last.taken.called in
     omega (
       arith,
       ap length ends_tries.tried.made,
@@ -195,7 +195,7 @@ module _ (u w : View ℕ) where
 acquires_long : (owner index n : ℕ) (u w : View ℕ) → EndsTries n (Robust (robust.Acquire owner)) (HasAcquired owner index) u w
     → length w.made ≡ length u.made + 2 * (n + 2)
 acquires_long owner index n u w ends_tries =
-    let last = makes _ _ _ _ ends_tries.begun w ends_tries.last.taken.called in
+    let last = makes ends_tries.last.taken.called in
     let two = ap length ends_tries.last.taken.tells.1 in
     omega (
       arith,

@@ -43,6 +43,11 @@ module _ {C M E : Type 0} (kind : Kind) (call : Calling ℕ C M E) (base w : Vie
   pub has_made : ends.wrote ≡ wrote ends.party → HasMade call.start (call.answer e m) wrote base w
   has_made wrote_is = grind (arith, called, one_word)
 
+-- the same, as the end of the call tells all but what the call wrote
+pub made_by : {C M E : Type 0} {kind : Kind} {call : Calling ℕ C M E} {base w : View ℕ} {e : E} {m : M} → (ends : Ends one_word kind call base e m w)
+    → base.going ≡ None → (wrote : ℕ → List (Event ℕ)) → ends.wrote ≡ wrote ends.party → HasMade call.start (call.answer e m) wrote base w
+made_by {C} {M} {E} {kind} {call} {base} {w} {e} {m} ends idle wrote is = has_made kind call base w e m ends idle wrote is
+
 -- all that was seen before the end of the call
 abbrev pub before_end : {p : ℕ} {start : Start ℕ} {answer : Answer ℕ} {wrote : List (Event ℕ)} {old new : View ℕ}
     → Called p start answer wrote old new → List (Event ℕ)

@@ -21,8 +21,8 @@ module _ (kind : Kind) (words slots id word : ℕ) where
 
   -- A seat that holds nothing but what it knows, with a part of the share and no call under way, owes
   -- this for the load of a word of the table.
-  pub look_owed : (key : ℕ) (v u : View ℕ) (xs : List (ℕ × Unit {0})) → word < words → u ≡ v → xs ≡ [] → v.capacity ≡ key
+  pub look_owed : {key : ℕ} {v u : View ℕ} {xs : List (ℕ × Unit {0})} → word < words → u ≡ v → xs ≡ [] → v.capacity ≡ key
       → v.going ≡ None → 0 < v.share.part → Owed key (u, xs)
-  look_owed key v u xs below is bare size idle some =
+  look_owed {key} {v} {u} {xs} below is bare size idle some =
       subst (λ (x : View ℕ). Owed key (x, xs)) (sym is) (subst (λ ys. Owed key (v, ys)) (sym bare)
       (subst (λ k. Owed k (v, [])) size (owes_look one_word kind v.capacity words slots id word v below some (calm kind v.going idle))))

@@ -17,37 +17,38 @@ use Rattle.lock_free_sets.specs.Sets.Kinds.{SetKind, Flags, Counts, machine_kind
 use Rattle.lock_free_sets.specs.Sets.Stages.{empties_none}
 
 -- base and w are what the pass knew before the call and after it, e is its end, m its room then
-module _ {C M E : Type 0} (call : Calling ℕ C M E) (base w : View ℕ) (e : E) (m : M) (idle : base.going ≡ None) (capacity : ℕ)
+module _ {C M E : Type 0} {call : Calling ℕ C M E} {base w : View ℕ} {e : E} {m : M} (idle : base.going ≡ None) {capacity : ℕ}
     (size : base.capacity ≡ capacity) where
   -- a call that has ended took no more operations than the model says of it
-  take : (kind : Kind) → ((n : ℕ) → Pays {T = ℕ} one_word kind n) → AllowsOne (guarantee_of kind capacity one_word.size call.start)
-      → Ends one_word kind call base e m w → TakesBy one_word kind capacity (guarantee_of kind capacity one_word.size call.start) base w
-  take kind pays least ends =
+  take : (kind : Kind) → ((n : ℕ) → Pays {T = ℕ} one_word kind n) → Ends one_word kind call base e m w
+      → AllowsOne (guarantee_of kind capacity one_word.size call.start)
+      → TakesBy one_word kind capacity (guarantee_of kind capacity one_word.size call.start) base w
+  take kind pays ends least =
       subst (λ n. AllowsOne (guarantee_of kind n one_word.size call.start)
       → TakesBy one_word kind n (guarantee_of kind n one_word.size call.start) base w) size
       (λ some. takes one_word kind call base w e m idle (pays base.capacity) some ends) least
 
   -- A call on a bit set takes what the model guarantees of it.
-  pub bits_take : AllowsOne (guarantee_of kinds.Bits capacity one_word.size call.start) → Ends one_word kinds.Bits call base e m w
+  pub bits_take : Ends one_word kinds.Bits call base e m w → AllowsOne (guarantee_of kinds.Bits capacity one_word.size call.start)
       → TakesBy one_word kinds.Bits capacity (guarantee_of kinds.Bits capacity one_word.size call.start) base w
   bits_take = take kinds.Bits (bits_pays one_word)
 
   -- A call on a counting bit set takes what the model guarantees of it.
-  pub counts_take : AllowsOne (guarantee_of kinds.Counts capacity one_word.size call.start) → Ends one_word kinds.Counts call base e m w
+  pub counts_take : Ends one_word kinds.Counts call base e m w → AllowsOne (guarantee_of kinds.Counts capacity one_word.size call.start)
       → TakesBy one_word kinds.Counts capacity (guarantee_of kinds.Counts capacity one_word.size call.start) base w
   counts_take = take kinds.Counts (counts_pays one_word)
 
   -- A call on a unique index set takes what the model guarantees of it.
-  pub indices_take : AllowsOne (guarantee_of kinds.Indices capacity one_word.size call.start) → Ends one_word kinds.Indices call base e m w
+  pub indices_take : Ends one_word kinds.Indices call base e m w → AllowsOne (guarantee_of kinds.Indices capacity one_word.size call.start)
       → TakesBy one_word kinds.Indices capacity (guarantee_of kinds.Indices capacity one_word.size call.start) base w
   indices_take = take kinds.Indices (index_pays one_word)
 
 -- ---- a call that takes no step of the machine is one look at most
 
 -- base and w are what the pass knew before the call and after it, e is its end, m its room then
-module _ (kind : Kind) {C M E : Type 0} (call : Calling ℕ C M E) (base w : View ℕ) (e : E) (m : M) (idle : base.going ≡ None)
-    (pays : Pays {T = ℕ} one_word kind base.capacity) (none : guarantee_of kind base.capacity one_word.size call.start ≡ WaitFree 0)
-    (ends : Ends one_word kind call base e m w) where
+module _ {kind : Kind} {C M E : Type 0} {call : Calling ℕ C M E} {base w : View ℕ} {e : E} {m : M} (ends : Ends one_word kind call base e m w)
+    (idle : base.going ≡ None) (pays : Pays {T = ℕ} one_word kind base.capacity)
+    (none : guarantee_of kind base.capacity one_word.size call.start ≡ WaitFree 0) where
   -- The trace of the run that the pass knows.
   abbrev known : Trace ℕ
   known = run_of one_word kind base.capacity w.turns
@@ -84,8 +85,6 @@ module _ (kind : Kind) {C M E : Type 0} (call : Calling ℕ C M E) (base w : Vie
 pub none_takes : (kind : SetKind) (base w : View ℕ) (m : OneWord) → base.going ≡ None → base.capacity ≡ 0
     → Ends one_word (machine_kind kind) (empties_none kind) base tt m w → TakesAtMost 1 base w
 none_takes Flags base w m idle none ends =
-    one_look kinds.Bits (empties_none Flags) base w tt m idle (bits_pays one_word base.capacity)
-    (ap (λ n. guarantee_of {T = ℕ} kinds.Bits n one_word.size (Bits ResetAll)) none) ends
+    one_look ends idle (bits_pays one_word base.capacity) (ap (λ n. guarantee_of {T = ℕ} kinds.Bits n one_word.size (Bits ResetAll)) none)
 none_takes Counts base w m idle none ends =
-    one_look kinds.Counts (empties_none Counts) base w tt m idle (counts_pays one_word base.capacity)
-    (ap (λ n. guarantee_of {T = ℕ} kinds.Counts n one_word.size (Bits ResetAll)) none) ends
+    one_look ends idle (counts_pays one_word base.capacity) (ap (λ n. guarantee_of {T = ℕ} kinds.Counts n one_word.size (Bits ResetAll)) none)

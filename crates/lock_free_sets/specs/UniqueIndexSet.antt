@@ -77,7 +77,7 @@ pub record PassJoins (old other new : Pass) : Type 0 where
   pub sound : IsSound (view new)
   pub all : MissesNothing new
 
--- a held index, with the pass that it owns
+-- the number of a held index
 abbrev pub value_of : UniqueIndex → ℕ
 value_of i = i.index
 

@@ -55,6 +55,7 @@ ends_at code x stages.LoadsVersion n a skips e =
 ends_at code x (stages.StoresCell cell at) n a skips e = absurd (cc)
 ends_at code x stages.AddsVersion n a skips e = absurd (cc)
 
+-- A call on a value has led its pass from `base`, where no call was under way, to `w`.
 module _ {T : Type 0} (code : Coding T) (base w : View T) (idle : base.going ≡ None) (one : base.capacity ≡ 1) where
   -- ---- what every call leaves
 

@@ -26,6 +26,7 @@ module _ {T : Type 0} (code : Coding T) (value : T) (version : ℕ) where
   abbrev pub filling : ℕ → List ℕ
   filling at = (first_stores version + 1) ∷ 1 ∷ ((mix at firsts (replicate code.size 0) ++ mix at (code.words_of value) (replicate code.size 0)) ++ 0 ∷ [])
 
+-- The first value has the words `ws`. Both cells of the table are filled in word by word.
 module _ {T : Type 0} (code : Coding T) (law : IsCoding code) (value : T) (version : ℕ) where
   -- The words of the value.
   abbrev ws : List ℕ

@@ -139,6 +139,7 @@ pub record IsHigh (c x : ℕ) : Type 0 where
   pub next_open : (c + 1 == greatest) ≡ false
   pub next_new : (c + 1 == c) ≡ false
 
+-- The counter is at `c`, above the `x` that a release has seen. So its exchange fails, and it counts again.
 module _ (es : List (Event ℕ)) (c x : ℕ) (h : IsHigh c x) (n : Tally) (other : Party ℕ) (changes turns : ℕ) where
   -- the exchange of the counter fails, since the counter is above what the release has seen: the release
   -- turns back to its count

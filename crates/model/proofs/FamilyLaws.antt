@@ -126,19 +126,19 @@ module _ {T : Type 0} (K : Outline T) where
     pub no_owners : (s : K.State) → has_owners (K.kept s) ≡ false
 
   -- What a turn comes to holds also of registries and words that are equal to those of which it is known.
-  comes_at : (F : Family T) (t : Trace T) (p : ℕ) (kept kept' : Registry T) (words words' : List ℕ) (y : Party T) (es : List (Event T)) (changes : ℕ)
+  comes_at : {F : Family T} {t : Trace T} {p : ℕ} {kept kept' : Registry T} {words words' : List ℕ} {y : Party T} {es : List (Event T)} {changes : ℕ}
       → kept ≡ kept' → words ≡ words' → Comes F t p kept' words' y es changes → Comes F t p kept words y es changes
-  comes_at F t p kept kept' words words' y es changes same_kept same_words comes =
+  comes_at {F = F} {t} {p} {kept' = kept'} {words = words} {y = y} {es = es} {changes = changes} same_kept same_words comes =
       subst (λ k. Comes F t p k words y es changes) (sym same_kept) (subst (λ ws. Comes F t p kept' ws y es changes) (sym same_words) comes)
 
   module _ (code : Coding T) (c : ℕ) (May : Trace T → Turn T → Type 0) (A : Alone code c May) where
-    module _ (t : Trace T) (s : Sound (family K code c) t) (p : ℕ) where
+    module _ {t : Trace T} (s : Sound (family K code c) t) (p : ℕ) where
       -- what was shown comes to the next machine
-      shown : (steps backs since : ℕ) (s' : K.State) (was : Option (Flight T)) (from : Span T) (y : Party T) (es : List (Event T)) (changes' : ℕ)
+      shown : (steps backs since : ℕ) (s' : K.State) (was : Option (Flight T)) (from : Span T) {y : Party T} {es : List (Event T)} {changes' : ℕ}
           → flight_in t.world p ≡ was → span_of p t.events ≡ from
           → ShowsFrom K (scene_of K code c t s p steps backs since) was s' from y es changes'
           → Comes (family K code c) t p (K.kept s') (K.words s') y es changes'
-      shown steps backs since s' was from y es changes' under span_is shows =
+      shown steps backs since s' was from {y} {es} {changes'} under span_is shows =
           let scene = scene_of K code c t s p steps backs since in
           record {
             state = s';
@@ -157,13 +157,13 @@ module _ {T : Type 0} (K : Outline T) where
           }
 
       -- a begin that writes events of its own party alone comes to a machine that keeps the invariant
-      begins_alone : (start : Start T) (flight : Flight T) → flight_in t.world p ≡ None
+      begins_alone : {start : Start T} {flight : Flight T} → flight_in t.world p ≡ None
           → Begins K (scene_of K code c t s p 0 0 t.world.changes) start flight
           → Comes (family K code c) t p (kept_after_begin code c start p (K.kept s.state)) (K.words s.state)
           (party_at_begin start flight t.world.changes) (Begun p start ∷ []) t.world.changes
-      begins_alone start flight free begins =
-          comes_at (family K code c) t p _ _ _ _ _ _ _ begins.kept begins.words
-          (shown 0 0 t.world.changes begins.state None (span_of p t.events) (party_at_begin start flight t.world.changes) (Begun p start ∷ []) t.world.changes
+      begins_alone {start} {flight} free begins =
+          comes_at begins.kept begins.words
+          (shown 0 0 t.world.changes begins.state None (span_of p t.events)
           free refl
           (record {
             preserves = begins.preserves;
@@ -174,20 +174,20 @@ module _ {T : Type 0} (K : Outline T) where
           }))
 
       -- a step that writes events of its own party alone comes to a machine that keeps the invariant
-      step_alone : (x : Party T) (since : ℕ) (start : Start T) (flight : Flight T) → StandsThere (family K code c) t s p x since start flight
+      step_alone : {x : Party T} {since : ℕ} {start : Start T} {flight : Flight T} → StandsThere (family K code c) t s p x since start flight
           → StepOf K (scene_of K code c t s p x.steps x.backs since) start flight
           → ComesFrom (family K code c) t s p x since code (K.words s.state) (K.kept s.state) start flight
-      step_alone x since start flight here moves =
-          comes_at (family K code c) t p _ _ _ _ _ _ _ moves.kept moves.words
-          (shown x.steps x.backs since moves.state (Some flight) _ _ _ _ here.found here.span moves.shows)
+      step_alone {x} {since} {flight = flight} here moves =
+          comes_at moves.kept moves.words
+          (shown x.steps x.backs since moves.state (Some flight) _ here.found here.span moves.shows)
 
     -- a family all of whose turns write such events keeps the invariant by each of them
     pub turns_alone : Turns code c May
     turns_alone =
         record {
-          begin = λ t s p start flight may named rows. begins_alone t s p start flight may.free (A.begin t s p start flight may named rows);
+          begin = λ t s p start flight may named rows. begins_alone s p may.free (A.begin t s p start flight may named rows);
           step = λ t s p x since may found start flight rows here.
-              step_alone t s p x since start flight here (A.step t s p x since may found start flight here);
+              step_alone s p here (A.step t s p x since may found start flight here);
           decision = λ t s p x since said may found start flight rows asks here. asks_none _ (A.no_question s.state p start flight here.at) asks;
           death = frame.no_death (family K code c) (λ kept words state fit. rw fit.kept (A.no_owners state));
         }
@@ -216,7 +216,7 @@ module _ {T : Type 0} (K : Outline T) where
     abbrev F : Family T
     F = family K code c
 
-    module _ (t : Trace T) (s : Sound F t) (p : ℕ) where
+    module _ {t : Trace T} (s : Sound F t) (p : ℕ) where
       asks_here : (flight : Flight T) → is_question (want_of t.world.coding flight) ≡ true → is_question (want_of code flight) ≡ true
       asks_here flight asks = subst (λ (z : Coding T). is_question (want_of z flight) ≡ true) s.coding asks
 
@@ -229,14 +229,14 @@ module _ {T : Type 0} (K : Outline T) where
       kept_here start = rw (s.coding, s.capacity, s.fit.kept) refl
 
       -- a begin that is not refused comes to a machine that keeps the invariant
-      begin_comes : {May : Trace T → Turn T → Type 0} → Turns code c May → (start : Start T) (flight : Flight T)
+      begin_comes : {May : Trace T → Turn T → Type 0} → Turns code c May → {start : Start T} (flight : Flight T)
           → MayBegin t.world p start → first_of t.world.kind t.world.capacity start t.world.kept ≡ Some flight
           → Comes F t p (kept_after_begin t.world.coding t.world.capacity start p t.world.kept) t.world.words
           (party_at_begin start flight t.world.changes) (Begun p start ∷ []) t.world.changes
-      begin_comes turns start flight may call_is =
+      begin_comes turns {start} flight may call_is =
           let named : first_of K.kind c start (K.kept s.state) ≡ Some flight = rw (s.kind, s.capacity, s.fit.kept) at call_is in
           let rows : first_row ((begin_of K.kind c start).rows (K.kept s.state) p) ≡ None = rw (s.kind, s.capacity, s.fit.kept) at may.rows in
-          comes_at F t p _ _ _ _ _ _ _ (kept_here start) s.fit.words (turns.begin t s p start flight may named rows)
+          comes_at (kept_here start) s.fit.words (turns.begin t s p start flight may named rows)
 
     -- what a family owes of its begins and steps is what the frame asks of it
     pub laws : (May : Trace T → Turn T → Type 0) → Turns code c May → frame.LawsWhere F May
@@ -244,19 +244,19 @@ module _ {T : Type 0} (K : Outline T) where
         record {
           step = λ t p x flight since s may passed found doing.
               comes_from F t s p x since (K.words s.state) (K.kept s.state) flight s.fit.words s.fit.kept
-              (turns.step t s p x since may found x.start flight (rows_here t s p flight None passed) (stands_there F t s p x since flight found doing));
+              (turns.step t s p x since may found x.start flight (rows_here s p flight None passed) (stands_there F t s p x since flight found doing));
           decision = λ t p x flight since said s may passed found doing asks.
               decides_from F t s p x since said (K.words s.state) (K.kept s.state) flight s.fit.words s.fit.kept
-              (turns.decision t s p x since said may found x.start flight (rows_here t s p flight (Some said) passed) (asks_here t s p flight asks)
+              (turns.decision t s p x since said may found x.start flight (rows_here s p flight (Some said) passed) (asks_here s p flight asks)
               (stands_there F t s p x since flight found doing));
-          begin = λ t p start flight s may begins e. begin_comes t s p turns start flight begins e;
+          begin = λ t p start flight s may begins e. begin_comes s p turns flight begins e;
           death = turns.death;
         }
 
     -- a turn that writes what the family says writes its events in order
-    in_order : (t : Trace T) (turn : Turn T) (p : ℕ) → IsParty turn p → (start : Start T) (step : Step (Flight T) (Registry T) T) → Writes t turn step
+    in_order : {t : Trace T} {turn : Turn T} (p : ℕ) → IsParty turn p → (start : Start T) {step : Step (Flight T) (Registry T) T} → Writes t turn step
         → WritesInOrder K.promise t turn (t.events ++ events_of_step p start step)
-    in_order t turn p mine start step written =
+    in_order {t} {turn} p mine start {step} written =
         record {
           effects = written.effects;
           acts = written.acts;
@@ -274,11 +274,11 @@ module _ {T : Type 0} (K : Outline T) where
         record {
           step = λ t p x flight since s small found doing.
               in_order_from t p K.promise t.world.coding (K.words s.state) (K.kept s.state) x.start flight s.fit.words s.fit.kept
-              (in_order t (Next p) p refl x.start _ (L.writes t s p x since small x.start flight (stands_there F t s p x since flight found doing)));
+              (in_order p refl x.start (L.writes t s p x since small x.start flight (stands_there F t s p x since flight found doing)));
           decision = λ t p x flight since said s small found doing asks.
               decided_in_order_from t p K.promise said t.world.coding (K.words s.state) (K.kept s.state) x.start flight s.fit.words s.fit.kept
-              (in_order t (Decide p said) p refl x.start _
-              (L.decides t s p x since said x.start flight (asks_here t s p flight asks) (stands_there F t s p x since flight found doing)));
+              (in_order p refl x.start
+              (L.decides t s p x since said x.start flight (asks_here s p flight asks) (stands_there F t s p x since flight found doing)));
           after = λ t p x flight since answer s found doing.
               rw s.fit.kept
               (L.goes s.state p x.start flight (stands_there F t s p x since flight found doing).at t.world.coding t.world.words
@@ -319,14 +319,14 @@ module _ {T : Type 0} (K : Outline T) where
     reached_sound t of_kind reached =
         let F = family K t.world.coding t.world.capacity in
         frame.reached_sound F
-        (frame.laws_with F (λ u turn s small. all.few t.world.coding t.world.capacity u turn s small) (laws_there t of_kind reached.coded reached.admitted)) t
+        (frame.laws_with F (λ u turn s small. all.few t.world.coding t.world.capacity u turn s small) (laws_there t of_kind reached.coded reached.admitted))
         (ap is_loan of_kind ∙ K.no_loan) (opening_there t of_kind reached.coded reached.admitted) reached
 
   -- the same where neither turns nor parties have a bound, nor turns another premise
   pub reached_on_sound : (all : AllTurns (λ t turn. Unit {0})) (t : Trace T) → t.world.kind ≡ K.kind → IsReachedOn t
       → Sound (family K t.world.coding t.world.capacity) t
   reached_on_sound all t of_kind reached_on =
-      frame.reached_on_sound (family K t.world.coding t.world.capacity) (laws_there (λ t turn. Unit {0}) all t of_kind reached_on.coded reached_on.admitted) t
+      frame.reached_on_sound (family K t.world.coding t.world.capacity) (laws_there (λ t turn. Unit {0}) all t of_kind reached_on.coded reached_on.admitted)
       (opening_there (λ t turn. Unit {0}) all t of_kind reached_on.coded reached_on.admitted) reached_on
 
   -- what it owes of its promises at every such capacity

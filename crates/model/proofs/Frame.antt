@@ -89,10 +89,10 @@ module _ {T : Type 0} (F : Family T) where
     pub others_know : (q : ℕ) → q ≢ p → KnowsParty s q (events ++ es) changes (party_of q latest)
 
   -- the invariant stands after a turn that owes what the frame asks of it
-  pub advance : (s s' : F.State) (p : ℕ) (y : Party T) (latest : List (ℕ × Party T)) (events es : List (Event T)) (changes changes' : ℕ)
+  pub advance : {s s' : F.State} {p : ℕ} {y : Party T} {latest : List (ℕ × Party T)} {events es : List (Event T)} {changes changes' : ℕ}
       → Inv s latest events changes → Owes s' p y latest events es changes'
       → Inv s' (put p y latest) (events ++ es) changes'
-  advance s s' p y latest events es changes changes' inv owes =
+  advance {s' = s'} {p = p} {y = y} {latest = latest} {events = events} {es = es} {changes' = changes'} inv owes =
       record {
         spans = Each-append (StandsRight F.promise F.capacity) events es inv.spans owes.stands;
         calls = λ q. ⊎_elim (mine q) (theirs q) (cases_eq q p);
@@ -155,6 +155,7 @@ module _ {T : Type 0} (F : Family T) where
     still_fits None span fits = fits
     still_fits (Some x) span fits = doing_fits x x.doing span fits
 
+  -- Party `q` is not the one whose turn it is. What its call knows before the turn holds after it (`others`).
   module _ (s s' : F.State) (q : ℕ) (events es : List (Event T)) (changes changes' : ℕ)
       (others : (since backs : ℕ) (flight : Flight T) → F.Knows s q events since changes backs flight
       → F.Knows s' q (events ++ es) since changes' backs flight) where
@@ -262,14 +263,14 @@ module _ {T : Type 0} (F : Family T) where
   -- ---- a turn that comes to this
 
   -- a turn that comes to what the family says leaves a machine that keeps the invariant
-  pub comes_sound : (t : Trace T) (p : ℕ) (kept : Registry T) (words : List ℕ) (y : Party T) (es : List (Event T)) (changes : ℕ)
+  pub comes_sound : {t : Trace T} {p : ℕ} {kept : Registry T} {words : List ℕ} {y : Party T} {es : List (Event T)} {changes : ℕ}
       → Sound t → Comes t p kept words y es changes
       → Sound record {
         world =
             record t.world { kept = kept; words = words; latest = put p y t.world.latest; changes = changes; turns = t.world.turns + 1 };
         events = t.events ++ es;
       }
-  comes_sound t p kept words y es changes sound comes =
+  comes_sound {t} {p} {y = y} {es = es} {changes = changes} sound comes =
       record {
         coding = sound.coding;
         kind = sound.kind;
@@ -277,18 +278,18 @@ module _ {T : Type 0} (F : Family T) where
         state = comes.state;
         fit = comes.fit;
         holds = comes.holds;
-        inv = advance sound.state comes.state p y t.world.latest t.events es t.world.changes changes sound.inv comes.owes;
+        inv = advance sound.inv comes.owes;
       }
 
-  same : (t : Trace T) → Sound t → Sound record { world = t.world; events = t.events ++ [] }
-  same t sound = subst (λ es. Sound record { world = t.world; events = es }) (sym (append-nil t.events)) sound
+  same : {t : Trace T} → Sound t → Sound record { world = t.world; events = t.events ++ [] }
+  same {t} sound = subst (λ es. Sound record { world = t.world; events = es }) (sym (append-nil t.events)) sound
 
   -- a call that goes on from this answer; one that is done stays
-  answered : (t : Trace T) (p : ℕ) (x : Party T) (ask : Option Ask) (answer : ℕ) (doing : Doing T) → Sound t
+  answered : {t : Trace T} (p : ℕ) (x : Party T) (ask : Option Ask) (answer : ℕ) (doing : Doing T) → Sound t
       → ((flight : Flight T) (since : ℕ) → doing ≡ Going flight since → ComesByStep t p x flight since ask answer)
       → Sound record { world = after_answer t.world p x ask answer doing; events = t.events ++ events_of_answer t.world p x answer doing }
-  answered t p x ask answer (Going flight since) sound comes = comes_sound t p _ _ _ _ _ sound (comes flight since refl)
-  answered t p x ask answer (Over others) sound comes = same t sound
+  answered {t} p x ask answer (Going flight since) sound comes = comes_sound sound (comes flight since refl)
+  answered {t} p x ask answer (Over others) sound comes = same sound
 
   -- the party has this call under way
   pub record IsUnder (t : Trace T) (p : ℕ) (x : Party T) (flight : Flight T) (since : ℕ) : Type 0 where
@@ -297,9 +298,9 @@ module _ {T : Type 0} (F : Family T) where
     pub is : flight_in t.world p ≡ Some flight
 
   -- A party whose latest call goes on has it under way.
-  under : (t : Trace T) (p : ℕ) (x : Party T) (flight : Flight T) (since : ℕ) → party_of p t.world.latest ≡ Some x
+  under : {t : Trace T} {p : ℕ} {x : Party T} {flight : Flight T} {since : ℕ} → party_of p t.world.latest ≡ Some x
       → x.doing ≡ Going flight since → IsUnder t p x flight since
-  under t p x flight since e d = record { found = e; doing = d; is = ap (λ o. flight_of (doing_of o)) e ∙ ap (λ d. flight_of (Some d)) d }
+  under e d = record { found = e; doing = d; is = ap (λ o. flight_of (doing_of o)) e ∙ ap (λ d. flight_of (Some d)) d }
 
   -- its step, its decision and its begin
   pub next_sound : (t : Trace T) (p : ℕ) → Sound t
@@ -307,20 +308,20 @@ module _ {T : Type 0} (F : Family T) where
       → ComesByStep t p x flight since (ask_of (want_of t.world.coding flight)) (old_of t.world.words (ask_of (want_of t.world.coding flight))))
       → (o : Option (Party T)) → party_of p t.world.latest ≡ o
       → Sound record { world = after_next t.world p o; events = t.events ++ events_of_next t.world p o }
-  next_sound t p sound comes None found = same t sound
+  next_sound t p sound comes None found = same sound
   next_sound t p sound comes (Some x) found =
       let ask : Doing T → Option Ask = ask_of_doing t.world.coding in
-      answered t p x (ask x.doing) (old_of t.world.words (ask x.doing)) x.doing sound (λ flight since d.
-      subst (λ a. ComesByStep t p x flight since a (old_of t.world.words a)) (sym (ap ask d)) (comes x flight since (under t p x flight since found d)))
+      answered p x (ask x.doing) (old_of t.world.words (ask x.doing)) x.doing sound (λ flight since d.
+      subst (λ a. ComesByStep t p x flight since a (old_of t.world.words a)) (sym (ap ask d)) (comes x flight since (under found d)))
 
   -- an answer to a question of a call leaves a sound machine sound
   pub decision_sound : (t : Trace T) (p : ℕ) (said : Bool) → Sound t
       → ((x : Party T) (flight : Flight T) (since : ℕ) → IsUnder t p x flight since → ComesByStep t p x flight since None (number_of said))
       → (o : Option (Party T)) → party_of p t.world.latest ≡ o
       → Sound record { world = after_decision t.world p said o; events = t.events ++ events_of_decision t.world p said o }
-  decision_sound t p said sound comes None found = same t sound
+  decision_sound t p said sound comes None found = same sound
   decision_sound t p said sound comes (Some x) found =
-      answered t p x None (number_of said) x.doing sound (λ flight since d. comes x flight since (under t p x flight since found d))
+      answered p x None (number_of said) x.doing sound (λ flight since d. comes x flight since (under found d))
 
   -- a begin leaves a sound machine sound
   pub begin_sound : (t : Trace T) (p : ℕ) (start : Start T) → is_none (first_of t.world.kind t.world.capacity start t.world.kept) ≡ false → Sound t
@@ -332,7 +333,7 @@ module _ {T : Type 0} (F : Family T) where
   begin_sound t p start call sound comes None named =
       let none = rw named at call in
       absurd (cc)
-  begin_sound t p start call sound comes (Some flight) named = comes_sound t p _ _ _ _ _ sound (comes flight named)
+  begin_sound t p start call sound comes (Some flight) named = comes_sound sound (comes flight named)
 
   -- what a family owes, of a call that passes its rows, in a turn that may be taken
   pub record LawsWhere (May : Trace T → Turn T → Type 0) : Type 0 where
@@ -356,8 +357,8 @@ module _ {T : Type 0} (F : Family T) where
 
   module _ (May : Trace T → Turn T → Type 0) (laws : LawsWhere May) where
     -- the death of an owner leaves a sound machine sound
-    death_sound : (t : Trace T) (owner : ℕ) → MayDie t.world owner → Sound t → Sound (after_turn t (Die owner))
-    death_sound t owner may sound =
+    death_sound : {t : Trace T} {owner : ℕ} → MayDie t.world owner → Sound t → Sound (after_turn t (Die owner))
+    death_sound {t} {owner} may sound =
         let world_now = t.world in
         let es = Died owner ∷ [] in
         let comes = laws.death t owner sound may in
@@ -396,7 +397,7 @@ module _ {T : Type 0} (F : Family T) where
         (subst (λ o. first_row (going_rows t.world.coding t.world.kept o (Some said)) ≡ None) u.is (decision_passes t.world p said free)) u.found u.doing
         (subst (λ o. is_due t.world.coding o ≡ true) u.is due))
         (party_of p t.world.latest) refl
-    turn_sound t (Die owner) not_refused may sound = death_sound t owner (may_die t.world owner not_refused) sound
+    turn_sound t (Die owner) not_refused may sound = death_sound (may_die t.world owner not_refused) sound
 
   -- the laws of a machine that can take a turn more
   abbrev pub Laws : Type 0
@@ -407,26 +408,26 @@ module _ {T : Type 0} (F : Family T) where
   LawsOn = LawsWhere (λ t turn. Unit {0})
 
   -- a machine that was reached is sound, where each opening of it is, at any second number that is admitted
-  pub reached_from : Laws → (t : Trace T)
+  pub reached_from : Laws → {t : Trace T}
       → ((queue : ℕ) → queue_error t.world.kind queue ≡ None
       → Sound (opened t.world.coding t.world.kind t.world.capacity queue t.world.parties))
       → IsReached t → Sound t
-  reached_from laws t first reached =
+  reached_from laws {t} first reached =
       kept_by_runs Sound (λ u turn e h. turn_sound (λ t turn. t.world.turns < 2 ^ 64 - 2) laws u turn (passes u.world turn e).on
       (passes u.world turn e).turns h)
       t first reached
 
   -- a machine that has no second number and was reached is sound, where its opening is
-  pub reached_sound : Laws → (t : Trace T) → is_loan t.world.kind ≡ false
+  pub reached_sound : Laws → {t : Trace T} → is_loan t.world.kind ≡ false
       → Sound (opening t.world.coding t.world.kind t.world.capacity t.world.parties) → IsReached t → Sound t
-  reached_sound laws t other first reached =
+  reached_sound laws {t} other first reached =
       let world_now = t.world in
-      reached_from laws t (λ queue admitted. subst Sound
+      reached_from laws (λ queue admitted. subst Sound
       (sym (opened_others world_now.coding world_now.kind world_now.capacity queue world_now.parties other)) first)
       reached
 
-  pub reached_on_sound : LawsOn → (t : Trace T) → Sound (opening t.world.coding t.world.kind t.world.capacity t.world.parties) → IsReachedOn t → Sound t
-  reached_on_sound laws t first reached_on = kept_by_runs_on Sound (λ u turn e h. turn_sound (λ t turn. Unit {0}) laws u turn e tt h) t first reached_on
+  pub reached_on_sound : LawsOn → {t : Trace T} → Sound (opening t.world.coding t.world.kind t.world.capacity t.world.parties) → IsReachedOn t → Sound t
+  reached_on_sound laws {t} first reached_on = kept_by_runs_on Sound (λ u turn e h. turn_sound (λ t turn. Unit {0}) laws u turn e tt h) t first reached_on
 
   -- laws of the turns that may be taken are laws of fewer turns
   pub laws_with : {May Fewer : Trace T → Turn T → Type 0} → ((t : Trace T) (turn : Turn T) → Sound t → Fewer t turn → May t turn)

@@ -41,32 +41,33 @@ module _ {T : Type 0} (F : Family T) where
         → (step_in t.world p x flight answer).after ≡ goes_of t.world.coding p flight answer t.world.kept
     pub tells : (t : Trace T) (turn : Turn T) → refusal_of t.world turn ≡ None → Sound F t → F.promise.tells t turn (after_turn t turn)
 
-  nothing : (t : Trace T) (turn : Turn T) → WritesInOrder F.promise t turn (t.events ++ [])
-  nothing t turn = record { effects = []; acts = []; ends = []; is = refl; are_effects = tt; are_acts = tt; are_ends = tt; right = tt }
+  nothing : {t : Trace T} {turn : Turn T} → WritesInOrder F.promise t turn (t.events ++ [])
+  nothing = record { effects = []; acts = []; ends = []; is = refl; are_effects = tt; are_acts = tt; are_ends = tt; right = tt }
 
-  module _ (orders : Orders) (t : Trace T) (s : Sound F t) (small : t.world.turns < 2 ^ 64 - 2) (p : ℕ) where
+  -- The machine keeps the invariant (`s`), and it is the turn of party `p`.
+  module _ (orders : Orders) {t : Trace T} (s : Sound F t) (small : t.world.turns < 2 ^ 64 - 2) (p : ℕ) where
     -- A turn `Next` of a party writes its events in order, whether the party has begun a call or not.
     next_in_order : (o : Option (Party T)) → party_of p t.world.latest ≡ o → WritesInOrder F.promise t (Next p) (t.events ++ events_of_next t.world p o)
-    next_in_order None found = nothing t (Next p)
+    next_in_order None found = nothing
     next_in_order (Some x) found = go x.doing refl
       where
         -- The cases are whether the party's call is under way or over.
         go : (doing : Doing T) → x.doing ≡ doing
             → WritesInOrder F.promise t (Next p)
             (t.events ++ events_of_answer t.world p x (old_of t.world.words (ask_of_doing t.world.coding doing)) doing)
-        go (Over others) same_doing = nothing t (Next p)
+        go (Over others) same_doing = nothing
         go (Going flight since) same_doing = orders.step t p x flight since s small found same_doing
 
     -- an answer to a question of a call writes its events in order
     decision_in_order : (said : Bool) → is_due t.world.coding (flight_in t.world p) ≡ true → (o : Option (Party T))
         → party_of p t.world.latest ≡ o
         → WritesInOrder F.promise t (Decide p said) (t.events ++ events_of_decision t.world p said o)
-    decision_in_order said due None e = nothing t (Decide p said)
+    decision_in_order said due None e = nothing
     decision_in_order said due (Some x) e = go x.doing refl
       where
         -- The cases are whether the party's call is under way or over.
         go : (doing : Doing T) → x.doing ≡ doing → WritesInOrder F.promise t (Decide p said) (t.events ++ events_of_answer t.world p x (number_of said) doing)
-        go (Over others) same_doing = nothing t (Decide p said)
+        go (Over others) same_doing = nothing
         go (Going flight since) same_doing =
             let here : flight_in t.world p ≡ Some flight = ap (λ o. flight_of (doing_of o)) e ∙ ap (λ same_doing. flight_of (Some same_doing)) same_doing in
             orders.decision t p x flight since said s small e same_doing (rw here at due)
@@ -74,9 +75,9 @@ module _ {T : Type 0} (F : Family T) where
   -- a turn writes down what it did, in order
   writes_down : Orders → (t : Trace T) (turn : Turn T) → refusal_of t.world turn ≡ None → Sound F t → WritesDown F.promise t turn (after_turn t turn)
   writes_down orders t (Begin p start) not_refused sound = refl
-  writes_down orders t (Next p) free sound = next_in_order orders t sound (passes t.world (Next p) free).turns p (party_of p t.world.latest) refl
+  writes_down orders t (Next p) free sound = next_in_order orders sound (passes t.world (Next p) free).turns p (party_of p t.world.latest) refl
   writes_down orders t (Decide p said) not_refused sound =
-      decision_in_order orders t sound (passes t.world (Decide p said) not_refused).turns p said
+      decision_in_order orders sound (passes t.world (Decide p said) not_refused).turns p said
       (is_true (is_due t.world.coding (flight_in t.world p)) (must_be_due t.world p said (passes t.world (Decide p said) not_refused).on))
       (party_of p t.world.latest) refl
   writes_down orders t (Die owner) not_refused sound = refl

@@ -44,6 +44,7 @@ module _ {T : Type 0} where
         → DecidedInOrder promise said z t.world.words t.world.kept start flight
     decided_in_order_from = grind arith
 
+  -- In a machine that keeps the invariant of the family `F`, party `p` is `x`, whose call has been under way since `since` changes.
   module _ (F : Family T) (t : Trace T) (s : Sound F t) (p : ℕ) (x : Party T) (since : ℕ) where
     -- the call `start` of party `p` is under way and stands at `flight`
     pub record StandsThere (start : Start T) (flight : Flight T) : Type 0 where

@@ -25,10 +25,10 @@ module _ {T : Type 0} where
   later = grind (arith, more_changes)
 
   -- After a turn all parties' counts are small, if those of its own party are.
-  all_put : (turns changes more p : ℕ) (y : Party T) (latest : List (ℕ × Party T))
+  all_put : (turns changes more p : ℕ) {y : Party T} (latest : List (ℕ × Party T))
       → HasSmallCounts (turns + 1) (changes + more) y → AllSmall turns changes latest
       → AllSmall (turns + 1) (changes + more) (put p y latest)
-  all_put turns changes more p y latest here all q x found = ⊎_elim mine theirs (cases_eq q p)
+  all_put turns changes more p {y} latest here all q x found = ⊎_elim mine theirs (cases_eq q p)
     where
       -- the party that took the turn has the counts that are given for it
       mine : q ≡ p → HasSmallCounts (turns + 1) (changes + more) x
@@ -42,9 +42,9 @@ module _ {T : Type 0} where
       theirs ne = later turns changes more x (all q x (sym (party_put_other q p y latest ne) ∙ found))
 
   -- after a begin the counts are still no more than the number of turns
-  begin_small : (w : World T) (p : ℕ) (start : Start T) (flight : Option (Flight T)) → w.turns < 2 ^ 64 - 2 → IsSmall w → IsSmall (after_begin w p start flight)
-  begin_small w p start None below small = small
-  begin_small w p start (Some flight) below small =
+  begin_small : {w : World T} (p : ℕ) (start : Start T) (flight : Option (Flight T)) → w.turns < 2 ^ 64 - 2 → IsSmall w → IsSmall (after_begin w p start flight)
+  begin_small p start None below small = small
+  begin_small {w} p start (Some flight) below small =
       let changes = small.changes in
       let same : w.changes + 0 ≡ w.changes = omega arith in
       let party : Party T = party_at_begin start flight w.changes in
@@ -52,7 +52,7 @@ module _ {T : Type 0} where
       record {
         turns = omega arith;
         changes = omega arith;
-        latest = subst (λ n. AllSmall (w.turns + 1) n (put p party w.latest)) same (all_put w.turns w.changes 0 p party w.latest here small.latest);
+        latest = subst (λ n. AllSmall (w.turns + 1) n (put p party w.latest)) same (all_put w.turns w.changes 0 p w.latest here small.latest);
       }
 
   -- A call counts no more changes than there are after its step.
@@ -61,10 +61,10 @@ module _ {T : Type 0} where
   doing_small = grind arith
 
   -- after a step the counts are still no more than the number of turns
-  step_small : (w : World T) (p : ℕ) (x : Party T) (since : ℕ) (ask : Option Ask) (s : Step (Flight T) (Registry T) T)
+  step_small : {w : World T} (p : ℕ) (x : Party T) (since : ℕ) (ask : Option Ask) (s : Step (Flight T) (Registry T) T)
       → w.turns < 2 ^ 64 - 2 → x.steps ≤ w.turns → x.backs ≤ w.turns → since ≤ w.changes → IsSmall w
       → IsSmall (after_step w p x since ask s)
-  step_small w p x since ask s below steps backs begun small =
+  step_small {w} p x since ask s below steps backs begun small =
       let few = back_small s.back in
       let one = change_small w.words ask in
       let step = steps_small ask in
@@ -74,7 +74,7 @@ module _ {T : Type 0} where
         turns = omega arith;
         changes = omega arith;
         latest =
-            all_put w.turns w.changes (change_of w.words ask) p party w.latest
+            all_put w.turns w.changes (change_of w.words ask) p w.latest
             (record { steps = omega arith; backs = omega arith; doing = doing_small w.changes since (change_of w.words ask) s.after begun })
             small.latest;
       }
@@ -85,12 +85,12 @@ module _ {T : Type 0} where
       → IsSmall (after_answer w p x ask answer doing)
   answer_small w p x ask answer (Over others) below steps backs small is_small = is_small
   answer_small w p x ask answer (Going flight since) below steps backs small is_small =
-      step_small w p x since ask (step_in w p x flight answer) below steps backs small is_small
+      step_small p x since ask (step_in w p x flight answer) below steps backs small is_small
 
   -- A turn `Next` keeps the counts of a machine small.
-  next_small : (w : World T) (p : ℕ) (o : Option (Party T)) → party_of p w.latest ≡ o → w.turns < 2 ^ 64 - 2 → IsSmall w → IsSmall (after_next w p o)
-  next_small w p None found below small = small
-  next_small w p (Some x) found below small =
+  next_small : {w : World T} (p : ℕ) (o : Option (Party T)) → party_of p w.latest ≡ o → w.turns < 2 ^ 64 - 2 → IsSmall w → IsSmall (after_next w p o)
+  next_small p None found below small = small
+  next_small {w} p (Some x) found below small =
       let here = small.latest p x found in
       answer_small w p x (ask_of_doing w.coding x.doing) (old_of w.words (ask_of_doing w.coding x.doing)) x.doing below here.steps here.backs here.doing small
 
@@ -104,8 +104,8 @@ module _ {T : Type 0} where
 
   -- Each turn that is not refused keeps the counts of a machine small.
   turn_small : (w : World T) (turn : Turn T) → refusal_of w turn ≡ None → IsSmall w → IsSmall (world_after w turn)
-  turn_small w (Begin p start) free small = begin_small w p start (first_of w.kind w.capacity start w.kept) (passes w (Begin p start) free).turns small
-  turn_small w (Next p) not_refused small = next_small w p (party_of p w.latest) refl (passes w (Next p) not_refused).turns small
+  turn_small w (Begin p start) free small = begin_small p start (first_of w.kind w.capacity start w.kept) (passes w (Begin p start) free).turns small
+  turn_small w (Next p) not_refused small = next_small p (party_of p w.latest) refl (passes w (Next p) not_refused).turns small
   turn_small w (Decide p said) not_refused small = decision_small w p said (party_of p w.latest) refl (passes w (Decide p said) not_refused).turns small
   turn_small w (Die owner) not_refused small = death_small w owner (passes w (Die owner) not_refused).turns small
 

@@ -200,12 +200,12 @@ module _ {T : Type 0} where
 
   -- what a party that goes on counts in a step: one step more where it asked for one, and a turn
   -- back where it was turned back
-  going_on : (changes since steps change : ℕ) (asks : Bool) (s : Step (Flight T) (Registry T) T) (x : Party T) (flight : Flight T)
+  going_on : (changes : ℕ) {since : ℕ} (steps change : ℕ) (asks : Bool) (s : Step (Flight T) (Registry T) T) (x : Party T) {flight : Flight T}
       → x.doing ≡ Going flight since → x.steps + steps ≡ cond asks (x.steps + 1) x.steps
       → BothGoOn asks (is_none (flight_of (doing_of (Some (party_after x since changes steps change s)))))
       (progress_after changes (Some x))
       (progress_after (changes + change) (Some (party_after x since changes steps change s)))
-  going_on changes since steps change asks s x flight same_doing count = go s.after
+  going_on changes {since} steps change asks s x same_doing count = go s.after
     where
       -- whether the step ends the call or not, it counts itself, and one more turn back if it was turned back
       go : (after : After (Flight T) (Answer T))
@@ -224,15 +224,15 @@ module _ {T : Type 0} where
           rw same_doing (record { steps = count; backs = one_or_more x.backs s.back; others = same; finished = refl })
 
   -- The counts of a party's call before and after its own step in the machine are as `BothGoOn` says.
-  counted : (w : World T) (p : ℕ) (x : Party T) (flight : Flight T) (since : ℕ) (ask : Option Ask) (answer : ℕ)
+  counted : (w : World T) (p : ℕ) (x : Party T) {flight : Flight T} {since : ℕ} (ask : Option Ask) (answer : ℕ)
       → party_of p w.latest ≡ Some x → x.doing ≡ Going flight since
       → BothGoOn (is_some ask) (is_none (flight_in (after_step w p x since ask (step_in w p x flight answer)) p))
       (progress_in w p) (progress_in (after_step w p x since ask (step_in w p x flight answer)) p)
-  counted w p x flight since ask answer found same_doing =
+  counted w p x {flight} {since} ask answer found same_doing =
       let s = step_in w p x flight answer in
       let y = party_after x since w.changes (step_count ask) (change_of w.words ask) s in
       let here = step_here w p x since ask s in
-      let goal = going_on w.changes since (step_count ask) (change_of w.words ask) (is_some ask) s x flight same_doing (one_more_if ask x.steps) in
+      let goal = going_on w.changes (step_count ask) (change_of w.words ask) (is_some ask) s x same_doing (one_more_if ask x.steps) in
       rw (here, found) goal
 
   -- a step counts itself, and the changes of others that its call has seen
@@ -253,7 +253,7 @@ module _ {T : Type 0} where
           (progress_in (after_answer w p x (ask_of_doing w.coding doing) (old_of w.words (ask_of_doing w.coding doing)) doing) p))
       go (Over others) same_doing = tt
       go (Going flight since) same_doing =
-          counted w p x flight since (ask_of (want_of w.coding flight)) (old_of w.words (ask_of (want_of w.coding flight))) found same_doing
+          counted w p x (ask_of (want_of w.coding flight)) (old_of w.words (ask_of (want_of w.coding flight))) found same_doing
 
   -- an answer counts no step
   decision_counts : (w : World T) (p : ℕ) (said : Bool) (o : Option (Party T)) → party_of p w.latest ≡ o
@@ -269,7 +269,7 @@ module _ {T : Type 0} where
           (λ flight. BothGoOn false (is_none (flight_in (after_answer w p x None (number_of said) doing) p))
           (progress_in w p) (progress_in (after_answer w p x None (number_of said) doing) p))
       go (Over others) same_doing = tt
-      go (Going flight since) same_doing = counted w p x flight since None (number_of said) found same_doing
+      go (Going flight since) same_doing = counted w p x None (number_of said) found same_doing
 
   -- A call that has just begun has counted nothing.
   begin_counts : (w : World T) (p : ℕ) (start : Start T) (o : Option (Flight T)) → is_none o ≡ false

@@ -97,9 +97,9 @@ record IsEndless (t : Trace ℕ) (kind : Kind) (c n steps ended : ℕ) (turns : 
   pub after : ends (after_turns t turns).events ≡ ended
 
 -- from there these turns take more steps than the bound allows, so the bound is too small for the kind
-no_less : (t : Trace ℕ) (kind : Kind) (c n steps ended : ℕ) (turns : List (Turn ℕ)) → IsEndless t kind c n steps ended turns
+no_less : {t : Trace ℕ} {kind : Kind} {c n steps ended : ℕ} {turns : List (Turn ℕ)} → IsEndless t kind c n steps ended turns
     → (bound : Bound) → bound n c 1 < steps → IsLockFree ℕ kind bound → ⊥
-no_less t kind c n steps ended turns endless bound few free =
+no_less {t} {n = n} {steps = steps} {ended = ended} {turns = turns} endless bound few free =
     none_more (ends t.events) (ends (after_turns t turns).events) ended endless.before endless.after
     (free t endless.is endless.reached n turns (all_allowed t turns endless.taken) (all_below n turns endless.below)
     (more_steps (bound n t.world.capacity t.world.coding.size) (steps_in t turns) steps endless.many (rw (endless.capacity, endless.size) few)))
@@ -118,7 +118,8 @@ measured push =
 -- no bound below 10 holds for two lengths of an index queue of capacity 1
 pub index_queue : (bound : Bound) → bound 2 1 1 < 10 → IsLockFree ℕ IndexQueue bound → ⊥
 index_queue =
-    no_less (from IndexQueue 1 3 (measured (queues.PushIndex 7))) IndexQueue 1 2 10 2 (nexts 0 5 ++ nexts 1 5)
+    no_less {t = (from IndexQueue 1 3 (measured (queues.PushIndex 7)))} {kind = IndexQueue} {c = 1} {n = 2}
+    {steps = 10} {ended = 2} {turns = (nexts 0 5 ++ nexts 1 5)}
     (record {
       reached = record { coded = one_word_codes; admitted = refl; turns = measured (queues.PushIndex 7); is = refl };
       is = refl;
@@ -134,7 +135,7 @@ index_queue =
 -- no bound below 10 holds for two lengths of a queue of capacity 1
 pub queue : (bound : Bound) → bound 2 1 1 < 10 → IsLockFree ℕ Queue bound → ⊥
 queue =
-    no_less (from Queue 1 3 (measured (queues.Push 7))) Queue 1 2 10 2 (nexts 0 5 ++ nexts 1 5)
+    no_less {t = (from Queue 1 3 (measured (queues.Push 7)))} {kind = Queue} {c = 1} {n = 2} {steps = 10} {ended = 2} {turns = (nexts 0 5 ++ nexts 1 5)}
     (record {
       reached = record { coded = one_word_codes; admitted = refl; turns = measured (queues.Push 7); is = refl };
       is = refl;
@@ -158,7 +159,7 @@ full =
 -- no bound below 5 holds for one push of a full overflowing queue
 pub overflow : (bound : Bound) → bound 1 1 1 < 5 → IsLockFree ℕ Overflow bound → ⊥
 overflow =
-    no_less (from Overflow 1 1 full) Overflow 1 1 5 2 (nexts 0 5)
+    no_less {t = (from Overflow 1 1 full)} {kind = Overflow} {c = 1} {n = 1} {steps = 5} {ended = 2} {turns = (nexts 0 5)}
     (record {
       reached = record { coded = one_word_codes; admitted = refl; turns = full; is = refl };
       is = refl;
@@ -184,7 +185,7 @@ stale =
 -- no bound below 6 holds for two loads of a value of one word
 pub value : (bound : Bound) → bound 2 1 1 < 6 → IsLockFree ℕ Atomic bound → ⊥
 value =
-    no_less (from Atomic 1 3 stale) Atomic 1 2 6 2 (nexts 0 3 ++ nexts 1 3)
+    no_less {t = (from Atomic 1 3 stale)} {kind = Atomic} {c = 1} {n = 2} {steps = 6} {ended = 2} {turns = (nexts 0 3 ++ nexts 1 3)}
     (record {
       reached = record { coded = one_word_codes; admitted = refl; turns = stale; is = refl };
       is = refl;
@@ -206,7 +207,7 @@ last_set =
 -- no bound below 5 holds for one reset of the next bit
 pub bit_set : (bound : Bound) → bound 1 3 1 < 5 → IsLockFree ℕ Bits bound → ⊥
 bit_set =
-    no_less (from Bits 3 2 last_set) Bits 3 1 5 1 (nexts 0 5)
+    no_less {t = (from Bits 3 2 last_set)} {kind = Bits} {c = 3} {n = 1} {steps = 5} {ended = 1} {turns = (nexts 0 5)}
     (record {
       reached = record { coded = one_word_codes; admitted = refl; turns = last_set; is = refl };
       is = refl;
@@ -226,7 +227,7 @@ resets =
 -- no bound below 4 holds for two resets of all counts
 pub counts : (bound : Bound) → bound 2 3 1 < 4 → IsLockFree ℕ Counts bound → ⊥
 counts =
-    no_less (from Counts 3 2 resets) Counts 3 2 4 0 (nexts 0 2 ++ nexts 1 2)
+    no_less {t = (from Counts 3 2 resets)} {kind = Counts} {c = 3} {n = 2} {steps = 4} {ended = 0} {turns = (nexts 0 2 ++ nexts 1 2)}
     (record {
       reached = record { coded = one_word_codes; admitted = refl; turns = resets; is = refl };
       is = refl;
@@ -248,7 +249,7 @@ rounds (suc n) = round ++ rounds n
 -- no bound below 200 holds for two releases that would lock a robust index set
 pub robust : (bound : Bound) → bound 2 2 1 < 200 → IsLockFree ℕ Robust bound → ⊥
 robust =
-    no_less (from Robust 2 2 both_count) Robust 2 2 200 2 (rounds 20)
+    no_less {t = (from Robust 2 2 both_count)} {kind = Robust} {c = 2} {n = 2} {steps = 200} {ended = 2} {turns = (rounds 20)}
     (record {
       reached = record { coded = one_word_codes; admitted = refl; turns = both_count; is = refl };
       is = refl;

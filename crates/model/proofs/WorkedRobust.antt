@@ -256,18 +256,18 @@ leaves_it done = done.gone 0 7 (record { before = Asks 0 7 ∷ []; after = []; i
 abbrev passed : List (Event ℕ)
 passed = Filled 1 0 7 ∷ Begun 0 recover ∷ []
 
-begun_once : (start : Start ℕ) (rest : List (Event ℕ)) → Filled 1 0 7 ∷ Begun 0 start ∷ [] ≡ rest → BeginsNone 0 rest → ⊥
-begun_once start rest same_rest within = (subst (BeginsNone 0) (sym same_rest) within).0 refl
+begun_once : {start : Start ℕ} (rest : List (Event ℕ)) → Filled 1 0 7 ∷ Begun 0 start ∷ [] ≡ rest → BeginsNone 0 rest → ⊥
+begun_once rest same_rest within = (subst (BeginsNone 0) (sym same_rest) within).0 refl
 
-begun_then : (start : Start ℕ) (rest : List (Event ℕ)) → Begun 0 start ∷ [] ≡ rest → BeginsNone 0 rest → ⊥
-begun_then start rest same_rest within = (subst (BeginsNone 0) (sym same_rest) within).0 refl
+begun_then : {start : Start ℕ} (rest : List (Event ℕ)) → Begun 0 start ∷ [] ≡ rest → BeginsNone 0 rest → ⊥
+begun_then rest same_rest within = (subst (BeginsNone 0) (sym same_rest) within).0 refl
 
 -- at every moment since the call began, index 0 is filled by owner 7
 stays_filled : (start : Start ℕ) → HeldThroughout 0 (IsFilledWith 7 0) (Filled 1 0 7 ∷ Begun 0 start ∷ [])
-stays_filled start [] rest is within = absurd (begun_once start rest is within)
+stays_filled start [] rest is within = absurd (begun_once rest is within)
 stays_filled start (a ∷ []) rest is within =
     let e : Begun 0 start ∷ [] ≡ rest = cc in
-    absurd (begun_then start rest e within)
+    absurd (begun_then rest e within)
 stays_filled start (a ∷ b ∷ []) rest is within =
     let first : Filled 1 0 7 ≡ a = cc in
     let second : Begun 0 start ≡ b = cc in

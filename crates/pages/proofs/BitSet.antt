@@ -229,10 +229,10 @@ module _ (c b : ℕ) (below : b < c) where
           rw same (Stays refl refl)
 
   -- a search that looks at a place has passed it, or goes to exchange its element
-  next_tests_shows : (start passed old v : ℕ) (stage : page.Stage) → start ≤ c → passed < c
+  next_tests_shows : (start passed old : ℕ) {v : ℕ} (stage : page.Stage) → start ≤ c → passed < c
       → call_at stage ≡ page.ResetNext → did stage ≡ passed_by start passed → (page.place_after c start passed ≡ b → v ≡ page.bit (page.stands old b))
       → GoesThen stage (page.next_tests c start passed old) v v
-  next_tests_shows start passed old v stage le lt is had sees = go (page.stands old (page.place_after c start passed)) refl
+  next_tests_shows start passed old {v} stage le lt is had sees = go (page.stands old (page.place_after c start passed)) refl
     where
       -- Past the last place the search has passed `b` too.
       all_passed : passed + 1 ≡ c → passed_by start (passed + 1) ≡ Some (act 0 0)
@@ -286,7 +286,7 @@ module _ (c b : ℕ) (below : b < c) where
       let place = page.place_after c start passed in
       let old = slice_index words (1 + place / 64) in
       leaves words (page.NextLoadsElement start passed) (page.next_tests c start passed old) (load_leaves words (1 + place / 64)) good
-      (next_tests_shows start passed old (value words) (page.NextLoadsElement start passed) le lt refl refl (sees_there words place))
+      (next_tests_shows start passed old (page.NextLoadsElement start passed) le lt refl refl (sees_there words place))
 
   -- a search that takes a bit out has found 1 and left 0, if the bit is the place's; else that it has passed the place does not count
   next_done : (words : List ℕ) (start passed element : ℕ) → Good words → start ≤ c → passed < c
@@ -365,7 +365,7 @@ module _ (c b : ℕ) (below : b < c) where
           let same = exchange_fails words (1 + place / 64) (without_flag element place) in (
             subst Good (sym same) good,
             subst (λ ws. GoesThen (page.NextExchangesElement start passed element) (page.next_tests c start passed old) (value words) (value ws)) (sym same)
-                (next_tests_shows start passed old (value words) (page.NextExchangesElement start passed element) le lt refl refl (sees_there words place)),
+                (next_tests_shows start passed old (page.NextExchangesElement start passed element) le lt refl refl (sees_there words place)),
           )
 
   other_word : (words : List ℕ) (word new : ℕ) → word ≢ 1 + b / 64 → value (slice_set words word new) ≡ value words

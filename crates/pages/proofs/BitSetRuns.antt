@@ -1,6 +1,6 @@
 -- The page of the bit set is about machines: turn by turn.
 use Rattle.std.specs.List.{AllByRecursion}
-use Rattle.std.proofs.Common.{is_some, nat_le, nat_lt, slice_set, ◌^◌}
+use Rattle.std.proofs.Common.{is_some, nat_le, nat_lt, ◌^◌}
 use Rattle.std.proofs.lemmas.Bool.Decides.{nat_tests}
 use Rattle.model.proofs.Names.{Bool, IsCoding, List, None, Option, Some, Trace, [], ap, append-nil, append_assoc, arith, cond, false, first_of, first_row, fold}
 use Rattle.model.proofs.Names.{length, map, one_word, opening, refl, slice_index, step_of, subst, sym, true, ℕ, ◌++◌, ◌+◌, ◌<◌, ◌==◌, ◌∙◌, ◌∷◌, ◌≡◌, ◌≢◌}
@@ -26,7 +26,7 @@ use Rattle.pages.specs.BitSetBridge as bits_bridge
 use Rattle.pages.specs.Machine as machine
 use Rattle.pages.specs.Handed.{IsTold, handed, handed_after, told}
 use Rattle.pages.proofs.BitSet as bits_law
-use Rattle.pages.proofs.Relates.{AllRules, IsWithin, Meets, Relation, StepsRight, all_turns}
+use Rattle.pages.proofs.Relates.{AllRules, IsWithin, Meets, Pairing, Relation, StepsRight, all_turns}
 use Rattle.pages.proofs.Relates as relates
 use Rattle.pages.proofs.SetsAreTheCode.{bits_after, bits_asks}
 use Rattle.pages.proofs.Simulates.{went}
@@ -65,7 +65,7 @@ module _ (c : ℕ) (some : 0 < c) where
 
   -- A step of party `p` that wrote these events tells the page nothing by them, and hands these places out.
   abbrev WritesBits : ℕ → List (Event ℕ) → List ℕ → Type 0
-  WritesBits p wrote items = Writes (bits.bit_set c) bits_bridge.reading HandsAt p wrote items
+  WritesBits p wrote items = Writes bits_bridge.reading p wrote items
 
   abbrev items_of : bits.Stage → ℕ → List ℕ
   items_of (bits.NextExchangesElement start passed element) old = cond (old == element) (bits.place_after c start passed ∷ []) []
@@ -256,9 +256,9 @@ module _ (c : ℕ) (some : 0 < c) where
   bits_went found (machine.GoOn stage) = refl
   bits_went found (machine.Done answer) = refl
 
-  -- the page of the bit set goes along with the model's machine by what its resets have handed out
-  bits_relation : Relation ℕ (bits.bit_set c) kinds.Bits c
-  bits_relation =
+  -- how the calls of the page are the model's, and what relates them: by what its resets have handed out
+  abbrev bits_pairing : Pairing ℕ (bits.bit_set c)
+  bits_pairing =
       record {
         call_at = bits_law.call_at;
         start = λ call. Bits (bits_bridge.bits_start call);
@@ -269,6 +269,12 @@ module _ (c : ℕ) (some : 0 < c) where
         Related = BitsRelated;
         Rule = λ w turn. Unit {0};
         Known = λ events k. Unit {0};
+      }
+
+  -- the page of the bit set goes along with the model's machine by what its resets have handed out
+  bits_relation : Relation bits_pairing kinds.Bits c
+  bits_relation =
+      record {
         known = λ t r kind capacity. tt;
         first_at = first_at;
         first_fits = first_fits;
@@ -284,14 +290,12 @@ module _ (c : ℕ) (some : 0 < c) where
             (sym related.0) (admits p call may);
         begun = λ events k w p call related may free rule. (
           related.0,
-          tellings.begins (bits.bit_set c) bits_bridge.reading HandsAt events w p call
-              (Bits (bits_bridge.bits_start call)) related.1 (call_same call) (none_yet call),
+          tellings.begins related.1 p (Bits (bits_bridge.bits_start call)) (call_same call) (none_yet call),
         );
         asks = bits_asks c;
         rows = λ k r stage. refl;
         steps = λ events k w beside p r stage related known pending fits.
-            subst (λ k. StepsRight ℕ (bits.bit_set c) kinds.Bits c bits_law.call_at (λ call. Bits (bits_bridge.bits_start call)) bits_flight
-            bits_bridge.answered (bits_bridge.Fits c) (λ events k. Unit {0}) BitsRelated events w p stage
+            subst (λ k. StepsRight bits_pairing events w p stage
             (step_of one_word w.words beside p (Bits (bits_bridge.bits_start (bits_law.call_at stage))) (bits_flight r stage)
             (slice_index w.words (bits.does c stage).0) k))
             (sym related.0) (steps events w beside p r stage related.1 pending fits);
@@ -341,8 +345,7 @@ module _ (c : ℕ) (some : 0 < c) where
       -- a step of the model's call leads to where the page's call goes
       steps : (events : List (Event ℕ)) (w : BitsPage) (beside : Option (ℕ × ℕ)) (p r : ℕ) (stage : bits.Stage)
           → IsRead (bits.bit_set c) bits_bridge.reading HandsAt events w → w.pending p ≡ Some stage → bits_bridge.Fits c stage
-          → StepsRight ℕ (bits.bit_set c) kinds.Bits c bits_law.call_at (λ call. Bits (bits_bridge.bits_start call)) bits_flight
-          bits_bridge.answered (bits_bridge.Fits c) (λ events k. Unit {0}) BitsRelated events w p stage
+          → StepsRight bits_pairing events w p stage
           (step_of one_word w.words beside p (Bits (bits_bridge.bits_start (bits_law.call_at stage))) (bits_flight r stage)
           (slice_index w.words (bits.does c stage).0) nothing)
       steps events w beside p r stage read pending fits =
@@ -355,40 +358,35 @@ module _ (c : ℕ) (some : 0 < c) where
             goes = λ next e. subst (BitsGoRight stage) e (bits_right stage old fits);
             related = λ known. (
               refl,
-              steps_on (bits.bit_set c) bits_bridge.reading HandsAt (λ p start answer. refl) (bits_flight old) bits_bridge.answered events
-                  (effects_of p (bits_bridge.flight c r stage) old) (items_of stage old) w p (Bits (bits_bridge.bits_start (bits_law.call_at stage)))
-                  (slice_set w.words (bits.does c stage).0 (machine.written (bits.does c stage).1 old)) read (writes p r stage old) a
+              steps_on read bits_pairing (λ p start answer. refl) (writes p r stage old) stage old
                   (reads stage old (handed bits_bridge.reading p events)
-                  (subst (λ o. Hands (bits.bit_set c) bits_bridge.reading HandsAt o (handed bits_bridge.reading p events)) pending (read.hands p))) _ is,
+                  (subst (λ o. Hands (bits.bit_set c) bits_bridge.reading HandsAt o (handed bits_bridge.reading p events)) pending (read.hands p))) is,
             );
           }
 
   -- the turns of the relation are those of the page's specification
   bits_same_turns : (parties : ℕ) (turns : List (machine.Turn bits.Call))
-      → map (relates.as_turn ℕ (bits.bit_set c) kinds.Bits c bits_relation parties) turns ≡ map bits_bridge.as_turn turns
-  unfolding bits_relation
+      → map (relates.as_turn bits_relation parties) turns ≡ map bits_bridge.as_turn turns
   bits_same_turns parties [] = refl
   bits_same_turns parties (machine.Begin p call ∷ turns) = ap (λ ts. bits_bridge.as_turn (machine.Begin p call) ∷ ts) (bits_same_turns parties turns)
   bits_same_turns parties (machine.Next p ∷ turns) = ap (λ ts. bits_bridge.as_turn (machine.Next p) ∷ ts) (bits_same_turns parties turns)
 
   -- The turns are within the parties also as the relation says it.
   bits_within : (parties : ℕ) (turns : List (machine.Turn bits.Call)) → bits_bridge.AreWithin parties turns
-      → AllByRecursion (IsWithin ℕ (bits.bit_set c) kinds.Bits c bits_relation parties) turns
+      → AllByRecursion (IsWithin bits_relation parties) turns
   bits_within parties [] within = tt
   bits_within parties (machine.Begin p call ∷ turns) within = (within.0, bits_within parties turns within.1)
   bits_within parties (machine.Next p ∷ turns) within = (tt, bits_within parties turns within.1)
 
   bits_rules : (parties : ℕ) (turns : List (machine.Turn bits.Call)) (w : BitsPage)
-      → AllRules ℕ (bits.bit_set c) kinds.Bits c bits_relation parties w turns
-  unfolding bits_relation
+      → AllRules bits_relation parties w turns
   bits_rules parties [] w = tt
   bits_rules parties (turn ∷ turns) w = (tt, bits_rules parties turns (machine.turned (bits.bit_set c) w turn))
 
   -- the model's opening meets the page's
   bits_opens : (parties : ℕ) → c < 2 ^ 32
-      → Meets ℕ (bits.bit_set c) kinds.Bits c bits_relation parties (machine.opening (bits.bit_set c)) 0
+      → Meets bits_relation parties (machine.opening (bits.bit_set c)) 0
       (opening one_word kinds.Bits c parties)
-  unfolding bits_relation
   bits_opens parties few =
       record {
         latest = [];
@@ -405,20 +403,18 @@ module _ (c : ℕ) (some : 0 < c) where
 
   -- after a list of turns the two machines meet
   bits_meets : (parties : ℕ) (turns : List (machine.Turn bits.Call)) → c < 2 ^ 32 → bits_bridge.AreWithin parties turns → length turns < 2 ^ 63
-      → Meets ℕ (bits.bit_set c) kinds.Bits c bits_relation parties
+      → Meets bits_relation parties
       (fold (machine.turned (bits.bit_set c)) (machine.opening (bits.bit_set c)) turns) (0 + length turns)
       (run (map bits_bridge.as_turn turns) (opening one_word kinds.Bits c parties))
   bits_meets parties turns few within small =
-      subst (λ ts. Meets ℕ (bits.bit_set c) kinds.Bits c bits_relation parties
+      subst (λ ts. Meets bits_relation parties
       (fold (machine.turned (bits.bit_set c)) (machine.opening (bits.bit_set c)) turns) (0 + length turns)
       (run ts (opening one_word kinds.Bits c parties))) (bits_same_turns parties turns)
-      (all_turns ℕ (bits.bit_set c) kinds.Bits c bits_relation parties turns (bits_within parties turns within)
-      (machine.opening (bits.bit_set c)) 0 (opening one_word kinds.Bits c parties)
-      (bits_rules parties turns (machine.opening (bits.bit_set c))) (omega arith) (bits_opens parties few))
+      (all_turns bits_relation parties turns (bits_within parties turns within) (bits_rules parties turns (machine.opening (bits.bit_set c)))
+      (omega arith) (bits_opens parties few))
 
 -- what the page runs is what the model's machine runs, with what the events hand out
 pub bits_runs : bits_bridge.BitSetRunsAsTheMachine
-unfolding bits_relation
 bits_runs c parties turns some few within small =
     let s = bits_meets c some parties turns few within small in
     record {

@@ -1,6 +1,6 @@
 -- The page of the counting bit set is about machines: turn by turn.
 use Rattle.std.specs.List.{AllByRecursion}
-use Rattle.std.proofs.Common.{is_some, nat_le, nat_lt, slice_set, ◌^◌}
+use Rattle.std.proofs.Common.{is_some, nat_le, nat_lt, ◌^◌}
 use Rattle.std.proofs.lemmas.Bool.Decides.{nat_tests}
 use Rattle.model.proofs.Names.{Bool, List, None, Option, Some, Trace, [], ap, append-nil, arith, cond, false, first_of, first_row, fold}
 use Rattle.model.proofs.Names.{length, map, one_word, opening, refl, slice_index, step_of, subst, sym, true, ℕ, ◌++◌, ◌+◌, ◌<◌, ◌==◌, ◌∙◌, ◌∷◌, ◌≡◌, ◌≢◌}
@@ -23,7 +23,7 @@ use Rattle.pages.specs.CountingBitSetBridge as counts_bridge
 use Rattle.pages.specs.Machine as machine
 use Rattle.pages.specs.Handed.{IsTold, handed, told}
 use Rattle.pages.proofs.CountingBitSet as counts_law
-use Rattle.pages.proofs.Relates.{AllRules, IsWithin, Meets, Relation, StepsRight, all_turns}
+use Rattle.pages.proofs.Relates.{AllRules, IsWithin, Meets, Pairing, Relation, StepsRight, all_turns}
 use Rattle.pages.proofs.Relates as relates
 use Rattle.pages.proofs.SetsAreTheCode.{counts_after, counts_asks}
 use Rattle.pages.proofs.Simulates.{went}
@@ -52,7 +52,7 @@ module _ (c : ℕ) (some : 0 < c) where
   -- A step of party `p` that wrote these events tells the page nothing by them, and hands out
   -- these pairs of a place and its count.
   abbrev WritesCounts : ℕ → List (Event ℕ) → List (ℕ × ℕ) → Type 0
-  WritesCounts p wrote items = Writes (counts.counting_bit_set c) counts_bridge.reading HandsAt p wrote items
+  WritesCounts p wrote items = Writes counts_bridge.reading p wrote items
 
   abbrev one : ℕ → ℕ → List (ℕ × ℕ)
   one place old = (place, old) ∷ []
@@ -131,9 +131,9 @@ module _ (c : ℕ) (some : 0 < c) where
   counts_went found (machine.GoOn stage) = refl
   counts_went found (machine.Done answer) = refl
 
-  -- the page of the counting bit set goes along with the model's machine by what its resets have handed out
-  counts_relation : Relation ℕ (counts.counting_bit_set c) kinds.Counts c
-  counts_relation =
+  -- how the calls of the page are the model's, and what relates them: by what its resets have handed out
+  abbrev counts_pairing : Pairing ℕ (counts.counting_bit_set c)
+  counts_pairing =
       record {
         call_at = counts_law.call_at;
         start = λ call. Bits (counts_bridge.counts_start call);
@@ -144,6 +144,12 @@ module _ (c : ℕ) (some : 0 < c) where
         Related = CountsRelated;
         Rule = λ w turn. Unit {0};
         Known = λ events k. Unit {0};
+      }
+
+  -- the page of the counting bit set goes along with the model's machine by what its resets have handed out
+  counts_relation : Relation counts_pairing kinds.Counts c
+  counts_relation =
+      record {
         known = λ t r kind capacity. tt;
         first_at = first_at;
         first_fits = first_fits;
@@ -159,15 +165,12 @@ module _ (c : ℕ) (some : 0 < c) where
             (sym related.0) (admits p call may);
         begun = λ events k w p call related may free rule. (
           related.0,
-          tellings.begins (counts.counting_bit_set c) counts_bridge.reading HandsAt events w p call (Bits (counts_bridge.counts_start call)) related.1
-              (call_same call) (none_yet call),
+          tellings.begins related.1 p (Bits (counts_bridge.counts_start call)) (call_same call) (none_yet call),
         );
         asks = counts_asks c;
         rows = λ k r stage. refl;
         steps = λ events k w beside p r stage related known pending fits.
-            subst (λ k. StepsRight ℕ (counts.counting_bit_set c) kinds.Counts c counts_law.call_at
-            (λ call. Bits (counts_bridge.counts_start call)) counts_flight
-            counts_bridge.answered (counts_bridge.Fits c) (λ events k. Unit {0}) CountsRelated events w p stage
+            subst (λ k. StepsRight counts_pairing events w p stage
             (step_of one_word w.words beside p (Bits (counts_bridge.counts_start (counts_law.call_at stage))) (counts_flight r stage)
             (slice_index w.words (counts.does c stage).0) k))
             (sym related.0) (steps events w beside p r stage related.1 pending fits);
@@ -207,9 +210,7 @@ module _ (c : ℕ) (some : 0 < c) where
       -- a step of the model's call leads to where the page's call goes
       steps : (events : List (Event ℕ)) (w : CountsPage) (beside : Option (ℕ × ℕ)) (p r : ℕ) (stage : counts.Stage)
           → IsRead (counts.counting_bit_set c) counts_bridge.reading HandsAt events w → w.pending p ≡ Some stage → counts_bridge.Fits c stage
-          → StepsRight ℕ (counts.counting_bit_set c) kinds.Counts c counts_law.call_at
-          (λ call. Bits (counts_bridge.counts_start call)) counts_flight
-          counts_bridge.answered (counts_bridge.Fits c) (λ events k. Unit {0}) CountsRelated events w p stage
+          → StepsRight counts_pairing events w p stage
           (step_of one_word w.words beside p (Bits (counts_bridge.counts_start (counts_law.call_at stage))) (counts_flight r stage)
           (slice_index w.words (counts.does c stage).0) nothing)
       steps events w beside p r stage read pending fits =
@@ -222,44 +223,38 @@ module _ (c : ℕ) (some : 0 < c) where
             goes = λ next e. subst (CountsGoRight stage) e (counts_right stage old fits);
             related = λ known. (
               refl,
-              steps_on (counts.counting_bit_set c) counts_bridge.reading HandsAt (λ p start answer. refl) (counts_flight old) counts_bridge.answered events
-                  (effects_of p (counts_bridge.flight c r stage) old) (items_of stage old) w p (Bits (counts_bridge.counts_start (counts_law.call_at stage)))
-                  (slice_set w.words (counts.does c stage).0 (machine.written (counts.does c stage).1 old)) read (writes p r stage old) a
+              steps_on read counts_pairing (λ p start answer. refl) (writes p r stage old) stage old
                   (reads stage old (handed counts_bridge.reading p events)
                   (subst
                   (λ o. Hands (counts.counting_bit_set c) counts_bridge.reading HandsAt o (handed counts_bridge.reading p events))
-                  pending (read.hands p)))
-                  _ is,
+                  pending (read.hands p))) is,
             );
           }
 
   -- the turns of the relation are those of the page's specification
   counts_same_turns : (parties : ℕ) (turns : List (machine.Turn counts.Call))
-      → map (relates.as_turn ℕ (counts.counting_bit_set c) kinds.Counts c counts_relation parties) turns
+      → map (relates.as_turn counts_relation parties) turns
       ≡ map counts_bridge.as_turn turns
-  unfolding counts_relation
   counts_same_turns parties [] = refl
   counts_same_turns parties (machine.Begin p call ∷ turns) = ap (λ ts. counts_bridge.as_turn (machine.Begin p call) ∷ ts) (counts_same_turns parties turns)
   counts_same_turns parties (machine.Next p ∷ turns) = ap (λ ts. counts_bridge.as_turn (machine.Next p) ∷ ts) (counts_same_turns parties turns)
 
   -- The turns are within the parties also as the relation says it.
   counts_within : (parties : ℕ) (turns : List (machine.Turn counts.Call)) → bits_bridge.AreWithin parties turns
-      → AllByRecursion (IsWithin ℕ (counts.counting_bit_set c) kinds.Counts c counts_relation parties) turns
+      → AllByRecursion (IsWithin counts_relation parties) turns
   counts_within parties [] within = tt
   counts_within parties (machine.Begin p call ∷ turns) within = (within.0, counts_within parties turns within.1)
   counts_within parties (machine.Next p ∷ turns) within = (tt, counts_within parties turns within.1)
 
   counts_rules : (parties : ℕ) (turns : List (machine.Turn counts.Call)) (w : CountsPage)
-      → AllRules ℕ (counts.counting_bit_set c) kinds.Counts c counts_relation parties w turns
-  unfolding counts_relation
+      → AllRules counts_relation parties w turns
   counts_rules parties [] w = tt
   counts_rules parties (turn ∷ turns) w = (tt, counts_rules parties turns (machine.turned (counts.counting_bit_set c) w turn))
 
   -- the model's opening meets the page's
   counts_opens : (parties : ℕ) → c < 2 ^ 32
-      → Meets ℕ (counts.counting_bit_set c) kinds.Counts c counts_relation parties (machine.opening (counts.counting_bit_set c)) 0
+      → Meets counts_relation parties (machine.opening (counts.counting_bit_set c)) 0
       (opening one_word kinds.Counts c parties)
-  unfolding counts_relation
   counts_opens parties few =
       record {
         latest = [];
@@ -276,20 +271,18 @@ module _ (c : ℕ) (some : 0 < c) where
 
   -- after a list of turns the two machines meet
   counts_meets : (parties : ℕ) (turns : List (machine.Turn counts.Call)) → c < 2 ^ 32 → bits_bridge.AreWithin parties turns → length turns < 2 ^ 63
-      → Meets ℕ (counts.counting_bit_set c) kinds.Counts c counts_relation parties
+      → Meets counts_relation parties
       (fold (machine.turned (counts.counting_bit_set c)) (machine.opening (counts.counting_bit_set c)) turns) (0 + length turns)
       (run (map counts_bridge.as_turn turns) (opening one_word kinds.Counts c parties))
   counts_meets parties turns few within small =
-      subst (λ ts. Meets ℕ (counts.counting_bit_set c) kinds.Counts c counts_relation parties
+      subst (λ ts. Meets counts_relation parties
       (fold (machine.turned (counts.counting_bit_set c)) (machine.opening (counts.counting_bit_set c)) turns) (0 + length turns)
       (run ts (opening one_word kinds.Counts c parties))) (counts_same_turns parties turns)
-      (all_turns ℕ (counts.counting_bit_set c) kinds.Counts c counts_relation parties turns (counts_within parties turns within)
-      (machine.opening (counts.counting_bit_set c)) 0 (opening one_word kinds.Counts c parties)
-      (counts_rules parties turns (machine.opening (counts.counting_bit_set c))) (omega arith) (counts_opens parties few))
+      (all_turns counts_relation parties turns (counts_within parties turns within) (counts_rules parties turns (machine.opening (counts.counting_bit_set c)))
+      (omega arith) (counts_opens parties few))
 
 -- what the page runs is what the model's machine runs, with what the events hand out
 pub counts_runs : counts_bridge.CountingRunsAsTheMachine
-unfolding counts_relation
 counts_runs c parties turns some few within small =
     let s = counts_meets c some parties turns few within small in
     record {

@@ -277,17 +277,16 @@ module _ (c : ℕ) where
       go false e = refl
       go true e = absurd (let clash : false ≡ true = sym unlocked ∙ r.locked e in cc)
 
-  -- an answer that names no index and does not lock
-  says_nothing : (events : List (Event ℕ)) (h : History) (pending pending' : ℕ → Option page.Stage) (start : Start ℕ) (p : ℕ) (answer : page.Answer)
+  -- an answer that names no index and does not lock leaves who holds which index, on the page and by the events
+  says_nothing : {events : List (Event ℕ)} {h : History} {pending : ℕ → Option page.Stage} → (start : Start ℕ) (p : ℕ) (answer : page.Answer)
       → Rel events h pending
-      → ((q j : ℕ) (l : Bool) → pending' q ≡ Some (page.ReleaseClearsFlag j l) → pending q ≡ Some (page.ReleaseClearsFlag j l))
       → all_seen bridge.reading (ends start p answer) ≡ machine.Responded p answer ∷ []
       → ((j : ℕ) (o : Option ℕ) → page.holder_after j o (machine.Responded p answer) ≡ o)
       → ((b : Bool) → page.locked_after b (machine.Responded p answer) ≡ b)
       → page.HoldsAlone c h (machine.Responded p answer)
-      → Rel (events ++ ([] ++ ends start p answer)) (h ++ machine.Responded p answer ∷ []) pending'
-  says_nothing events h pending pending' start p answer r stays sees holders locks alone =
-      quiet events (ends start p answer) h (machine.Responded p answer ∷ []) pending pending' r
+      → Rel (events ++ ([] ++ ends start p answer)) (h ++ machine.Responded p answer ∷ []) (machine.put p None pending)
+  says_nothing {events} {h} {pending} start p answer r sees holders locks alone =
+      quiet events (ends start p answer) h (machine.Responded p answer ∷ []) pending (machine.put p None pending) r
       (record {
         seen = sees;
         holders = λ j. holders_then j events (ends start p answer);
@@ -297,7 +296,7 @@ module _ (c : ℕ) where
             ∙ r.locked (sym (locks (page.is_locked h)) ∙ (sym (locked_push h (machine.Responded p answer)) ∙ t));
         right = each_push (page.HoldsAlone c) h (machine.Responded p answer) r.right alone;
       })
-      stays
+      (λ q j l e. (other_stays p None pending (λ j l e. absurd (cc)) q j l e).1)
 
   -- what a step writes beside its end
   abbrev pub told_of : ℕ → page.Answer → List (Event ℕ)
@@ -370,15 +369,12 @@ module _ (c : ℕ) where
       → Rel (events ++ (told_of p answer ++ ends start p answer)) (h ++ machine.Responded p answer ∷ []) (machine.put p None pending)
   responds events h pending start p (page.Acquired i) r knows = acquires_it events h pending start p i r knows
   responds events h pending start p page.OutOfIndices r knows =
-      says_nothing events h pending (machine.put p None pending) start p page.OutOfIndices r
-      (λ q j l e. (other_stays p None pending (λ j l e. absurd (cc)) q j l e).1) refl (λ j o. refl) (λ b. refl) tt
+      says_nothing start p page.OutOfIndices r refl (λ j o. refl) (λ b. refl) tt
   responds events h pending start p page.IsLocked r knows =
-      says_nothing events h pending (machine.put p None pending) start p page.IsLocked r
-      (λ q j l e. (other_stays p None pending (λ j l e. absurd (cc)) q j l e).1) refl (λ j o. refl) (λ b. refl) tt
+      says_nothing start p page.IsLocked r refl (λ j o. refl) (λ b. refl) tt
   responds events h pending start p (page.Released true) r knows = locks_it events h pending start p r knows
   responds events h pending start p (page.Released false) r knows =
-      says_nothing events h pending (machine.put p None pending) start p (page.Released false) r
-      (λ q j l e. (other_stays p None pending (λ j l e. absurd (cc)) q j l e).1) refl (λ j o. refl) (λ b. refl) tt
+      says_nothing start p (page.Released false) r refl (λ j o. refl) (λ b. refl) tt
 
   -- a step that tells nothing
   pub goes_on : (events : List (Event ℕ)) (h : History) (pending : ℕ → Option page.Stage) (p : ℕ) (next : page.Stage) → Rel events h pending

@@ -85,7 +85,7 @@ module _ (c : ℕ) (few : c < 2 ^ 32) where
       }
 
   -- at the opening the two machines are the same
-  opens : Sim by_role (tie c few) handed (machine.opening (page.index_queue c)) (opening one_word kinds.IndexQueue c 0)
+  opens : Sim handed (machine.opening (page.index_queue c)) (opening one_word kinds.IndexQueue c 0)
   unfolding handed
   opens =
       let cells : c ≡ 1 * c = omega arith in
@@ -108,4 +108,4 @@ module _ (c : ℕ) (few : c < 2 ^ 32) where
       }
 
   pub runs_by_role : RunsByRole by_role (page.index_queue c) (opening one_word kinds.IndexQueue c 0)
-  runs_by_role = hands.by_role by_role (tie c few) handed (opening one_word kinds.IndexQueue c 0) opens
+  runs_by_role = hands.by_role opens

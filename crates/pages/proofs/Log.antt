@@ -84,7 +84,7 @@ module _ {Call Answer : Type 0} (at : Call → Answer → Option Act) where
 
   -- ---- a call begins
 
-  module _ (h : List (Event Call Answer)) (log : List Entry) (v : ℕ) (core : Core h log v) (p : ℕ) (call : Call) where
+  module _ {h : List (Event Call Answer)} {log : List Entry} {v : ℕ} (core : Core h log v) (p : ℕ) (call : Call) where
     abbrev h_begun : List (Event Call Answer)
     h_begun = h ++ Invoked p call ∷ []
 
@@ -183,14 +183,14 @@ module _ {Call Answer : Type 0} (at : Call → Answer → Option Act) where
       go (Some act) had = f act refl had
 
   -- open calls of two parties are two
-  places_apart : (h : List (Event Call Answer)) (log : List Entry) (v : ℕ) → Core h log v → (p q m n : ℕ) (c d : Call) → q ≢ p
+  places_apart : {h : List (Event Call Answer)} {log : List Entry} {v : ℕ} → Core h log v → {p q m n : ℕ} {c d : Call} → q ≢ p
       → Contains (calls_from h 0) (open_call m p c) → Contains (calls_from h 0) (open_call n q d) → n ≢ m
-  places_apart h log v core p q m n c d ne a b same =
+  places_apart core {p} {q} {m} {n} {c} {d} ne a b same =
       ne (ap (λ (c : Called Call Answer). c.party) (core.one (open_call n q d) (open_call m p c) b a same))
 
   -- ---- a call acts
 
-  module _ (h : List (Event Call Answer)) (log : List Entry) (v : ℕ) (core : Core h log v) (p : ℕ) (call : Call) (act : Act)
+  module _ {h : List (Event Call Answer)} {log : List Entry} {v : ℕ} (core : Core h log v) {p : ℕ} {call : Call} (act : Act)
       (own : IsOpen h log p call None) where
     abbrev pub acted : Entry
     acted = (open_call own.place p call, act)
@@ -227,12 +227,12 @@ module _ {Call Answer : Type 0} (at : Call → Answer → Option Act) where
             λ z is same.
             ⊎_elim (λ old. linked z old same)
             (λ e. let same_place : own.place ≡ z.0.place = ap (λ (x : Entry). x.0.place) e in
-            places_apart h log v core p q own.place party.place call x.0 ne own.called party.called (sym same ∙ sym same_place)) (pushed log acted z is)
+            places_apart core ne own.called party.called (sym same ∙ sym same_place)) (pushed log acted z is)
         go (Some a) linked = push_old log acted (open_call party.place q x.0, a) linked
 
   -- ---- a call has done nothing after all
 
-  module _ (h : List (Event Call Answer)) (log : List Entry) (v : ℕ) (core : Core h log v) (p : ℕ) (call : Call) (act : Act)
+  module _ {h : List (Event Call Answer)} {log : List Entry} {v : ℕ} (core : Core h log v) {p : ℕ} {call : Call} {act : Act}
       (own : IsOpen h log p call (Some act)) (idle : act.found ≡ act.left) where
     abbrev stays : Entry → Bool
     stays x = not (x.0.place == own.place)
@@ -308,11 +308,11 @@ module _ {Call Answer : Type 0} (at : Call → Answer → Option Act) where
         go None linked = λ z is. linked z (filtered stays log z is).0
         go (Some a) linked =
             passes stays log (open_call party.place q x.0, a) linked
-            (other_stays (open_call party.place q x.0, a) (places_apart h log v core p q own.place party.place call x.0 ne own.called party.called))
+            (other_stays (open_call party.place q x.0, a) (places_apart core ne own.called party.called))
 
   -- ---- a call responds
 
-  module _ (h : List (Event Call Answer)) (log : List Entry) (v : ℕ) (core : Core h log v) (p : ℕ) (call : Call) (answer : Answer)
+  module _ {h : List (Event Call Answer)} {log : List Entry} {v : ℕ} (core : Core h log v) {p : ℕ} {call : Call} (answer : Answer)
       (own : IsOpen h log p call (at call answer)) where
     abbrev on : Called Call Answer → Called Call Answer
     on = respond p (length h) answer

@@ -281,12 +281,14 @@ opens c some =
     let last = acquired c in
     let cells : 1 * (c + 1) ≡ c + 1 = omega arith in
     record {
-      latest = last.world.latest;
-      changes = last.world.changes;
-      turns = last.world.turns;
-      events = [];
+      now = record { latest = last.world.latest; changes = last.world.changes; turns = last.world.turns; events = [] };
       few = omega arith;
-      is = ap (λ k. trace (tie c some) 2 roles_told (0 ∷ 0 ∷ 0 ∷ 0 ∷ replicate k 0) last.world.latest last.world.changes last.world.turns []) cells;
+      is = ap (λ k. trace (tie c some) 2 roles_told (0 ∷ 0 ∷ 0 ∷ 0 ∷ replicate k 0) (record {
+        latest = last.world.latest;
+        changes = last.world.changes;
+        turns = last.world.turns;
+        events = [];
+      })) cells;
       told = refl;
       own = tt;
       matches = λ p. idle _ _ refl refl (is_eq (nat_cmp p 0)) (is_eq (nat_cmp p 1));
@@ -324,8 +326,7 @@ simulated : (c : ℕ) (turns : List (machine.Turn page.Call)) (some : (c == 0) �
     → Sim (tie c some) 2 roles_told (world_of c turns) (0 + length turns) (run (map as_turn turns) (acquired c))
 simulated c turns some small =
     subst (λ ts. Sim (tie c some) 2 roles_told (world_of c turns) (0 + length turns) (run ts (acquired c))) (same_turns c some turns)
-    (all_turns (tie c some) 2 roles_told turns (all_within c some turns)
-    (machine.opening (page.overflowing_queue c)) 0 (acquired c) (omega arith) (opens c some))
+    (all_turns (tie c some) 2 roles_told turns (all_within c some turns) (omega arith) (opens c some))
 
 -- what the page runs is linearizable as the overflowing list
 pub linearizable : (c : ℕ) (turns : List (machine.Turn page.Call)) → 0 < c → c < 2 ^ 32 → length turns < 2 ^ 63
@@ -333,12 +334,12 @@ pub linearizable : (c : ℕ) (turns : List (machine.Turn page.Call)) → 0 < c �
 linearizable c turns more few small =
     let some = some_is c more in
     let meeting = simulated c turns some small in
-    let run_now = trace (tie c some) 2 roles_told (world_of c turns).words meeting.latest meeting.changes meeting.turns meeting.events in
+    let run_now = trace (tie c some) 2 roles_told (world_of c turns).words meeting.now in
     let is_reached : IsReached run_now = subst IsReached meeting.is (reached c (map as_turn turns) few) in
     let keeps = (queue_keeps {T = ℕ} queue_kinds.Overflow).kept run_now refl is_reached in
     subst (machine.IsLinearizable (page.overflowing_list c)) meeting.told
-    (carried reading (as_list queue_kinds.Overflow c) (page.overflowing_list c) (is_list c) roles_told 4
-    meeting.events meeting.own (among meeting.events) (within meeting.events)
+    (carried reading (is_list c) roles_told 4
+    meeting.now.events meeting.own (among meeting.now.events) (within meeting.now.events)
     (run_linearizable run_now keeps))
 
 -- each stage asks for what the code's function asks for, and goes on as it does
@@ -350,7 +351,7 @@ pub runs : OverflowingRunsAsTheMachine
 runs c turns more few small =
     let meeting = simulated c turns (some_is c more) small in
     record {
-      events = meeting.events;
+      events = meeting.now.events;
       is = ap (λ (t : Trace ℕ). t.events) meeting.is;
       history = meeting.told;
       words = ap (λ (t : Trace ℕ). t.world.words) meeting.is;

@@ -93,7 +93,7 @@ module _ (c : ℕ) (more : 0 < c) where
       }
 
   -- at the opening the two machines are the same
-  opens : Sim by_role (tie c (some_is c more)) handed (machine.opening (page.overflowing_queue c)) (opening one_word kinds.Overflow c 0)
+  opens : Sim handed (machine.opening (page.overflowing_queue c)) (opening one_word kinds.Overflow c 0)
   unfolding handed
   opens =
       let cells : c + 1 ≡ 1 * (c + 1) = omega arith in
@@ -116,4 +116,4 @@ module _ (c : ℕ) (more : 0 < c) where
       }
 
   pub runs_by_role : RunsByRole by_role (page.overflowing_queue c) (opening one_word kinds.Overflow c 0)
-  runs_by_role = hands.by_role by_role (tie c (some_is c more)) handed (opening one_word kinds.Overflow c 0) opens
+  runs_by_role = hands.by_role opens

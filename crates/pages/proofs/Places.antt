@@ -117,18 +117,18 @@ module _ {Call Stage Answer : Type 0} (of : Structure Call Stage Answer) (at : C
     begins w n p call s may free =
         let first = law.begins p call may in
         let own =
-        logs.begun_own at w.history s.log (law.value w.words) s.core p call
+        logs.begun_own at s.core p call
         (subst (λ o. Party at w.history s.log p (Pending o)) free (s.parties p)) in
         let h = w.history ++ Invoked p call ∷ [] in
         record {
           log = s.log;
           good = law.waits n w.words s.good;
-          core = logs.begun_core at w.history s.log (law.value w.words) s.core p call;
+          core = logs.begun_core at s.core p call;
           fits = put_all p (Some (of.first call)) w.pending (λ q o. FitsIn o) first.fits (λ q ne. s.fits q);
           parties = put_all p (Some (of.first call)) w.pending (λ q o. Party at h s.log q (Pending o))
               (subst (λ d. IsOpen at h s.log p (law.call_at (of.first call)) d) (sym first.nothing)
               (subst (λ c. IsOpen at h s.log p c None) (sym first.is) own))
-              (λ q ne. logs.begun_other at w.history s.log (law.value w.words) s.core p call q ne (Pending (w.pending q)) (s.parties q));
+              (λ q ne. logs.begun_other at s.core p call q ne (Pending (w.pending q)) (s.parties q));
         }
 
     -- ---- a call takes a step
@@ -141,30 +141,30 @@ module _ {Call Stage Answer : Type 0} (of : Structure Call Stage Answer) (at : C
       pub others : (q : ℕ) → q ≢ p → (o : Option (Call × Option Act)) → Party at h old q o → Party at h log q o
 
     -- the log goes along with what a step does at the place
-    logged : (h : List (machine.Event Call Answer)) (log : List (Entry at)) (v w p : ℕ) (call : Call) (did then : Option Act)
+    logged : {h : List (machine.Event Call Answer)} {log : List (Entry at)} {v w p : ℕ} {call : Call} {did then : Option Act}
         → Core at h log v → IsOpen at h log p call did → Moves at call did then v w → Logged h log w p call then
-    logged h log v w p call did then core own (Stays same stays) =
+    logged {h} {log} {v} {w} {p} {call} {did} {then} core own (Stays same stays) =
         record {
           log = log;
           core = subst (Core at h log) (sym stays) core;
           own = subst (IsOpen at h log p call) (sym same) own;
           others = λ q ne o had. had;
         }
-    logged h log v w p call did then core own (Acts none act is finds leaves possible) =
+    logged {h} {log} {v} {w} {p} {call} {did} {then} core own (Acts none act is finds leaves possible) =
         let nothing_yet = subst (IsOpen at h log p call) none own in
         record {
-          log = logs.log_acted at h log v core p call act nothing_yet;
-          core = subst (Core at h _) leaves (logs.acted_core at h log v core p call act nothing_yet possible finds);
-          own = subst (IsOpen at h _ p call) (sym is) (logs.acted_own at h log v core p call act nothing_yet);
-          others = logs.acted_other at h log v core p call act nothing_yet;
+          log = logs.log_acted at core act nothing_yet;
+          core = subst (Core at h _) leaves (logs.acted_core at core act nothing_yet possible finds);
+          own = subst (IsOpen at h _ p call) (sym is) (logs.acted_own at core act nothing_yet);
+          others = logs.acted_other at core act nothing_yet;
         }
-    logged h log v w p call did then core own (Forgets act had idle none stays) =
+    logged {h} {log} {v} {w} {p} {call} {did} {then} core own (Forgets act had idle none stays) =
         let had_done = subst (IsOpen at h log p call) had own in
         record {
-          log = logs.log_forgotten at h log v core p call act had_done idle;
-          core = subst (Core at h _) (sym stays) (logs.forgotten_core at h log v core p call act had_done idle);
-          own = subst (IsOpen at h _ p call) (sym none) (logs.forgotten_own at h log v core p call act had_done idle);
-          others = logs.forgotten_other at h log v core p call act had_done idle;
+          log = logs.log_forgotten at core had_done idle;
+          core = subst (Core at h _) (sym stays) (logs.forgotten_core at core had_done idle);
+          own = subst (IsOpen at h _ p call) (sym none) (logs.forgotten_own at core had_done idle);
+          others = logs.forgotten_other at core had_done idle;
         }
 
     -- as a call takes a step there is a log again, of the words that the step leaves
@@ -183,7 +183,7 @@ module _ {Call Stage Answer : Type 0} (of : Structure Call Stage Answer) (at : C
             → Holds (machine.gone of w p words a) (n + 1)
         by (GoOn next) words good own goes =
             -- the log after what the step did at the place
-            let l = logged w.history s.log (law.value w.words) (law.value words) p (law.call_at stage) (law.did stage) (law.did next) s.core own goes.moves in
+            let l = logged s.core own goes.moves in
             record {
               log = l.log;
               good = good;
@@ -196,17 +196,17 @@ module _ {Call Stage Answer : Type 0} (of : Structure Call Stage Answer) (at : C
         by (Done answer) words good own goes =
             let call = law.call_at stage in
             -- the log after what the step did at the place, and then after the response
-            let l = logged w.history s.log (law.value w.words) (law.value words) p call (law.did stage) (at call answer) s.core own goes in
+            let l = logged s.core own goes in
             let h = w.history ++ Responded p answer ∷ [] in
-            let done = logs.log_done at w.history l.log (law.value words) l.core p call answer l.own in
+            let done = logs.log_done at l.core answer l.own in
             record {
               log = done;
               good = good;
-              core = logs.done_core at w.history l.log (law.value words) l.core p call answer l.own;
+              core = logs.done_core at l.core answer l.own;
               fits = put_all p None w.pending (λ q o. FitsIn o) tt (λ q ne. s.fits q);
               parties = put_all p None w.pending (λ q o. Party at h done q (Pending o))
-                  (logs.done_own at w.history l.log (law.value words) l.core p call answer l.own)
-                  (λ q ne. logs.done_other at w.history l.log (law.value words) l.core p call answer l.own q ne (Pending (w.pending q))
+                  (logs.done_own at l.core answer l.own)
+                  (λ q ne. logs.done_other at l.core answer l.own q ne (Pending (w.pending q))
                   (l.others q ne (Pending (w.pending q)) (s.parties q)));
             }
 

@@ -298,12 +298,14 @@ opens c few =
     let last = acquired c in
     let cells : 1 * c ≡ c = omega arith in
     record {
-      latest = last.world.latest;
-      changes = last.world.changes;
-      turns = last.world.turns;
-      events = [];
+      now = record { latest = last.world.latest; changes = last.world.changes; turns = last.world.turns; events = [] };
       few = omega arith;
-      is = ap (λ k. trace (tie c few) 2 roles_told (0 ∷ 0 ∷ 0 ∷ 0 ∷ replicate k 0) last.world.latest last.world.changes last.world.turns []) cells;
+      is = ap (λ k. trace (tie c few) 2 roles_told (0 ∷ 0 ∷ 0 ∷ 0 ∷ replicate k 0) (record {
+        latest = last.world.latest;
+        changes = last.world.changes;
+        turns = last.world.turns;
+        events = [];
+      })) cells;
       told = refl;
       own = tt;
       matches = λ p. idle _ _ refl refl (is_eq (nat_cmp p 0)) (is_eq (nat_cmp p 1));
@@ -339,19 +341,19 @@ simulated : (c : ℕ) (turns : List (machine.Turn page.Call)) (few : c < 2 ^ 32)
     → Sim (tie c few) 2 roles_told (world_of c turns) (0 + length turns) (run (map as_turn turns) (acquired c))
 simulated c turns few small =
     subst (λ ts. Sim (tie c few) 2 roles_told (world_of c turns) (0 + length turns) (run ts (acquired c))) (same_turns c few turns)
-    (all_turns (tie c few) 2 roles_told turns (all_within c few turns) (machine.opening (page.index_queue c)) 0 (acquired c) (omega arith) (opens c few))
+    (all_turns (tie c few) 2 roles_told turns (all_within c few turns) (omega arith) (opens c few))
 
 -- what the page runs is linearizable as the bounded list
 pub linearizable : (c : ℕ) (turns : List (machine.Turn page.Call)) → c < 2 ^ 32 → length turns < 2 ^ 63
     → machine.IsLinearizable (page.bounded_list c) (world_of c turns).history
 linearizable c turns few small =
     let meeting = simulated c turns few small in
-    let run_now = trace (tie c few) 2 roles_told (world_of c turns).words meeting.latest meeting.changes meeting.turns meeting.events in
+    let run_now = trace (tie c few) 2 roles_told (world_of c turns).words meeting.now in
     let is_reached : IsReached run_now = subst IsReached meeting.is (reached c (map as_turn turns) few) in
     let keeps = (queue_keeps {T = ℕ} queue_kinds.IndexQueue).kept run_now refl is_reached in
     subst (machine.IsLinearizable (page.bounded_list c)) meeting.told
-    (carried reading (as_list queue_kinds.IndexQueue c) (page.bounded_list c) (is_list c) roles_told 4
-    meeting.events meeting.own (among meeting.events) (within meeting.events)
+    (carried reading (is_list c) roles_told 4
+    meeting.now.events meeting.own (among meeting.now.events) (within meeting.now.events)
     (run_linearizable run_now keeps))
 
 -- each stage asks for what the code's function asks for, and goes on as it does
@@ -363,7 +365,7 @@ pub runs : RunsAsTheMachine
 runs c turns few small =
     let meeting = simulated c turns few small in
     record {
-      events = meeting.events;
+      events = meeting.now.events;
       is = ap (λ (t : Trace ℕ). t.events) meeting.is;
       history = meeting.told;
       words = ap (λ (t : Trace ℕ). t.world.words) meeting.is;

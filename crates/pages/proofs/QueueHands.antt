@@ -54,8 +54,8 @@ abbrev pub blank : List ℕ → List ℕ
 blank (write ∷ read ∷ producer ∷ consumer ∷ cells) = write ∷ read ∷ 0 ∷ 0 ∷ cells
 blank words = words
 
--- The words of a queue of the model: its two positions, a word for each role that says whether it is free, and the cells. (On
--- the page both words of roles stay 0.)
+-- The words of a queue of the model: its two positions, a word for each role that says whether it is free, and the cells. The
+-- page's words are `blank` of these: there both words of roles stay 0.
 pub record Tells (roles : Roles) (words : List ℕ) : Type 0 where
   pub write : ℕ
   pub read : ℕ
@@ -235,7 +235,9 @@ module _ {T : Type 0} where
 
     -- ---- their steps
 
-    -- What a step of a call that the page has not comes to: no event, and no change of the page's words.
+    -- A step of a call that the page has not writes no event and leaves the page's words (`blank_is`). Behind it the model's
+    -- words tell again who has which role (`tells`), a call that goes on is still none of the page's (`stays`), a role has the
+    -- holder that it had, or was free or the party's own (`who_is`), and other parties' calls stand where they stood (`others`).
     abbrev StepOf : Roles → ℕ → Start T → Flight T → List ℕ → Option (ℕ × ℕ) → Type 0
     StepOf roles p start flight words beside =
         OtherStep code registries.Queues who blank Tells Other roles p start flight words
@@ -449,46 +451,44 @@ module _ {T : Type 0} where
           (λ then e. goes_on_so IsPeek (λ r. Values (rings.Peek r)) (λ r. tt) popped_value (λ end given room. pop_answer (read_in code room) end) _ _ _ then e)
       by_peek pr co flight peek = absurd peek
 
+      abbrev StepAt : Roles → QueueStart T → Flight T → Type 0
+      StepAt roles start flight = StepOf roles p (Queues start) flight (words_of roles.producer roles.consumer) beside
+
       -- a step of each call that the page has not is as `StepOf` asks, from words that tell the roles
-      by_start : (pr co : Option ℕ) (start : QueueStart T) (flight : Flight T) → Other (both pr co) p (Queues start) flight
-          → StepOf (both pr co) p (Queues start) flight (words_of pr co) beside
-      by_start pr co AcquireProducer flight h =
-          subst (λ f. StepOf (both pr co) p (Queues AcquireProducer) f (words_of pr co) beside) (sym h) (acquires_producer pr co)
-      by_start pr co ReleaseProducer flight h =
-          subst (λ f. StepOf (both pr co) p (Queues ReleaseProducer) f (words_of pr co) beside) (sym h.0) (releases_producer pr co h.1)
-      by_start pr co AcquireConsumer flight h =
-          subst (λ f. StepOf (both pr co) p (Queues AcquireConsumer) f (words_of pr co) beside) (sym h) (acquires_consumer pr co)
-      by_start pr co ReleaseConsumer flight h =
-          subst (λ f. StepOf (both pr co) p (Queues ReleaseConsumer) f (words_of pr co) beside) (sym h.0) (releases_consumer pr co h.1)
+      by_start : (roles : Roles) (start : QueueStart T) (flight : Flight T) → Other roles p (Queues start) flight → StepAt roles start flight
+      by_start roles AcquireProducer flight h = subst (StepAt roles AcquireProducer) (sym h) (acquires_producer roles.producer roles.consumer)
+      by_start roles ReleaseProducer flight h = subst (StepAt roles ReleaseProducer) (sym h.0) (releases_producer roles.producer roles.consumer h.1)
+      by_start roles AcquireConsumer flight h = subst (StepAt roles AcquireConsumer) (sym h) (acquires_consumer roles.producer roles.consumer)
+      by_start roles ReleaseConsumer flight h = subst (StepAt roles ReleaseConsumer) (sym h.0) (releases_consumer roles.producer roles.consumer h.1)
       -- looks load a word, and leave the words and the roles
-      by_start pr co HasProducer flight h =
-          subst (λ f. StepOf (both pr co) p (Queues HasProducer) f (words_of pr co) beside) (sym h)
-          (loads (Queues HasProducer) (flights.Queues (look_of producer_word)) pr co refl refl refl (λ then e. ended e))
-      by_start pr co HasConsumer flight h =
-          subst (λ f. StepOf (both pr co) p (Queues HasConsumer) f (words_of pr co) beside) (sym h)
-          (loads (Queues HasConsumer) (flights.Queues (look_of consumer_word)) pr co refl refl refl (λ then e. ended e))
-      by_start pr co Peek flight h = by_peek pr co flight h
-      by_start pr co Len flight h =
-          subst (λ f. StepOf (both pr co) p (Queues Len) f (words_of pr co) beside) (sym h.is)
-          (loads (Queues Len) (flights.Queues (Length h.which h.run)) pr co (loads_alone pr co h.run.call.stage) refl refl
-          (λ then e. length_on h.which _ _ then e))
-      by_start pr co IsEmpty flight h =
-          subst (λ f. StepOf (both pr co) p (Queues IsEmpty) f (words_of pr co) beside) (sym h.is)
-          (loads (Queues IsEmpty) (flights.Queues (Length h.which h.run)) pr co (loads_alone pr co h.run.call.stage) refl refl
-          (λ then e. length_on h.which _ _ then e))
-      by_start pr co IsFull flight h =
-          subst (λ f. StepOf (both pr co) p (Queues IsFull) f (words_of pr co) beside) (sym h.is)
-          (loads (Queues IsFull) (flights.Queues (Length h.which h.run)) pr co (loads_alone pr co h.run.call.stage) refl refl
-          (λ then e. length_on h.which _ _ then e))
+      by_start roles HasProducer flight h =
+          subst (StepAt roles HasProducer) (sym h)
+          (loads (Queues HasProducer) (flights.Queues (look_of producer_word)) roles.producer roles.consumer refl refl refl (λ then e. ended e))
+      by_start roles HasConsumer flight h =
+          subst (StepAt roles HasConsumer) (sym h)
+          (loads (Queues HasConsumer) (flights.Queues (look_of consumer_word)) roles.producer roles.consumer refl refl refl (λ then e. ended e))
+      by_start roles Peek flight h = by_peek roles.producer roles.consumer flight h
+      by_start roles Len flight h =
+          subst (StepAt roles Len) (sym h.is)
+          (loads (Queues Len) (flights.Queues (Length h.which h.run)) roles.producer roles.consumer
+          (loads_alone roles.producer roles.consumer h.run.call.stage) refl refl (λ then e. length_on h.which _ _ then e))
+      by_start roles IsEmpty flight h =
+          subst (StepAt roles IsEmpty) (sym h.is)
+          (loads (Queues IsEmpty) (flights.Queues (Length h.which h.run)) roles.producer roles.consumer
+          (loads_alone roles.producer roles.consumer h.run.call.stage) refl refl (λ then e. length_on h.which _ _ then e))
+      by_start roles IsFull flight h =
+          subst (StepAt roles IsFull) (sym h.is)
+          (loads (Queues IsFull) (flights.Queues (Length h.which h.run)) roles.producer roles.consumer
+          (loads_alone roles.producer roles.consumer h.run.call.stage) refl refl (λ then e. length_on h.which _ _ then e))
       -- pushes and pops are calls of the page
-      by_start pr co (PushIndex value) flight h = absurd h
-      by_start pr co (Push value) flight h = absurd h
-      by_start pr co Pop flight h = absurd h
+      by_start roles (PushIndex value) flight h = absurd h
+      by_start roles (Push value) flight h = absurd h
+      by_start roles Pop flight h = absurd h
 
     -- a step of a call that the page has not is as `StepOf` asks
     pub goes_other : (roles : Roles) (words : List ℕ) (beside : Option (ℕ × ℕ)) (p : ℕ) (start : Start T) (flight : Flight T)
         → Other roles p start flight → Tells roles words → StepOf roles p start flight words beside
     goes_other roles words beside p (Queues start) flight h tells =
         subst (λ ws. StepOf roles p (Queues start) flight ws beside) (sym tells.is)
-        (by_start p tells.write tells.read tells.cells beside roles.producer roles.consumer start flight h)
+        (by_start p tells.write tells.read tells.cells beside roles start flight h)
     goes_other roles words beside p other flight h tells = absurd h

@@ -7,7 +7,7 @@ use Rattle.std.specs.Prelude.{slice_set}
 use Rattle.model.proofs.Names.{fold, Bool, IsReached, List, map, None, Option, Some, Trace, World, [], after_begin, after_step}
 use Rattle.model.proofs.Names.{after_turn, after_next, ap, one_if, answer_in, arith, ask_of}
 use Rattle.model.proofs.Names.{beside_of, change_of, cond, doing_of, events_of_next, false, first_of, first_row}
-use Rattle.model.proofs.Names.{flight_of, going_rows, is_due, is_question, length, old_of, one_word, party_of}
+use Rattle.model.proofs.Names.{flight_of, going_rows, is_due, length, old_of, one_word, party_of}
 use Rattle.model.proofs.Names.{party_at_begin, refl, refusal_of, slice_index, step_count, step_of, subst, sym, true}
 use Rattle.model.proofs.Names.{want_of, ℕ, ◌++◌, ◌+◌, ◌-◌, ◌<◌, ◌==◌, ◌∙◌, ◌∷◌, ◌≡◌, ◌≢◌, ◌≤◌}
 use Rattle.model.proofs.Parties.{party_put_same, party_put_other}
@@ -28,21 +28,30 @@ use Rattle.model.specs.Families.{begin_rows, kept_after_begin}
 use Rattle.model.specs.Parties.{put}
 use Rattle.model.specs.Step.{Step}
 use Rattle.model.specs.Turns.{attempt, ending_of, run}
-use Rattle.steps.specs.declared.ask.After as steps
 use Rattle.steps.specs.declared.ask.Ask.{Ask}
 use Rattle.pages.specs.Machine as machine
 use Rattle.pages.specs.Reading.{asked}
 use Rattle.pages.proofs.Simulates.{went}
 use Rattle.pages.proofs.Turns.{asks_no_question, four_rows, none_is, not_at_end, not_past, refused, refused_later, taken, three_rows, words_same}
 
-module _ (Room : Type 0) {Call Stage Answer : Type 0} (of : machine.Structure Call Stage Answer) (kind : Kind) (capacity : ℕ) where
-  abbrev pub Page : Type 0
-  Page = machine.World Call Stage Answer
+-- How the calls of a page are those of the model's machine, and what relates the two.
+pub record Pairing (Room : Type 0) {Call Stage Answer : Type 0} (of : machine.Structure Call Stage Answer) : Type 1 where
+  pub call_at : Stage → Call  -- the call of which this is a stage
+  pub start : Call → Start ℕ  -- the model's call
+  pub room : Room  -- what the model's call has besides, as it begins
+  pub flight : Room → Stage → Flight ℕ  -- the model's stage
+  pub answered : Answer → answers.Answer ℕ  -- the model's answer
+  pub Fits : Stage → Type 0  -- what holds of each stage to which calls come
+  pub Related : List (Event ℕ) → Registry ℕ → machine.World Call Stage Answer → Type 0  -- the relation of the model's events and registry to the page
+  pub Rule : machine.World Call Stage Answer → machine.Turn Call → Type 0  -- what the callers keep to
+  pub Known : List (Event ℕ) → Registry ℕ → Type 0  -- what is known of each run of the model
+
+module _ {Room Call Stage Answer : Type 0} {of : machine.Structure Call Stage Answer} (pairing : Pairing Room of) where
+  open pairing use {Fits, Known, Related, Rule, answered, call_at, flight, room, start}
 
   -- what a step of the page's call comes to on the page, if the model's step is `s`
-  pub record StepsRight (call_at : Stage → Call) (start : Call → Start ℕ) (flight : Room → Stage → Flight ℕ) (answered : Answer → answers.Answer ℕ)
-      (Fits : Stage → Type 0) (Known : List (Event ℕ) → Registry ℕ → Type 0) (Related : List (Event ℕ) → Registry ℕ → Page → Type 0)
-      (events : List (Event ℕ)) (w : Page) (p : ℕ) (stage : Stage) (s : Step (Flight ℕ) (Registry ℕ) ℕ) : Type 0 where
+  pub record StepsRight (events : List (Event ℕ)) (w : machine.World Call Stage Answer) (p : ℕ) (stage : Stage)
+      (s : Step (Flight ℕ) (Registry ℕ) ℕ) : Type 0 where
     pub room : Room  -- what the model's call has besides, after the step
     pub after_is : s.after ≡ went (flight room) answered ((of.does stage).2 (slice_index w.words (of.does stage).0))
     pub goes : (next : Stage) → (of.does stage).2 (slice_index w.words (of.does stage).0) ≡ machine.GoOn next
@@ -50,55 +59,63 @@ module _ (Room : Type 0) {Call Stage Answer : Type 0} (of : machine.Structure Ca
     pub related : Known (events ++ (s.wrote ++ ending_of p (start (call_at stage)) (answer_in s.after))) s.kept
         → Related (events ++ (s.wrote ++ ending_of p (start (call_at stage)) (answer_in s.after))) s.kept (machine.stepped of w p (Some stage))
 
-  pub record Relation : Type 1 where
-    pub call_at : Stage → Call  -- the call of which this is a stage
-    pub start : Call → Start ℕ  -- the model's call
-    pub room : Room  -- what the model's call has besides, as it begins
-    pub flight : Room → Stage → Flight ℕ  -- the model's stage
-    pub answered : Answer → answers.Answer ℕ  -- the model's answer
-    pub Fits : Stage → Type 0  -- what holds of each stage to which calls come
-    pub Related : List (Event ℕ) → Registry ℕ → Page → Type 0  -- the relation of the model's events and registry to the page
-    pub Rule : Page → machine.Turn Call → Type 0  -- what the callers keep to
-    pub Known : List (Event ℕ) → Registry ℕ → Type 0  -- what is known of each run of the model
+  -- The relation goes along with the machines: it holds again after each step if it held before.
+  pub record Relation (kind : Kind) (capacity : ℕ) : Type 0 where
     pub known : (t : Trace ℕ) → IsReached t → t.world.kind ≡ kind → t.world.capacity ≡ capacity → Known t.events t.world.kept
     pub first_at : (call : Call) → call_at (of.first call) ≡ call
     pub first_fits : (call : Call) → Fits (of.first call)  -- next: how the model begins a call, and when it refuses to
     pub begins : (k : Registry ℕ) (call : Call) → first_of kind capacity (start call) k ≡ Some (flight room (of.first call))
     pub keeps : (k : Registry ℕ) (p : ℕ) (call : Call) → kept_after_begin one_word capacity (start call) p k ≡ k
-    pub refuses : (events : List (Event ℕ)) (k : Registry ℕ) (w : Page) (p : ℕ) (call : Call) → Related events k w → of.may p call ≡ false
-        → is_some (first_row (begin_rows kind capacity k p (start call))) ≡ true
-    pub admits : (events : List (Event ℕ)) (k : Registry ℕ) (w : Page) (p : ℕ) (call : Call) → Related events k w → Known events k → of.may p call ≡ true
-        → w.pending p ≡ None → Rule w (machine.Begin p call) → first_row (begin_rows kind capacity k p (start call)) ≡ None
-    pub begun : (events : List (Event ℕ)) (k : Registry ℕ) (w : Page) (p : ℕ) (call : Call) → Related events k w → of.may p call ≡ true
-        → w.pending p ≡ None → Rule w (machine.Begin p call)
+    pub refuses : (events : List (Event ℕ)) (k : Registry ℕ) (w : machine.World Call Stage Answer) (p : ℕ) (call : Call) → Related events k w
+        → of.may p call ≡ false → is_some (first_row (begin_rows kind capacity k p (start call))) ≡ true
+    pub admits : (events : List (Event ℕ)) (k : Registry ℕ) (w : machine.World Call Stage Answer) (p : ℕ) (call : Call) → Related events k w → Known events k
+        → of.may p call ≡ true → w.pending p ≡ None → Rule w (machine.Begin p call) → first_row (begin_rows kind capacity k p (start call)) ≡ None
+    pub begun : (events : List (Event ℕ)) (k : Registry ℕ) (w : machine.World Call Stage Answer) (p : ℕ) (call : Call) → Related events k w
+        → of.may p call ≡ true → w.pending p ≡ None → Rule w (machine.Begin p call)
         → Related (events ++ Begun p (start call) ∷ []) k (machine.begun of w p call true None)
     pub asks : (r : Room) (stage : Stage) → Fits stage → ask_of (want_of one_word (flight r stage)) ≡ Some (asked (of.does stage).0 (of.does stage).1)
     pub rows : (k : Registry ℕ) (r : Room) (stage : Stage) → first_row (going_rows one_word k (Some (flight r stage)) None) ≡ None
-    pub steps : (events : List (Event ℕ)) (k : Registry ℕ) (w : Page) (beside : Option (ℕ × ℕ)) (p : ℕ) (r : Room) (stage : Stage)
+    pub steps : (events : List (Event ℕ)) (k : Registry ℕ) (w : machine.World Call Stage Answer) (beside : Option (ℕ × ℕ)) (p : ℕ) (r : Room) (stage : Stage)
         → Related events k w → Known events k → w.pending p ≡ Some stage → Fits stage
-        → StepsRight call_at start flight answered Fits Known Related events w p stage
+        → StepsRight events w p stage
         (step_of one_word w.words beside p (start (call_at stage)) (flight r stage) (slice_index w.words (of.does stage).0) k)
 
-  module _ (law : Relation) (parties : ℕ) where
-    abbrev pub world : Registry ℕ → List ℕ → List (ℕ × Party ℕ) → ℕ → ℕ → World ℕ  -- the model's world, of these parties
-    world k words latest changes turns =
+-- What a run of the model's machine has that its turns change.
+pub record Now : Type 0 where
+  pub kept : Registry ℕ
+  pub words : List ℕ
+  pub latest : List (ℕ × Party ℕ)
+  pub changes : ℕ
+  pub turns : ℕ
+  pub events : List (Event ℕ)
+
+module _ {Room Call Stage Answer : Type 0} {of : machine.Structure Call Stage Answer} {pairing : Pairing Room of} {kind : Kind} {capacity : ℕ}
+    (law : Relation pairing kind capacity) (parties : ℕ)
+  where
+    open pairing use {Fits, Related, Rule, answered, call_at, flight, room, start}
+
+    abbrev Page : Type 0
+    Page = machine.World Call Stage Answer
+
+    abbrev pub world : Now → World ℕ  -- the model's world, of these parties
+    world now =
         record {
           coding = one_word;
           kind = kind;
           capacity = capacity;
           parties = parties;
-          words = words;
-          kept = k;
-          latest = latest;
-          changes = changes;
-          turns = turns;
+          words = now.words;
+          kept = now.kept;
+          latest = now.latest;
+          changes = now.changes;
+          turns = now.turns;
         }
 
-    abbrev pub trace : Registry ℕ → List ℕ → List (ℕ × Party ℕ) → ℕ → ℕ → List (Event ℕ) → Trace ℕ
-    trace k words latest changes turns events = record { world = world k words latest changes turns; events = events }
+    abbrev pub trace : Now → Trace ℕ
+    trace now = record { world = world now; events = now.events }
 
     abbrev pub as_turn : machine.Turn Call → Turn ℕ  -- the model's turn for a turn of the page
-    as_turn (machine.Begin p call) = Begin p (law.start call)
+    as_turn (machine.Begin p call) = Begin p (start call)
     as_turn (machine.Next p) = Next p
 
     -- who begins a call is a party of the model's machine
@@ -107,8 +124,7 @@ module _ (Room : Type 0) {Call Stage Answer : Type 0} (of : machine.Structure Ca
     IsWithin (machine.Next p) = Unit {0}
 
     abbrev going : Room → Stage → ℕ → ℕ → ℕ → Party ℕ  -- a party of the model whose call is under way at this stage
-    going r stage steps backs since =
-        record { start = law.start (law.call_at stage); steps = steps; backs = backs; doing = Going (law.flight r stage) since }
+    going r stage steps backs since = record { start = start (call_at stage); steps = steps; backs = backs; doing = Going (flight r stage) since }
 
     pub record Goes (p : ℕ) (stage : Stage) (o : Option (Party ℕ)) : Type 0 where
       pub steps : ℕ
@@ -116,7 +132,7 @@ module _ (Room : Type 0) {Call Stage Answer : Type 0} (of : machine.Structure Ca
       pub since : ℕ
       pub below : p < parties
       pub room : Room
-      pub fits : law.Fits stage
+      pub fits : Fits stage
       pub is : o ≡ Some (going room stage steps backs since)  -- the model's party is at this stage
 
     abbrev pub Matches : ℕ → Option Stage → Option (Party ℕ) → Type 0  -- both have no call, or the model's is at the page's stage
@@ -129,14 +145,18 @@ module _ (Room : Type 0) {Call Stage Answer : Type 0} (of : machine.Structure Ca
       pub turns : ℕ
       pub kept : Registry ℕ
       pub events : List (Event ℕ)
-      pub few : turns ≤ n  -- the model's trace has at most n turns
-      pub is : t ≡ trace kept w.words latest changes turns events  -- the trace runs the page's world: it has its words
+      pub few : turns ≤ n  -- the model's trace has at most n turns; it runs the page's world: it has its words
+      pub is : t ≡ trace (record { kept = kept; words = w.words; latest = latest; changes = changes; turns = turns; events = events })
       pub reached : IsReached t
-      pub related : law.Related events kept w
+      pub related : Related events kept w
       pub matches : (p : ℕ) → Matches p (w.pending p) (party_of p latest)  -- each party's call is at its stage
 
-    known_of : (w : Page) (n : ℕ) (t : Trace ℕ) → (s : Meets w n t) → law.Known s.events s.kept
-    known_of w n t s = law.known (trace s.kept w.words s.latest s.changes s.turns s.events) (subst IsReached s.is s.reached) refl refl
+    -- the run of the model that meets the page
+    abbrev now_of : {w : Page} {n : ℕ} {t : Trace ℕ} → Meets w n t → Now
+    now_of {w} s = record { kept = s.kept; words = w.words; latest = s.latest; changes = s.changes; turns = s.turns; events = s.events }
+
+    known_of : {w : Page} {n : ℕ} {t : Trace ℕ} → (s : Meets w n t) → pairing.Known s.events s.kept
+    known_of s = law.known (trace (now_of s)) (subst IsReached s.is s.reached) refl refl
 
     -- each party's call matches its stage once a call that matches its own is put in with it
     put_matches : (p : ℕ) (o : Option Stage) (x : Party ℕ) (pending : ℕ → Option Stage) (latest : List (ℕ × Party ℕ))
@@ -156,8 +176,8 @@ module _ (Room : Type 0) {Call Stage Answer : Type 0} (of : machine.Structure Ca
     attempted t turn r = run_keeps refusal_of IsReached (λ t turn e r. reached_more t turn e r) (turn ∷ []) t r
 
     -- a page that takes no turn meets the trace of one turn more if that is unchanged
-    waits : (w : Page) (n : ℕ) (t : Trace ℕ) → Meets w n t → Meets w (n + 1) t
-    waits w n t s =
+    waits : {w : Page} {n : ℕ} {t : Trace ℕ} → Meets w n t → Meets w (n + 1) t
+    waits s =
         let few = s.few in
         record {
           latest = s.latest;
@@ -175,136 +195,122 @@ module _ (Room : Type 0) {Call Stage Answer : Type 0} (of : machine.Structure Ca
     -- ---- a call begins
 
     abbrev begun_party : Call → ℕ → Party ℕ
-    begun_party call changes = party_at_begin (law.start call) (law.flight law.room (of.first call)) changes
+    begun_party call changes = party_at_begin (start call) (flight room (of.first call)) changes
 
-    abbrev begun_by : Registry ℕ → List ℕ → List (ℕ × Party ℕ) → ℕ → ℕ → List (Event ℕ) → ℕ → Call → Option (Flight ℕ) → Trace ℕ
-    begun_by k words latest changes turns events p call o =
-        record { world = after_begin (world k words latest changes turns) p (law.start call) o; events = events ++ Begun p (law.start call) ∷ [] }
+    -- the run once the party has begun the call
+    abbrev begun_now : Now → ℕ → Call → Now
+    begun_now now p call =
+        record now { latest = put p (begun_party call now.changes) now.latest; turns = now.turns + 1; events = now.events ++ Begun p (start call) ∷ [] }
 
     -- what the model's machine is once a call has begun
-    begin_is : (k : Registry ℕ) (words : List ℕ) (latest : List (ℕ × Party ℕ)) (changes turns : ℕ) (events : List (Event ℕ)) (p : ℕ) (call : Call)
-        → after_turn (trace k words latest changes turns events) (Begin p (law.start call))
-        ≡ trace k words (put p (begun_party call changes) latest) changes (turns + 1) (events ++ Begun p (law.start call) ∷ [])
-    begin_is k words latest changes turns events p call =
-        ap (begun_by k words latest changes turns events p call) (law.begins k call)
-        ∙ ap (λ k. trace k words (put p (begun_party call changes) latest) changes (turns + 1) (events ++ Begun p (law.start call) ∷ []))
-        (law.keeps k p call)
+    begin_is : (now : Now) (p : ℕ) (call : Call) → after_turn (trace now) (Begin p (start call)) ≡ trace (begun_now now p call)
+    begin_is now p call =
+        ap (λ o. record { world = after_begin (world now) p (start call) o; events = now.events ++ Begun p (start call) ∷ [] }) (law.begins now.kept call)
+        ∙ ap (λ k. trace (record (begun_now now p call) { kept = k })) (law.keeps now.kept p call)
 
     -- as a call begins that the rule lets begin, the two machines meet again
-    begins : (w : Page) (n p : ℕ) (call : Call) (t : Trace ℕ) → n < 2 ^ 63 → Meets w n t → law.Rule w (machine.Begin p call)
+    begins : {w : Page} {n : ℕ} {t : Trace ℕ} → (p : ℕ) (call : Call) → n < 2 ^ 63 → Meets w n t → Rule w (machine.Begin p call)
         → of.may p call ≡ true → p < parties → w.pending p ≡ None
-        → Meets (machine.begun of w p call true None) (n + 1) (attempt t (Begin p (law.start call)))
-    begins w n p call t small s rule may below free =
+        → Meets (machine.begun of w p call true None) (n + 1) (attempt t (Begin p (start call)))
+    begins {w} {n} {t} p call small s rule may below free =
         let few = s.few in
-        let few_turns : s.turns < 2 ^ 64 - 2 = omega arith in
         let idle : flight_of (doing_of (party_of p s.latest)) ≡ None = subst (λ o. Matches p o (party_of p s.latest)) free (s.matches p) in
-        let allows : refusal_of (world s.kept w.words s.latest s.changes s.turns) (Begin p (law.start call)) ≡ None =
-        three_rows (nat_le (2 ^ 64 - 2) s.turns) (nat_le parties p) (is_some (flight_of (doing_of (party_of p s.latest)))) AtEnd NoParty Busy
-        (begin_rows kind capacity s.kept p (law.start call))
-        (not_at_end s.turns few_turns) (not_past parties p below) (none_is _ idle)
-        ∙ law.admits s.events s.kept w p call s.related (known_of w n t s) may free rule in
+        let allows : refusal_of (world (now_of s)) (Begin p (start call)) ≡ None =
+        three_rows AtEnd NoParty Busy (begin_rows kind capacity s.kept p (start call))
+        (not_at_end s.turns (omega arith)) (not_past parties p below) (none_is _ idle)
+        ∙ law.admits s.events s.kept w p call s.related (known_of s) may free rule in
         let goes : Goes p (of.first call) (Some (begun_party call s.changes)) =
         record {
           steps = 0;
           backs = 0;
           since = s.changes;
           below = below;
-          room = law.room;
+          room = room;
           fits = law.first_fits call;
-          is =
-              ap (λ c. Some
-              (record { start = law.start c; steps = 0; backs = 0; doing = Going (law.flight law.room (of.first call)) s.changes }))
-              (sym (law.first_at call));
+          is = ap (λ c. Some (record (begun_party call s.changes) { start = start c })) (sym (law.first_at call));
         } in
         record {
           latest = put p (begun_party call s.changes) s.latest;
           changes = s.changes;
           turns = s.turns + 1;
           kept = s.kept;
-          events = s.events ++ Begun p (law.start call) ∷ [];
+          events = s.events ++ Begun p (start call) ∷ [];
           few = omega arith;
           is =
-              taken t (Begin p (law.start call)) (ap (λ (u : Trace ℕ). refusal_of u.world (Begin p (law.start call))) s.is ∙ allows)
-              ∙ (ap (λ u. after_turn u (Begin p (law.start call))) s.is ∙ begin_is s.kept w.words s.latest s.changes s.turns s.events p call);
-          reached = attempted t (Begin p (law.start call)) s.reached;
+              taken t (Begin p (start call)) (ap (λ (u : Trace ℕ). refusal_of u.world (Begin p (start call))) s.is ∙ allows)
+              ∙ (ap (λ u. after_turn u (Begin p (start call))) s.is ∙ begin_is (now_of s) p call);
+          reached = attempted t (Begin p (start call)) s.reached;
           related = law.begun s.events s.kept w p call s.related may free rule;
           matches = put_matches p (Some (of.first call)) (begun_party call s.changes) w.pending s.latest goes s.matches;
         }
 
     -- ---- a call goes on
 
-    -- the trace after a step of the party's call, by what the step asked, wrote and kept
-    abbrev made : Registry ℕ → List ℕ → List (ℕ × Party ℕ) → ℕ → ℕ → List (Event ℕ) → ℕ → Party ℕ → ℕ → Option Ask
-        → steps.After (Flight ℕ) (answers.Answer ℕ) → Bool → List (Event ℕ) → Registry ℕ → Trace ℕ
-    made k words latest changes turns events p x since ask after back wrote next =
+    -- the trace after a step of the party's call, by what the call asked and what the step is
+    abbrev made : {p : ℕ} {stage : Stage} {o : Option (Party ℕ)} → Now → Goes p stage o → Option Ask → Step (Flight ℕ) (Registry ℕ) ℕ → Trace ℕ
+    made {p} {stage} now g ask step =
         record {
-          world = after_step (world k words latest changes turns) p x since ask (record { after = after; back = back; wrote = wrote; kept = next });
-          events = events ++ (wrote ++ ending_of p x.start (answer_in after));
+          world = after_step (world now) p (going g.room stage g.steps g.backs g.since) g.since ask step;
+          events = now.events ++ (step.wrote ++ ending_of p (start (call_at stage)) (answer_in step.after));
         }
 
-    abbrev made_by : Registry ℕ → List ℕ → List (ℕ × Party ℕ) → ℕ → ℕ → List (Event ℕ) → ℕ → Party ℕ → ℕ → Option Ask
-        → Step (Flight ℕ) (Registry ℕ) ℕ → Trace ℕ
-    made_by k words latest changes turns events p x since ask s = made k words latest changes turns events p x since ask s.after s.back s.wrote s.kept
-
-    abbrev by_ask : Registry ℕ → List ℕ → List (ℕ × Party ℕ) → ℕ → ℕ → List (Event ℕ) → ℕ → Room → Stage → ℕ → ℕ → ℕ → Option Ask → Trace ℕ
-    by_ask k words latest changes turns events p r stage steps backs since ask =
-        made_by k words latest changes turns events p (going r stage steps backs since) since ask
-        (step_of one_word words (beside_of words k latest p) p (law.start (law.call_at stage)) (law.flight r stage) (old_of words ask) k)
-
-    abbrev after_party : World ℕ → List (Event ℕ) → ℕ → Option (Party ℕ) → Trace ℕ
-    after_party w events p o = record { world = after_next w p o; events = events ++ events_of_next w p o }
+    abbrev by_ask : {p : ℕ} {stage : Stage} {o : Option (Party ℕ)} → Now → Goes p stage o → Option Ask → Trace ℕ
+    by_ask {p} {stage} now g ask =
+        made now g ask
+        (step_of one_word now.words (beside_of now.words now.kept now.latest p) p (start (call_at stage)) (flight g.room stage)
+        (old_of now.words ask) now.kept)
 
     -- what the model's machine is once a call has taken a step, by the operation that the call asks for
-    next_is : (k : Registry ℕ) (words : List ℕ) (latest : List (ℕ × Party ℕ)) (changes turns : ℕ) (events : List (Event ℕ)) (p : ℕ) (r : Room) (stage : Stage)
-        (steps backs since : ℕ) → party_of p latest ≡ Some (going r stage steps backs since)
-        → after_turn (trace k words latest changes turns events) (Next p)
-        ≡ by_ask k words latest changes turns events p r stage steps backs since (ask_of (want_of one_word (law.flight r stage)))
-    next_is k words latest changes turns events p r stage steps backs since here = ap (after_party (world k words latest changes turns) events p) here
+    next_is : (now : Now) {p : ℕ} {stage : Stage} (g : Goes p stage (party_of p now.latest))
+        → after_turn (trace now) (Next p) ≡ by_ask now g (ask_of (want_of one_word (flight g.room stage)))
+    next_is now {p} g =
+        ap (λ (o : Option (Party ℕ)). record { world = after_next (world now) p o; events = now.events ++ events_of_next (world now) p o }) g.is
 
     -- the machine allows the next step of a party whose call is under way
-    next_allowed : (k : Registry ℕ) (words : List ℕ) (latest : List (ℕ × Party ℕ)) (changes turns p : ℕ) (r : Room) (stage : Stage) (steps backs since : ℕ)
-        → p < parties → law.Fits stage → turns < 2 ^ 64 - 2 → party_of p latest ≡ Some (going r stage steps backs since)
-        → refusal_of (world k words latest changes turns) (Next p) ≡ None
-    next_allowed k words latest changes turns p r stage steps backs since below fits few here =
+    next_allowed : (now : Now) {p : ℕ} {stage : Stage} → Goes p stage (party_of p now.latest) → now.turns < 2 ^ 64 - 2
+        → refusal_of (world now) (Next p) ≡ None
+    next_allowed now {p} {stage} g few =
         ap
         (λ (o : Option (Party ℕ)).
         first_row
-        ((nat_le (2 ^ 64 - 2) turns, AtEnd)
+        ((nat_le (2 ^ 64 - 2) now.turns, AtEnd)
         ∷ (nat_le parties p, NoParty)
         ∷ (is_none (flight_of (doing_of o)), Idle)
         ∷ (is_due one_word (flight_of (doing_of o)), Undecided)
-        ∷ going_rows one_word k (flight_of (doing_of o)) None))
-        here
-        ∙ (four_rows (nat_le (2 ^ 64 - 2) turns) (nat_le parties p) false (is_question (want_of one_word (law.flight r stage)))
-        (going_rows one_word k (Some (law.flight r stage)) None)
-        (not_at_end turns few) (not_past parties p below) refl (asks_no_question (want_of one_word (law.flight r stage)) _ (law.asks r stage fits))
-        ∙ law.rows k r stage)
+        ∷ going_rows one_word now.kept (flight_of (doing_of o)) None))
+        g.is
+        ∙ (four_rows (going_rows one_word now.kept (Some (flight g.room stage)) None)
+        (not_at_end now.turns few) (not_past parties p g.below) refl
+        (asks_no_question (want_of one_word (flight g.room stage)) _ (law.asks g.room stage g.fits))
+        ∙ law.rows now.kept g.room stage)
 
     abbrev pub words_then : Page → Stage → List ℕ  -- the page's words after a step at this stage
     words_then w stage = slice_set w.words (of.does stage).0 (machine.written (of.does stage).1 (slice_index w.words (of.does stage).0))
 
+    -- The model's turn was this step of the party's call, which comes to what the page's step comes to (`a`).
+    record Lands {w : Page} {n : ℕ} {t : Trace ℕ} {p : ℕ} {stage : Stage} (s : Meets w n t) (g : Goes p stage (party_of p s.latest))
+        (step : Step (Flight ℕ) (Registry ℕ) ℕ) (a : machine.After Stage Answer) : Type 0 where
+      room : Room
+      is : attempt t (Next p) ≡ made (now_of s) g (Some (asked (of.does stage).0 (of.does stage).1)) (record step { after = went (flight room) answered a })
+      reached : IsReached (attempt t (Next p))
+      goes : (next : Stage) → a ≡ machine.GoOn next → (call_at next ≡ call_at stage) × Fits next
+      related : Related (s.events ++ (step.wrote ++ ending_of p (start (call_at stage)) (answer_in (went (flight room) answered a)))) step.kept
+          (machine.gone of w p (words_then w stage) a)
+
     -- the two machines meet after a step; the cases are whether the page's call goes on or is done
-    land : (w : Page) (n p : ℕ) (t : Trace ℕ) (s : Meets w n t) (stage : Stage) (g : Goes p stage (party_of p s.latest))
-        (step : Step (Flight ℕ) (Registry ℕ) ℕ) (room : Room)
-        → attempt t (Next p)
-        ≡ made_by s.kept w.words s.latest s.changes s.turns s.events p (going g.room stage g.steps g.backs g.since) g.since
-        (Some (asked (of.does stage).0 (of.does stage).1)) step
-        → IsReached (attempt t (Next p))
-        → (a : machine.After Stage Answer) → step.after ≡ went (law.flight room) law.answered a
-        → ((next : Stage) → a ≡ machine.GoOn next → (law.call_at next ≡ law.call_at stage) × law.Fits next)
-        → law.Related (s.events ++ (step.wrote ++ ending_of p (law.start (law.call_at stage)) (answer_in (went (law.flight room) law.answered a)))) step.kept
-        (machine.gone of w p (words_then w stage) a)
+    land : {w : Page} {n : ℕ} {t : Trace ℕ} {p : ℕ} {stage : Stage} (s : Meets w n t) (g : Goes p stage (party_of p s.latest))
+        (step : Step (Flight ℕ) (Registry ℕ) ℕ) (a : machine.After Stage Answer) → Lands s g step a
         → Meets (machine.gone of w p (words_then w stage) a) (n + 1) (attempt t (Next p))
-    land w n p t s stage g step room is reached (machine.GoOn next) after_is goes related =
+    land {w} {n} {t} {p} {stage} s g step (machine.GoOn next) lands =
         let few = s.few in
         let ask = Some (asked (of.does stage).0 (of.does stage).1) in
-        let fit = goes next refl in
+        let fit = lands.goes next refl in
         let x : Party ℕ =
         record {
-          start = law.start (law.call_at stage);
+          start = start (call_at stage);
           steps = g.steps + step_count ask;
           backs = g.backs + one_if step.back;
-          doing = Going (law.flight room next) (g.since + change_of w.words ask);
+          doing = Going (flight lands.room next) (g.since + change_of w.words ask);
         } in
         record {
           latest = put p x s.latest;
@@ -314,15 +320,17 @@ module _ (Room : Type 0) {Call Stage Answer : Type 0} (of : machine.Structure Ca
           events = s.events ++ (step.wrote ++ []);
           few = omega arith;
           is =
-              is
-              ∙ (ap (λ a. made s.kept w.words s.latest s.changes s.turns s.events p (going g.room stage g.steps g.backs g.since) g.since ask a
-              step.back step.wrote step.kept) after_is
-              ∙ ap (λ ws. record {
-                world = world step.kept ws (put p x s.latest) (s.changes + change_of w.words ask) (s.turns + 1);
+              lands.is
+              ∙ ap (λ ws. trace (record {
+                kept = step.kept;
+                words = ws;
+                latest = put p x s.latest;
+                changes = s.changes + change_of w.words ask;
+                turns = s.turns + 1;
                 events = s.events ++ (step.wrote ++ []);
-              }) (words_same w.words (of.does stage).0 (of.does stage).1));
-          reached = reached;
-          related = related;
+              })) (words_same w.words (of.does stage).0 (of.does stage).1);
+          reached = lands.reached;
+          related = lands.related;
           matches =
               put_matches p (Some next) x w.pending s.latest
               (record {
@@ -330,26 +338,20 @@ module _ (Room : Type 0) {Call Stage Answer : Type 0} (of : machine.Structure Ca
                 backs = g.backs + one_if step.back;
                 since = g.since + change_of w.words ask;
                 below = g.below;
-                room = room;
+                room = lands.room;
                 fits = fit.1;
-                is =
-                    ap (λ call. Some (record {
-                      start = law.start call;
-                      steps = g.steps + step_count ask;
-                      backs = g.backs + one_if step.back;
-                      doing = Going (law.flight room next) (g.since + change_of w.words ask);
-                    })) (sym fit.0);
+                is = ap (λ call. Some (record x { start = start call })) (sym fit.0);
               })
               s.matches;
         }
-    land w n p t s stage g step room is reached (machine.Done answer) after_is goes related =
+    land {w} {n} {t} {p} {stage} s g step (machine.Done answer) lands =
         let few = s.few in
         let ask = Some (asked (of.does stage).0 (of.does stage).1) in
-        let start = law.start (law.call_at stage) in
+        let begun = start (call_at stage) in
         let changes = s.changes + change_of w.words ask in
         let x : Party ℕ =
         record {
-          start = start;
+          start = begun;
           steps = g.steps + step_count ask;
           backs = g.backs + one_if step.back;
           doing = Over (changes - (g.since + change_of w.words ask));
@@ -359,142 +361,140 @@ module _ (Room : Type 0) {Call Stage Answer : Type 0} (of : machine.Structure Ca
           changes = changes;
           turns = s.turns + 1;
           kept = step.kept;
-          events = s.events ++ (step.wrote ++ ending_of p start (Some (law.answered answer)));
+          events = s.events ++ (step.wrote ++ ending_of p begun (Some (answered answer)));
           few = omega arith;
           is =
-              is
-              ∙ (ap (λ a. made s.kept w.words s.latest s.changes s.turns s.events p (going g.room stage g.steps g.backs g.since) g.since ask a
-              step.back step.wrote step.kept) after_is
-              ∙ ap (λ ws. record {
-                world = world step.kept ws (put p x s.latest) changes (s.turns + 1);
-                events = s.events ++ (step.wrote ++ ending_of p start (Some (law.answered answer)));
-              }) (words_same w.words (of.does stage).0 (of.does stage).1));
-          reached = reached;
-          related = related;
+              lands.is
+              ∙ ap (λ ws. trace (record {
+                kept = step.kept;
+                words = ws;
+                latest = put p x s.latest;
+                changes = changes;
+                turns = s.turns + 1;
+                events = s.events ++ (step.wrote ++ ending_of p begun (Some (answered answer)));
+              })) (words_same w.words (of.does stage).0 (of.does stage).1);
+          reached = lands.reached;
+          related = lands.related;
           matches = put_matches p None x w.pending s.latest refl s.matches;
         }
 
     -- as a call takes a step the two machines meet again
-    goes_on : (w : Page) (n p : ℕ) (t : Trace ℕ) → n < 2 ^ 63 → (s : Meets w n t) → (stage : Stage) → w.pending p ≡ Some stage
+    goes_on : {w : Page} {n p : ℕ} {t : Trace ℕ} {stage : Stage} → n < 2 ^ 63 → (s : Meets w n t) → w.pending p ≡ Some stage
         → Goes p stage (party_of p s.latest) → Meets (machine.stepped of w p (Some stage)) (n + 1) (attempt t (Next p))
-    goes_on w n p t small s stage pending g =
+    goes_on {w} {n} {p} {t} {stage} small s pending g =
         let few = s.few in
-        let few_turns : s.turns < 2 ^ 64 - 2 = omega arith in
         let ask = Some (asked (of.does stage).0 (of.does stage).1) in
-        let x = going g.room stage g.steps g.backs g.since in
-        let step = step_of one_word w.words (beside_of w.words s.kept s.latest p) p (law.start (law.call_at stage)) (law.flight g.room stage)
-        (slice_index w.words (of.does stage).0) s.kept in
-        let right = law.steps s.events s.kept w (beside_of w.words s.kept s.latest p) p g.room stage s.related (known_of w n t s) pending g.fits in
+        let beside = beside_of w.words s.kept s.latest p in
+        let step = step_of one_word w.words beside p (start (call_at stage)) (flight g.room stage) (slice_index w.words (of.does stage).0) s.kept in
+        let right = law.steps s.events s.kept w beside p g.room stage s.related (known_of s) pending g.fits in
         let allows : refusal_of t.world (Next p) ≡ None =
-        ap (λ (u : Trace ℕ). refusal_of u.world (Next p)) s.is
-        ∙ next_allowed s.kept w.words s.latest s.changes s.turns p g.room stage g.steps g.backs g.since g.below g.fits few_turns g.is in
-        let is : attempt t (Next p) ≡ made_by s.kept w.words s.latest s.changes s.turns s.events p x g.since ask step =
+        ap (λ (u : Trace ℕ). refusal_of u.world (Next p)) s.is ∙ next_allowed (now_of s) g (omega arith) in
+        let is : attempt t (Next p) ≡ made (now_of s) g ask step =
         taken t (Next p) allows
         ∙ (ap (λ u. after_turn u (Next p)) s.is
-        ∙ (next_is s.kept w.words s.latest s.changes s.turns s.events p g.room stage g.steps g.backs g.since g.is
-        ∙ ap (by_ask s.kept w.words s.latest s.changes s.turns s.events p g.room stage g.steps g.backs g.since) (law.asks g.room stage g.fits))) in
+        ∙ (next_is (now_of s) g ∙ ap (by_ask (now_of s) g) (law.asks g.room stage g.fits))) in
         let reached = attempted t (Next p) s.reached in
-        let known = law.known (made_by s.kept w.words s.latest s.changes s.turns s.events p x g.since ask step) (subst IsReached is reached) refl refl in
+        let known = law.known (made (now_of s) g ask step) (subst IsReached is reached) refl refl in
         finish ((of.does stage).2 (slice_index w.words (of.does stage).0)) refl step right is reached (right.related known)
       where
         -- the step of the page comes to `a`, and the model's step to what `StepsRight` says: so they meet
         finish : (a : machine.After Stage Answer) → (of.does stage).2 (slice_index w.words (of.does stage).0) ≡ a
-            → (step : Step (Flight ℕ) (Registry ℕ) ℕ)
-            → (right : StepsRight law.call_at law.start law.flight law.answered law.Fits law.Known law.Related s.events w p stage step)
-            → attempt t (Next p)
-            ≡ made_by s.kept w.words s.latest s.changes s.turns s.events p (going g.room stage g.steps g.backs g.since) g.since
-            (Some (asked (of.does stage).0 (of.does stage).1)) step
+            → (step : Step (Flight ℕ) (Registry ℕ) ℕ) → StepsRight pairing s.events w p stage step
+            → attempt t (Next p) ≡ made (now_of s) g (Some (asked (of.does stage).0 (of.does stage).1)) step
             → IsReached (attempt t (Next p))
-            → law.Related (s.events ++ (step.wrote ++ ending_of p (law.start (law.call_at stage)) (answer_in step.after)))
+            → Related (s.events ++ (step.wrote ++ ending_of p (start (call_at stage)) (answer_in step.after)))
             step.kept (machine.stepped of w p (Some stage))
             → Meets (machine.stepped of w p (Some stage)) (n + 1) (attempt t (Next p))
         finish a e step right is reached related =
             subst (λ a. Meets (machine.gone of w p (words_then w stage) a) (n + 1) (attempt t (Next p))) (sym e)
-            (land w n p t s stage g step right.room is reached a (right.after_is ∙ ap (went (law.flight right.room) law.answered) e)
-            (λ next is_next. right.goes next (e ∙ is_next))
-            (subst (λ a. law.Related (s.events ++ (step.wrote ++ ending_of p (law.start (law.call_at stage))
-            (answer_in (went (law.flight right.room) law.answered a)))) step.kept (machine.gone of w p (words_then w stage) a)) e
-            (subst (λ z. law.Related (s.events ++ (step.wrote ++ ending_of p (law.start (law.call_at stage)) (answer_in z))) step.kept
-            (machine.stepped of w p (Some stage))) right.after_is related)))
+            (land s g step a
+            (record {
+              room = right.room;
+              is =
+                  is
+                  ∙ ap (λ a. made (now_of s) g (Some (asked (of.does stage).0 (of.does stage).1)) (record step { after = a }))
+                  (right.after_is ∙ ap (went (flight right.room) answered) e);
+              reached = reached;
+              goes = λ next is_next. right.goes next (e ∙ is_next);
+              related =
+                  subst (λ a. Related (s.events ++ (step.wrote ++ ending_of p (start (call_at stage))
+                  (answer_in (went (flight right.room) answered a)))) step.kept (machine.gone of w p (words_then w stage) a)) e
+                  (subst (λ z. Related (s.events ++ (step.wrote ++ ending_of p (start (call_at stage)) (answer_in z))) step.kept
+                  (machine.stepped of w p (Some stage))) right.after_is related);
+            }))
 
     -- ---- a turn that is refused
 
-    party_is : (p : ℕ) (stage : Stage) (o : Option (Party ℕ)) → Goes p stage o → is_some (flight_of (doing_of o)) ≡ true
-    party_is p stage o g = ap (λ (x : Option (Party ℕ)). is_some (flight_of (doing_of x))) g.is
+    party_is : {p : ℕ} {stage : Stage} {o : Option (Party ℕ)} → Goes p stage o → is_some (flight_of (doing_of o)) ≡ true
+    party_is g = ap (λ (x : Option (Party ℕ)). is_some (flight_of (doing_of x))) g.is
 
     -- the machine refuses to begin a call of a party whose call is under way
-    busy : (k : Registry ℕ) (words : List ℕ) (latest : List (ℕ × Party ℕ)) (changes turns p : ℕ) (start : Start ℕ)
-        → is_some (flight_of (doing_of (party_of p latest))) ≡ true
-        → is_some (refusal_of (world k words latest changes turns) (Begin p start)) ≡ true
-    busy k words latest changes turns p start going =
+    busy : (now : Now) (p : ℕ) (begun : Start ℕ) → is_some (flight_of (doing_of (party_of p now.latest))) ≡ true
+        → is_some (refusal_of (world now) (Begin p begun)) ≡ true
+    busy now p begun going =
         refused_later
-        ((nat_le (2 ^ 64 - 2) turns, AtEnd) ∷ (nat_le parties p, NoParty) ∷ [])
-        ((is_some (flight_of (doing_of (party_of p latest))), Busy) ∷ begin_rows kind capacity k p start)
-        (ap (λ b. is_some (first_row ((b, Busy) ∷ begin_rows kind capacity k p start))) going)
+        ((nat_le (2 ^ 64 - 2) now.turns, AtEnd) ∷ (nat_le parties p, NoParty) ∷ [])
+        ((is_some (flight_of (doing_of (party_of p now.latest))), Busy) ∷ begin_rows kind capacity now.kept p begun)
+        (ap (λ b. is_some (first_row ((b, Busy) ∷ begin_rows kind capacity now.kept p begun))) going)
 
-    lazy : (k : Registry ℕ) (words : List ℕ) (latest : List (ℕ × Party ℕ)) (changes turns p : ℕ) → flight_of (doing_of (party_of p latest)) ≡ None
-        → is_some (refusal_of (world k words latest changes turns) (Next p)) ≡ true
-    lazy k words latest changes turns p free =
+    lazy : (now : Now) (p : ℕ) → flight_of (doing_of (party_of p now.latest)) ≡ None → is_some (refusal_of (world now) (Next p)) ≡ true
+    lazy now p free =
         ap
         (λ o. is_some
         (first_row
-        ((nat_le (2 ^ 64 - 2) turns, AtEnd)
+        ((nat_le (2 ^ 64 - 2) now.turns, AtEnd)
         ∷ (nat_le parties p, NoParty)
         ∷ (is_none o, Idle)
         ∷ (is_due one_word o, Undecided)
-        ∷ going_rows one_word k o None)))
+        ∷ going_rows one_word now.kept o None)))
         free
-        ∙ refused_later ((nat_le (2 ^ 64 - 2) turns, AtEnd) ∷ (nat_le parties p, NoParty) ∷ []) ((true, Idle) ∷ (false, Undecided) ∷ []) refl
+        ∙ refused_later ((nat_le (2 ^ 64 - 2) now.turns, AtEnd) ∷ (nat_le parties p, NoParty) ∷ []) ((true, Idle) ∷ (false, Undecided) ∷ []) refl
 
     -- a call that the page does not let a party begin is refused by the model
-    lacks : (w : Page) (n : ℕ) (t : Trace ℕ) (s : Meets w n t) (p : ℕ) (call : Call) → of.may p call ≡ false
-        → is_some (refusal_of (world s.kept w.words s.latest s.changes s.turns) (Begin p (law.start call))) ≡ true
-    lacks w n t s p call may =
+    lacks : {w : Page} {n : ℕ} {t : Trace ℕ} → (s : Meets w n t) (p : ℕ) (call : Call) → of.may p call ≡ false
+        → is_some (refusal_of (world (now_of s)) (Begin p (start call))) ≡ true
+    lacks {w} s p call may =
         refused_later
         ((nat_le (2 ^ 64 - 2) s.turns, AtEnd) ∷ (nat_le parties p, NoParty) ∷ (is_some (flight_of (doing_of (party_of p s.latest))), Busy) ∷ [])
-        (begin_rows kind capacity s.kept p (law.start call))
+        (begin_rows kind capacity s.kept p (start call))
         (law.refuses s.events s.kept w p call s.related may)
 
-    stays : (w : Page) (n : ℕ) (t : Trace ℕ) (turn : Turn ℕ) → (s : Meets w n t)
-        → is_some (refusal_of (world s.kept w.words s.latest s.changes s.turns) turn) ≡ true → Meets w (n + 1) (attempt t turn)
-    stays w n t turn s e =
-        subst (Meets w (n + 1)) (sym (refused t turn (ap (λ (u : Trace ℕ). is_some (refusal_of u.world turn)) s.is ∙ e))) (waits w n t s)
+    stays : {w : Page} {n : ℕ} {t : Trace ℕ} → (turn : Turn ℕ) (s : Meets w n t) → is_some (refusal_of (world (now_of s)) turn) ≡ true
+        → Meets w (n + 1) (attempt t turn)
+    stays {w} {n} {t} turn s e =
+        subst (Meets w (n + 1)) (sym (refused t turn (ap (λ (u : Trace ℕ). is_some (refusal_of u.world turn)) s.is ∙ e))) (waits s)
 
     -- ---- every turn
 
     -- each turn of the page is one of the model, and the two machines meet again
-    one_turn : (w : Page) (n : ℕ) (t : Trace ℕ) (turn : machine.Turn Call) → IsWithin turn → law.Rule w turn → n < 2 ^ 63 → Meets w n t
+    one_turn : {w : Page} {n : ℕ} {t : Trace ℕ} → (turn : machine.Turn Call) → IsWithin turn → Rule w turn → n < 2 ^ 63 → Meets w n t
         → Meets (machine.turned of w turn) (n + 1) (attempt t (as_turn turn))
-    one_turn w n t (machine.Begin p call) within rule small s = go (of.may p call) refl (w.pending p) refl
+    one_turn {w} {n} {t} (machine.Begin p call) within rule small s = go (of.may p call) refl (w.pending p) refl
       where
         go : (b : Bool) → of.may p call ≡ b → (o : Option Stage) → w.pending p ≡ o
-            → Meets (machine.begun of w p call b o) (n + 1) (attempt t (Begin p (law.start call)))
-        go true may None free = begins w n p call t small s rule may within free
+            → Meets (machine.begun of w p call b o) (n + 1) (attempt t (Begin p (start call)))
+        go true may None free = begins p call small s rule may within free
         go true may (Some stage) e =
-            stays w n t (Begin p (law.start call)) s
-            (busy s.kept w.words s.latest s.changes s.turns p (law.start call)
-            (party_is p stage (party_of p s.latest) (subst (λ o. Matches p o (party_of p s.latest)) e (s.matches p))))
-        go false may o e = stays w n t (Begin p (law.start call)) s (lacks w n t s p call may)
-    one_turn w n t (machine.Next p) within rule small s = go (w.pending p) refl
+            stays (Begin p (start call)) s
+            (busy (now_of s) p (start call) (party_is (subst (λ o. Matches p o (party_of p s.latest)) e (s.matches p))))
+        go false may o e = stays (Begin p (start call)) s (lacks s p call may)
+    one_turn {w} {n} {t} (machine.Next p) within rule small s = go (w.pending p) refl
       where
         go : (o : Option Stage) → w.pending p ≡ o → Meets (machine.stepped of w p o) (n + 1) (attempt t (Next p))
-        go None e =
-            stays w n t (Next p) s
-            (lazy s.kept w.words s.latest s.changes s.turns p (subst (λ o. Matches p o (party_of p s.latest)) e (s.matches p)))
-        go (Some stage) e = goes_on w n p t small s stage e (subst (λ o. Matches p o (party_of p s.latest)) e (s.matches p))
+        go None e = stays (Next p) s (lazy (now_of s) p (subst (λ o. Matches p o (party_of p s.latest)) e (s.matches p)))
+        go (Some stage) e = goes_on small s e (subst (λ o. Matches p o (party_of p s.latest)) e (s.matches p))
 
     -- the callers keep to `Rule` in each of these turns
     abbrev pub AllRules : Page → List (machine.Turn Call) → Type 0
     AllRules w [] = Unit {0}
-    AllRules w (turn ∷ turns) = law.Rule w turn × AllRules (machine.turned of w turn) turns
+    AllRules w (turn ∷ turns) = Rule w turn × AllRules (machine.turned of w turn) turns
 
     -- after fewer than 2^63 turns, in which the callers keep to the rule, the two machines meet
     pub all_turns : (turns : List (machine.Turn Call)) → AllByRecursion IsWithin turns
-        → (w : Page) (n : ℕ) (t : Trace ℕ) → AllRules w turns → n + length turns < 2 ^ 63 → Meets w n t
+        → {w : Page} {n : ℕ} {t : Trace ℕ} → AllRules w turns → n + length turns < 2 ^ 63 → Meets w n t
         → Meets (fold (machine.turned of) w turns) (n + length turns) (run (map as_turn turns) t)
-    all_turns [] within w n t rules small s = let same : n ≡ n + 0 = omega arith in subst (λ k. Meets w k t) same s
-    all_turns (turn ∷ turns) within w n t rules small s =
+    all_turns [] within {w} {n} {t} rules small s = let same : n ≡ n + 0 = omega arith in subst (λ k. Meets w k t) same s
+    all_turns (turn ∷ turns) within {w} {n} {t} rules small s =
         let same : n + 1 + length turns ≡ n + length (turn ∷ turns) = omega arith in
         subst (λ k. Meets (fold (machine.turned of) (machine.turned of w turn) turns) k (run (map as_turn turns) (attempt t (as_turn turn)))) same
-        (all_turns turns within.1 (machine.turned of w turn) (n + 1) (attempt t (as_turn turn)) rules.1 (omega arith)
-        (one_turn w n t turn within.0 rules.0 (omega arith) s))
+        (all_turns turns within.1 rules.1 (omega arith) (one_turn turn within.0 rules.0 (omega arith) s))

@@ -25,13 +25,13 @@ use Rattle.pages.proofs.Seen.{IsOwn}
 
 -- ---- rows
 
-pub three_rows : (a b d : Bool) (r s t : Refusal) (rows : List (Bool × Refusal)) → a ≡ false → b ≡ false → d ≡ false
+pub three_rows : {a b d : Bool} → (r s t : Refusal) (rows : List (Bool × Refusal)) → a ≡ false → b ≡ false → d ≡ false
     → first_row ((a, r) ∷ (b, s) ∷ (d, t) ∷ rows) ≡ first_row rows
-three_rows a b d r s t rows ha hb hd = rw (ha, hb, hd) refl
+three_rows r s t rows ha hb hd = rw (ha, hb, hd) refl
 
-pub four_rows : (a b d e : Bool) (rows : List (Bool × Refusal)) → a ≡ false → b ≡ false → d ≡ false → e ≡ false
+pub four_rows : {a b d e : Bool} → (rows : List (Bool × Refusal)) → a ≡ false → b ≡ false → d ≡ false → e ≡ false
     → first_row ((a, AtEnd) ∷ (b, NoParty) ∷ (d, Idle) ∷ (e, Undecided) ∷ rows) ≡ first_row rows
-four_rows a b d e rows ha hb hd he = rw (ha, hb, hd, he) refl
+four_rows rows ha hb hd he = rw (ha, hb, hd, he) refl
 
 -- rows that refuse a turn refuse it whatever the rows before them say
 pub refused_later : (before rows : List (Bool × Refusal)) → is_some (first_row rows) ≡ true → is_some (first_row (before ++ rows)) ≡ true

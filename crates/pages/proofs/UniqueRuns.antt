@@ -10,7 +10,6 @@ use Rattle.model.proofs.Reached.{reached_opening}
 use Rattle.model.specs.declared.event.Answer.{Answer}
 use Rattle.model.specs.declared.event.Event.{Event}
 use Rattle.model.specs.declared.event.Event.TheVariants.{Begun, Freed}
-use Rattle.model.specs.declared.event.Start.{Start}
 use Rattle.model.specs.declared.event.Start.TheVariants.{Indices}
 use Rattle.model.specs.declared.families.Flight.{Flight}
 use Rattle.model.specs.declared.families.Flight.TheVariants as flights
@@ -34,7 +33,7 @@ use Rattle.pages.specs.Reading.{IsSame}
 use Rattle.pages.specs.UniqueIndexSet as page
 use Rattle.pages.specs.UniqueIndexSetBridge as bridge
 use Rattle.pages.proofs.Holders.{History, Knows, Page, Rel, Related, begins_acquire, begins_release, frees_it, goes_on, no_end, responds, told_of}
-use Rattle.pages.proofs.Relates.{AllRules, IsWithin, Meets, Relation, StepsRight, all_turns}
+use Rattle.pages.proofs.Relates.{AllRules, IsWithin, Meets, Pairing, Relation, StepsRight, all_turns}
 use Rattle.pages.proofs.Relates as relates
 use Rattle.pages.proofs.Simulates.{went}
 use Rattle.pages.proofs.UniqueIndexSet.{after_same, asks_same}
@@ -183,17 +182,28 @@ module _ (c : ℕ) where
       Rel c (events_then events p stage a) (machine.gone (page.unique_index_set c) w p words a).history
       (machine.gone (page.unique_index_set c) w p words a).pending
 
+  -- the events after a step that frees no index and comes to `a`
+  abbrev quiet_then : List (Event ℕ) → ℕ → page.Stage → machine.After page.Stage page.Answer → List (Event ℕ)
+  quiet_then events p stage a =
+      events ++ (wrote_of p None a ++ ending_of p (Indices (bridge.index_start (call_at stage))) (answer_in (went (the_flight tt) bridge.answered a)))
+
   -- after a step that frees no index, the page's history and the model's events agree on
   -- who holds which index
-  frees_none : (events : List (Event ℕ)) (w : Page c) (p : ℕ) (start : Start ℕ) (words : List ℕ) (a : machine.After page.Stage page.Answer)
-      → Rel c events w.history w.pending → ((next : page.Stage) → a ≡ machine.GoOn next → is_clearing next ≡ false)
-      → readings.Each (HoldsRight c) (events ++ (wrote_of p None a ++ ending_of p start (answer_in (went (the_flight tt) bridge.answered a))))
-      → Rel c (events ++ (wrote_of p None a ++ ending_of p start (answer_in (went (the_flight tt) bridge.answered a))))
-      (machine.gone (page.unique_index_set c) w p words a).history (machine.gone (page.unique_index_set c) w p words a).pending
-  frees_none events w p start words (machine.GoOn next) r goes knows =
-      goes_on c events w.history w.pending p next r (λ j l e. (let t : is_clearing next ≡ true = ap is_clearing e in
-      let clash : false ≡ true = sym (goes next refl) ∙ t in absurd (cc)))
-  frees_none events w p start words (machine.Done answer) r goes knows = responds c events w.history w.pending start p answer r knows
+  frees_none : {events : List (Event ℕ)} → (w : Page c) (p : ℕ) (stage : page.Stage) (words : List ℕ) (old : ℕ) → Rel c events w.history w.pending
+      → readings.Each (HoldsRight c) (quiet_then events p stage ((page.does c stage).2 old))
+      → Rel c (quiet_then events p stage ((page.does c stage).2 old))
+      (machine.gone (page.unique_index_set c) w p words ((page.does c stage).2 old)).history
+      (machine.gone (page.unique_index_set c) w p words ((page.does c stage).2 old)).pending
+  frees_none {events} w p stage words old r knows = go ((page.does c stage).2 old) (right stage old) knows
+    where
+      -- the cases are whether the call goes on
+      go : (a : machine.After page.Stage page.Answer) → GoesRight stage a → readings.Each (HoldsRight c) (quiet_then events p stage a)
+          → Rel c (quiet_then events p stage a) (machine.gone (page.unique_index_set c) w p words a).history
+          (machine.gone (page.unique_index_set c) w p words a).pending
+      go (machine.GoOn next) goes knows =
+          goes_on c events w.history w.pending p next r (λ j l e. (let t : is_clearing next ≡ true = ap is_clearing e in
+          let clash : false ≡ true = sym goes.1 ∙ t in absurd (cc)))
+      go (machine.Done answer) goes knows = responds c events w.history w.pending (Indices (bridge.index_start (call_at stage))) p answer r knows
 
   -- after each step of a call under way, the page's history and the model's events agree on
   -- who holds which index
@@ -204,37 +214,18 @@ module _ (c : ℕ) where
   -- one step frees an index: the release that clears its flag
   related_then events w p (page.ReleaseClearsFlag index l) words old r here knows = frees_it c events w.history w.pending p index l r here
   -- every other step frees none, and goes on at no such stage
-  related_then events w p page.AcquireLoadsHead words old r here knows =
-      frees_none events w p (Indices (bridge.index_start (call_at page.AcquireLoadsHead))) words ((page.does c page.AcquireLoadsHead).2 old) r
-      (λ then e. (subst (GoesRight page.AcquireLoadsHead) e (right page.AcquireLoadsHead old)).1) knows
-  related_then events w p (page.AcquireLoadsNext head) words old r here knows =
-      frees_none events w p (Indices (bridge.index_start (call_at (page.AcquireLoadsNext head)))) words ((page.does c (page.AcquireLoadsNext head)).2 old) r
-      (λ then e. (subst (GoesRight (page.AcquireLoadsNext head)) e (right (page.AcquireLoadsNext head) old)).1) knows
+  related_then events w p page.AcquireLoadsHead words old r here knows = frees_none w p page.AcquireLoadsHead words old r knows
+  related_then events w p (page.AcquireLoadsNext head) words old r here knows = frees_none w p (page.AcquireLoadsNext head) words old r knows
   related_then events w p (page.AcquireExchangesHead head next) words old r here knows =
-      frees_none events w p (Indices (bridge.index_start (call_at (page.AcquireExchangesHead head next)))) words
-      ((page.does c (page.AcquireExchangesHead head next)).2 old) r
-      (λ then e. (subst (GoesRight (page.AcquireExchangesHead head next)) e (right (page.AcquireExchangesHead head next) old)).1) knows
-  related_then events w p (page.AcquireClaims index) words old r here knows =
-      frees_none events w p (Indices (bridge.index_start (call_at (page.AcquireClaims index)))) words ((page.does c (page.AcquireClaims index)).2 old) r
-      (λ then e. (subst (GoesRight (page.AcquireClaims index)) e (right (page.AcquireClaims index) old)).1) knows
-  related_then events w p (page.AcquireScans index) words old r here knows =
-      frees_none events w p (Indices (bridge.index_start (call_at (page.AcquireScans index)))) words ((page.does c (page.AcquireScans index)).2 old) r
-      (λ then e. (subst (GoesRight (page.AcquireScans index)) e (right (page.AcquireScans index) old)).1) knows
-  related_then events w p (page.ReleaseLoadsHead index l) words old r here knows =
-      frees_none events w p (Indices (bridge.index_start (call_at (page.ReleaseLoadsHead index l)))) words
-      ((page.does c (page.ReleaseLoadsHead index l)).2 old) r
-      (λ then e. (subst (GoesRight (page.ReleaseLoadsHead index l)) e (right (page.ReleaseLoadsHead index l) old)).1) knows
+      frees_none w p (page.AcquireExchangesHead head next) words old r knows
+  related_then events w p (page.AcquireClaims index) words old r here knows = frees_none w p (page.AcquireClaims index) words old r knows
+  related_then events w p (page.AcquireScans index) words old r here knows = frees_none w p (page.AcquireScans index) words old r knows
+  related_then events w p (page.ReleaseLoadsHead index l) words old r here knows = frees_none w p (page.ReleaseLoadsHead index l) words old r knows
   related_then events w p (page.ReleaseStoresNext index l head) words old r here knows =
-      frees_none events w p (Indices (bridge.index_start (call_at (page.ReleaseStoresNext index l head)))) words
-      ((page.does c (page.ReleaseStoresNext index l head)).2 old) r
-      (λ then e. (subst (GoesRight (page.ReleaseStoresNext index l head)) e (right (page.ReleaseStoresNext index l head) old)).1) knows
+      frees_none w p (page.ReleaseStoresNext index l head) words old r knows
   related_then events w p (page.ReleaseExchangesHead index l head) words old r here knows =
-      frees_none events w p (Indices (bridge.index_start (call_at (page.ReleaseExchangesHead index l head)))) words
-      ((page.does c (page.ReleaseExchangesHead index l head)).2 old) r
-      (λ then e. (subst (GoesRight (page.ReleaseExchangesHead index l head)) e (right (page.ReleaseExchangesHead index l head) old)).1) knows
-  related_then events w p (page.ReleaseSubtracts index) words old r here knows =
-      frees_none events w p (Indices (bridge.index_start (call_at (page.ReleaseSubtracts index)))) words ((page.does c (page.ReleaseSubtracts index)).2 old) r
-      (λ then e. (subst (GoesRight (page.ReleaseSubtracts index)) e (right (page.ReleaseSubtracts index) old)).1) knows
+      frees_none w p (page.ReleaseExchangesHead index l head) words old r knows
+  related_then events w p (page.ReleaseSubtracts index) words old r here knows = frees_none w p (page.ReleaseSubtracts index) words old r knows
 
   -- ---- the relation
 
@@ -249,11 +240,25 @@ module _ (c : ℕ) where
   Rule w (machine.Begin p (page.Release index l)) = w.pending p ≡ None → page.holder index w.history ≡ Some p
   Rule w turn = Unit {0}
 
+  -- how the calls of the page are the model's, and what relates them: who holds which index
+  abbrev pairing : Pairing (Unit {0}) (page.unique_index_set c)
+  pairing =
+      record {
+        call_at = call_at;
+        start = λ call. Indices (bridge.index_start call);
+        room = tt;
+        flight = the_flight;
+        answered = bridge.answered;
+        Fits = λ stage. Unit {0};
+        Related = Related c;
+        Rule = Rule;
+        Known = Knows c;
+      }
+
   -- the machine's step at a stage of the page keeps page and machine related
   abbrev StepIs : List (Event ℕ) → Page c → ℕ → page.Stage → Option (ℕ × ℕ) → Registry ℕ → Type 0
   StepIs events w p stage beside k =
-      StepsRight (Unit {0}) (page.unique_index_set c) kinds.Indices c call_at (λ call. Indices (bridge.index_start call)) the_flight
-      bridge.answered (λ stage. Unit {0}) (Knows c) (Related c) events w p stage
+      StepsRight pairing events w p stage
       (step_of one_word w.words beside p (Indices (bridge.index_start (call_at stage))) (the_flight tt stage)
       (slice_index w.words (page.does c stage).0) k)
 
@@ -285,18 +290,9 @@ module _ (c : ℕ) where
       }
 
   -- the page of the unique index set goes along with the model's machine by who holds which index
-  relation : Relation (Unit {0}) (page.unique_index_set c) kinds.Indices c
+  relation : Relation pairing kinds.Indices c
   relation =
       record {
-        call_at = call_at;
-        start = λ call. Indices (bridge.index_start call);
-        room = tt;
-        flight = the_flight;
-        answered = bridge.answered;
-        Fits = λ stage. Unit {0};
-        Related = Related c;
-        Rule = Rule;
-        Known = Knows c;
         known = knows_of;
         first_at = first_at;
         first_fits = λ call. tt;
@@ -382,8 +378,7 @@ module _ (c : ℕ) where
   -- where each release of the history is of an index that its party holds, the callers keep to the rule in each turn
   rules_of : (parties : ℕ) (turns : List (machine.Turn page.Call)) (w : Page c)
       → page.Each page.ReleasesOwn (fold (machine.turned (page.unique_index_set c)) w turns).history
-      → AllRules (Unit {0}) (page.unique_index_set c) kinds.Indices c relation parties w turns
-  unfolding relation
+      → AllRules relation parties w turns
   rules_of parties [] w own = tt
   rules_of parties (turn ∷ turns) w own = (rule turn own, rules_of parties turns (machine.turned (page.unique_index_set c) w turn) own)
     where
@@ -407,14 +402,13 @@ module _ (c : ℕ) where
 
   -- the turns of the relation are those of the page's specification
   same_turns : (parties : ℕ) (turns : List (machine.Turn page.Call))
-      → map (relates.as_turn (Unit {0}) (page.unique_index_set c) kinds.Indices c relation parties) turns ≡ map bridge.as_turn turns
-  unfolding relation
+      → map (relates.as_turn relation parties) turns ≡ map bridge.as_turn turns
   same_turns parties [] = refl
   same_turns parties (machine.Begin p call ∷ turns) = ap (λ ts. bridge.as_turn (machine.Begin p call) ∷ ts) (same_turns parties turns)
   same_turns parties (machine.Next p ∷ turns) = ap (λ ts. bridge.as_turn (machine.Next p) ∷ ts) (same_turns parties turns)
 
   within_of : (parties : ℕ) (turns : List (machine.Turn page.Call)) → AreWithin parties turns
-      → AllByRecursion (IsWithin (Unit {0}) (page.unique_index_set c) kinds.Indices c relation parties) turns
+      → AllByRecursion (IsWithin relation parties) turns
   within_of parties [] within = tt
   within_of parties (machine.Begin p call ∷ turns) within = (within.0, within_of parties turns within.1)
   within_of parties (machine.Next p ∷ turns) within = (tt, within_of parties turns within.1)
@@ -424,9 +418,8 @@ module _ (c : ℕ) where
 
   -- the model's opening meets the page's
   opens : (parties : ℕ) → 0 < c → c < 2 ^ 24 - 1
-      → Meets (Unit {0}) (page.unique_index_set c) kinds.Indices c relation parties (machine.opening (page.unique_index_set c)) 0
+      → Meets relation parties (machine.opening (page.unique_index_set c)) 0
       (opening one_word kinds.Indices c parties)
-  unfolding relation
   opens parties some few =
       record {
         latest = [];
@@ -450,18 +443,16 @@ module _ (c : ℕ) where
   -- after a list of turns the two machines meet
   meets : (parties : ℕ) (turns : List (machine.Turn page.Call)) → 0 < c → c < 2 ^ 24 - 1 → AreWithin parties turns → length turns < 2 ^ 63
       → page.Each page.ReleasesOwn (world_of turns).history
-      → Meets (Unit {0}) (page.unique_index_set c) kinds.Indices c relation parties (world_of turns) (0 + length turns)
+      → Meets relation parties (world_of turns) (0 + length turns)
       (run (map bridge.as_turn turns) (opening one_word kinds.Indices c parties))
   meets parties turns some few within small own =
-      subst (λ ts. Meets (Unit {0}) (page.unique_index_set c) kinds.Indices c relation parties (world_of turns) (0 + length turns)
+      subst (λ ts. Meets relation parties (world_of turns) (0 + length turns)
       (run ts (opening one_word kinds.Indices c parties))) (same_turns parties turns)
-      (all_turns (Unit {0}) (page.unique_index_set c) kinds.Indices c relation parties turns (within_of parties turns within)
-      (machine.opening (page.unique_index_set c)) 0 (opening one_word kinds.Indices c parties)
-      (rules_of parties turns (machine.opening (page.unique_index_set c)) own) (omega arith) (opens parties some few))
+      (all_turns relation parties turns (within_of parties turns within) (rules_of parties turns (machine.opening (page.unique_index_set c)) own)
+      (omega arith) (opens parties some few))
 
 -- what the page runs is what the model's machine runs
 pub runs : bridge.UniqueRunsAsTheMachine
-unfolding relation
 runs c parties turns some few within small own =
     let s = meets c parties turns some few within small own in
     record {
@@ -491,7 +482,6 @@ all_within n (machine.Next p ∷ turns) le = (tt, all_within n turns le)
 pub holds_alone : (c : ℕ) (turns : List (machine.Turn page.Call)) → 0 < c → c < 2 ^ 24 - 1 → length turns < 2 ^ 63
     → page.Each page.ReleasesOwn (fold (machine.turned (page.unique_index_set c)) (machine.opening (page.unique_index_set c)) turns).history
     → page.Each (page.HoldsAlone c) (fold (machine.turned (page.unique_index_set c)) (machine.opening (page.unique_index_set c)) turns).history
-unfolding relation
 holds_alone c turns some few small own =
     let n = parties_of turns in
     (meets c n turns some few (all_within n turns (omega arith)) small own).related.right

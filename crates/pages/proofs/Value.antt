@@ -277,10 +277,7 @@ opens : (n : ℕ) → 0 < n → Sim tie n role_told (machine.opening page.value)
 opens n lt =
     let last = after_turn (begun n) (Next 0) in
     record {
-      latest = last.world.latest;
-      changes = last.world.changes;
-      turns = last.world.turns;
-      events = [];
+      now = record { latest = last.world.latest; changes = last.world.changes; turns = last.world.turns; events = [] };
       few = omega arith;
       is = acquired_is n lt;
       told = refl;
@@ -324,7 +321,7 @@ simulated : (n : ℕ) (turns : List (machine.Turn page.Call)) → parties_of tur
 simulated n turns le small =
     let one = at_least_one turns in
     subst (λ ts. Sim tie n role_told (world_of turns) (0 + length turns) (run ts (acquired n))) (same_turns n turns)
-    (all_turns tie n role_told turns (all_within n turns le) (machine.opening page.value) 0 (acquired n) (omega arith) (opens n (omega arith)))
+    (all_turns tie n role_told turns (all_within n turns le) (omega arith) (opens n (omega arith)))
 
 -- what the page runs is linearizable as the register
 pub linearizable : (turns : List (machine.Turn page.Call)) → length turns < 2 ^ 63
@@ -332,11 +329,11 @@ pub linearizable : (turns : List (machine.Turn page.Call)) → length turns < 2 
 linearizable turns small =
     let n = parties_of turns in
     let meeting = simulated n turns (omega arith) small in
-    let run_now = trace tie n role_told (world_of turns).words meeting.latest meeting.changes meeting.turns meeting.events in
+    let run_now = trace tie n role_told (world_of turns).words meeting.now in
     let is_reached : IsReached run_now = subst IsReached meeting.is (reached n (map as_turn turns)) in
     let keeps = (value_keeps {T = ℕ}).kept run_now refl is_reached in
     subst (machine.IsLinearizable page.register) meeting.told
-    (carried reading (as_value one_word) page.register is_register role_told 2 meeting.events meeting.own (among meeting.events) (within meeting.events)
+    (carried reading is_register role_told 2 meeting.now.events meeting.own (among meeting.now.events) (within meeting.now.events)
     (run_linearizable run_now keeps))
 
 pub code : ValueDoesAsTheCode
@@ -347,7 +344,7 @@ pub runs : ValueRunsAsTheMachine
 runs turns n le small =
     let meeting = simulated n turns le small in
     record {
-      events = meeting.events;
+      events = meeting.now.events;
       is = ap (λ (t : Trace ℕ). t.events) meeting.is;
       history = meeting.told;
       words = ap (λ (t : Trace ℕ). t.world.words) meeting.is;

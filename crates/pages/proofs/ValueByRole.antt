@@ -286,7 +286,7 @@ handed =
     }
 
 -- at the opening the two machines are the same
-opens : Sim by_role tie handed (machine.opening page.value) (opening one_word kinds.Atomic 1 0)
+opens : Sim handed (machine.opening page.value) (opening one_word kinds.Atomic 1 0)
 unfolding handed
 opens =
     record {
@@ -308,4 +308,4 @@ opens =
     }
 
 pub runs_by_role : RunsByRole by_role page.value (opening one_word kinds.Atomic 1 0)
-runs_by_role = hands.by_role by_role tie handed (opening one_word kinds.Atomic 1 0) opens
+runs_by_role = hands.by_role opens

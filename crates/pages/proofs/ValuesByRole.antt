@@ -90,7 +90,7 @@ module _ {T : Type 0} (how : page.Written T) (c : ℕ) (few : c < 2 ^ 32) where
       }
 
   -- at the opening the two machines are the same
-  opens : Sim (by_role how) (tie how c few) handed (machine.opening (page.queue how c)) (opening (code_of how) kinds.Queue c 0)
+  opens : Sim handed (machine.opening (page.queue how c)) (opening (code_of how) kinds.Queue c 0)
   unfolding handed
   opens =
       record {
@@ -112,4 +112,4 @@ module _ {T : Type 0} (how : page.Written T) (c : ℕ) (few : c < 2 ^ 32) where
       }
 
   pub runs_by_role : RunsByRole (by_role how) (page.queue how c) (opening (code_of how) kinds.Queue c 0)
-  runs_by_role = hands.by_role (by_role how) (tie how c few) handed (opening (code_of how) kinds.Queue c 0) opens
+  runs_by_role = hands.by_role opens

@@ -428,10 +428,7 @@ module _ {T : Type 0} (how : page.Written T) where
   opens c few =
       let last = acquired how c in
       record {
-        latest = last.world.latest;
-        changes = last.world.changes;
-        turns = last.world.turns;
-        events = [];
+        now = record { latest = last.world.latest; changes = last.world.changes; turns = last.world.turns; events = [] };
         few = omega arith;
         is = refl;
         told = refl;
@@ -469,19 +466,19 @@ module _ {T : Type 0} (how : page.Written T) where
       → Sim (tie c few) 2 roles_told (world_of c turns) (0 + length turns) (run (map as_turn turns) (acquired how c))
   simulated c turns few small =
       subst (λ ts. Sim (tie c few) 2 roles_told (world_of c turns) (0 + length turns) (run ts (acquired how c))) (same_turns c few turns)
-      (all_turns (tie c few) 2 roles_told turns (all_within c few turns) (machine.opening (page.queue how c)) 0 (acquired how c) (omega arith) (opens c few))
+      (all_turns (tie c few) 2 roles_told turns (all_within c few turns) (omega arith) (opens c few))
 
   -- what the page runs is linearizable as the bounded list
   pub linearizable : (c : ℕ) (turns : List (machine.Turn (page.Call T))) → c < 2 ^ 32 → length turns < 2 ^ 63
       → machine.IsLinearizable (page.bounded_list c) (world_of c turns).history
   linearizable c turns few small =
       let meeting = simulated c turns few small in
-      let run_now = trace (tie c few) 2 roles_told (world_of c turns).words meeting.latest meeting.changes meeting.turns meeting.events in
+      let run_now = trace (tie c few) 2 roles_told (world_of c turns).words meeting.now in
       let is_reached : IsReached run_now = subst IsReached meeting.is (reached c (map as_turn turns) few) in
       let keeps = (queue_keeps {T = T} queue_kinds.Queue).kept run_now refl is_reached in
       subst (machine.IsLinearizable (page.bounded_list c)) meeting.told
-      (carried (reading how) (as_list queue_kinds.Queue c) (page.bounded_list c) (is_list c) roles_told 4
-      meeting.events meeting.own (among meeting.events) (within meeting.events)
+      (carried (reading how) (is_list c) roles_told 4
+      meeting.now.events meeting.own (among meeting.now.events) (within meeting.now.events)
       (run_linearizable run_now keeps))
 
 module _ {T : Type 0} where
@@ -491,7 +488,7 @@ module _ {T : Type 0} where
   pub runs : QueueRunsAsTheMachine T
   runs how c turns few small =
       let met = simulated how c turns few small in
-      record { events = met.events; is = ap (λ (t : Trace T). t.events) met.is; history = met.told; words = ap (λ (t : Trace T). t.world.words) met.is }
+      record { events = met.now.events; is = ap (λ (t : Trace T). t.events) met.is; history = met.told; words = ap (λ (t : Trace T). t.world.words) met.is }
 
   pub by_pushes : QueuePushesByTable T
   by_pushes coding c value stage old = (refl, refl)

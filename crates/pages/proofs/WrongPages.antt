@@ -1,9 +1,9 @@
 -- Machines that are not those of the pages, each wrong in one stage or in who may begin: the theorem of its page is false of it.
 use Rattle.std.proofs.Common.{◌%◌}
-use Rattle.model.proofs.Names.{fold, Bool, List, None, Option, Some, false, [], ap, arith, refl, true, ℕ, ◌+◌, ◌<◌, ◌∷◌, ◌≡◌}
+use Rattle.model.proofs.Names.{fold, Bool, List, None, Option, Some, false, [], ap, arith, refl, true, ℕ, ◌+◌, ◌∷◌, ◌≡◌}
 use Rattle.std.specs.Prelude.{slice_index}
 use Rattle.pages.specs.IndexQueue as index
-use Rattle.pages.specs.Machine.{After, Begin, Called, Done, GoOn, IsLinearizable, Load, Next, Operation, Store, Structure, Turn, World, opening, turned}
+use Rattle.pages.specs.Machine.{After, Begin, Done, GoOn, IsLinearizable, Load, Next, Operation, Store, Structure, Turn, World, opening, turned}
 use Rattle.pages.specs.OverflowingQueue as overflowing
 use Rattle.pages.specs.Queue as values
 use Rattle.pages.specs.Value as single
@@ -13,16 +13,6 @@ use Rattle.pages.proofs.WorkedQueue.{pairs}
 -- what a machine does over these turns
 abbrev after : {Call Stage Answer : Type 0} → Structure Call Stage Answer → List (Turn Call) → World Call Stage Answer
 after of turns = fold (turned of) (opening of) turns
-
-abbrev called : {Call Answer : Type 0} → ℕ → ℕ → Call → ℕ → Answer → Called Call Answer
-called place party call end answer = record { place = place; party = party; call = call; response = Some (end, answer) }
-
-unequal : {A : Type 0} (m n : ℕ) → m < n → m ≡ n → A
-unequal m n lt e = absurd (omega arith)
-
--- two calls that begin at other places are apart
-apart : {Call Answer : Type 0} (c d : Called Call Answer) → c.place < d.place → c ≡ d → ⊥
-apart c d lt e = unequal c.place d.place lt (ap (λ (c : Called _ _). c.place) e)
 
 -- ---- the index queue
 
@@ -39,8 +29,12 @@ next_cell stage = index.does 2 stage
 -- The pop finds 0 in the cell of the push.
 not_next_cell : IsLinearizable (index.bounded_list 2) (after (record (index.index_queue 2) { does = next_cell }) push_pop).history → ⊥
 not_next_cell =
-    in_turn_alone (index.bounded_list 2) _ (called 0 0 (index.Push 5) 1 (index.Pushed true)) (called 2 1 index.Pop 3 (index.Popped (Some 0))) 1
-    (index.Pushed true) (index.Popped (Some 0)) 3 refl refl refl (apart _ _ (omega arith))
+    in_turn_alone (index.bounded_list 2) (record {
+      first = record { place = 0; party = 0; call = index.Push 5; end = 1; answer = index.Pushed true };
+      second = record { place = 2; party = 1; call = index.Pop; end = 3; answer = index.Popped (Some 0) };
+      calls = refl;
+      in_order = omega arith;
+    })
     (λ legal. let front : index.Popped (Some 5) ≡ index.Popped (Some 0) = legal.1.0 in absurd (cc)) (omega arith)
 
 -- a push answers, and has not published
@@ -51,8 +45,12 @@ unpublished stage = index.does 2 stage
 -- The pop finds the queue empty, though the push before it has answered.
 not_unpublished : IsLinearizable (index.bounded_list 2) (after (record (index.index_queue 2) { does = unpublished }) push_pop).history → ⊥
 not_unpublished =
-    in_turn_alone (index.bounded_list 2) _ (called 0 0 (index.Push 5) 1 (index.Pushed true)) (called 2 1 index.Pop 3 (index.Popped None)) 1
-    (index.Pushed true) (index.Popped None) 3 refl refl refl (apart _ _ (omega arith))
+    in_turn_alone (index.bounded_list 2) (record {
+      first = record { place = 0; party = 0; call = index.Push 5; end = 1; answer = index.Pushed true };
+      second = record { place = 2; party = 1; call = index.Pop; end = 3; answer = index.Popped None };
+      calls = refl;
+      in_order = omega arith;
+    })
     (λ legal. let front : index.Popped (Some 5) ≡ index.Popped None = legal.1.0 in absurd (cc)) (omega arith)
 
 -- the producer's role is for whoever likes: two pushes fill the one cell
@@ -66,8 +64,12 @@ both_push =
 -- two pushes that have both answered true are more than a list of one place takes
 not_anybody : IsLinearizable (index.bounded_list 1) (after (record (index.index_queue 1) { may = anybody }) both_push).history → ⊥
 not_anybody =
-    neither_order (index.bounded_list 1) _ (called 0 0 (index.Push 5) 2 (index.Pushed true)) (called 1 2 (index.Push 6) 3 (index.Pushed true)) 2
-    (index.Pushed true) (index.Pushed true) 3 refl refl refl (apart _ _ (omega arith))
+    neither_order (index.bounded_list 1) (record {
+      first = record { place = 0; party = 0; call = index.Push 5; end = 2; answer = index.Pushed true };
+      second = record { place = 1; party = 2; call = index.Push 6; end = 3; answer = index.Pushed true };
+      calls = refl;
+      in_order = omega arith;
+    })
     (λ legal. let room : index.Pushed false ≡ index.Pushed true = legal.1.0 in absurd (cc))
     (λ legal. let room : index.Pushed false ≡ index.Pushed true = legal.1.0 in absurd (cc))
 
@@ -97,9 +99,12 @@ next_pair stage = pair_does stage
 -- the pop answers what no push has stored
 not_next_pair : IsLinearizable (values.bounded_list 2) (after (record (values.queue pairs 2) { does = next_pair }) push_pop_pair).history → ⊥
 not_next_pair =
-    in_turn_alone (values.bounded_list 2) _ (called 0 0 (values.Push (5, 6)) 1 (values.Pushed true))
-    (called 2 1 values.Pop 3 (values.Popped (Some (0, 0)))) 1
-    (values.Pushed true) (values.Popped (Some (0, 0))) 3 refl refl refl (apart _ _ (omega arith))
+    in_turn_alone (values.bounded_list 2) (record {
+      first = record { place = 0; party = 0; call = values.Push (5, 6); end = 1; answer = values.Pushed true };
+      second = record { place = 2; party = 1; call = values.Pop; end = 3; answer = values.Popped (Some (0, 0)) };
+      calls = refl;
+      in_order = omega arith;
+    })
     (λ legal. let word : 6 ≡ 0 = second_word {v = (5, 6)} {w = (0, 0)} legal.1.0 in absurd (omega arith)) (omega arith)
 
 -- a push publishes once it has stored one word: the value is torn
@@ -111,9 +116,12 @@ torn stage = pair_does stage
 -- the pop answers half of the value
 not_torn : IsLinearizable (values.bounded_list 2) (after (record (values.queue pairs 2) { does = torn }) push_pop_pair).history → ⊥
 not_torn =
-    in_turn_alone (values.bounded_list 2) _ (called 0 0 (values.Push (5, 6)) 1 (values.Pushed true))
-    (called 2 1 values.Pop 3 (values.Popped (Some (5, 0)))) 1
-    (values.Pushed true) (values.Popped (Some (5, 0))) 3 refl refl refl (apart _ _ (omega arith))
+    in_turn_alone (values.bounded_list 2) (record {
+      first = record { place = 0; party = 0; call = values.Push (5, 6); end = 1; answer = values.Pushed true };
+      second = record { place = 2; party = 1; call = values.Pop; end = 3; answer = values.Popped (Some (5, 0)) };
+      calls = refl;
+      in_order = omega arith;
+    })
     (λ legal. let word : 6 ≡ 0 = second_word {v = (5, 6)} {w = (5, 0)} legal.1.0 in absurd (omega arith)) (omega arith)
 
 -- ---- the overflowing queue
@@ -131,8 +139,12 @@ newest stage = overflowing.does 1 stage
 -- The second push hands back its own value, and the oldest was 1.
 not_newest : IsLinearizable (overflowing.overflowing_list 1) (after (record (overflowing.overflowing_queue 1) { does = newest }) push_twice).history → ⊥
 not_newest =
-    in_turn_alone (overflowing.overflowing_list 1) _ (called 0 0 (overflowing.Push 1) 1 None) (called 2 0 (overflowing.Push 2) 3 (Some 2)) 1
-    None (Some 2) 3 refl refl refl (apart _ _ (omega arith))
+    in_turn_alone (overflowing.overflowing_list 1) (record {
+      first = record { place = 0; party = 0; call = overflowing.Push 1; end = 1; answer = None };
+      second = record { place = 2; party = 0; call = overflowing.Push 2; end = 3; answer = Some 2 };
+      calls = refl;
+      in_order = omega arith;
+    })
     (λ legal. let oldest : Some 1 ≡ Some 2 = legal.1.0 in absurd (cc)) (omega arith)
 
 -- ---- the single value
@@ -148,8 +160,12 @@ unversioned stage = single.does stage
 -- The load answers 0 after a store of 7.
 not_unversioned : IsLinearizable single.register (after (record single.value { does = unversioned }) store_load).history → ⊥
 not_unversioned =
-    in_turn_alone single.register _ (called 0 0 (single.StoreValue 7) 1 (single.Stored true)) (called 2 1 single.LoadValue 3 (single.Loaded 0)) 1
-    (single.Stored true) (single.Loaded 0) 3 refl refl refl (apart _ _ (omega arith))
+    in_turn_alone single.register (record {
+      first = record { place = 0; party = 0; call = single.StoreValue 7; end = 1; answer = single.Stored true };
+      second = record { place = 2; party = 1; call = single.LoadValue; end = 3; answer = single.Loaded 0 };
+      calls = refl;
+      in_order = omega arith;
+    })
     (λ legal. let held : single.Loaded 7 ≡ single.Loaded 0 = legal.1.0 in absurd (cc)) (omega arith)
 
 -- a store goes to the cell of the version before
@@ -160,6 +176,10 @@ next_version stage = single.does stage
 -- The load answers 0 after a store of 7.
 not_next_version : IsLinearizable single.register (after (record single.value { does = next_version }) store_load).history → ⊥
 not_next_version =
-    in_turn_alone single.register _ (called 0 0 (single.StoreValue 7) 1 (single.Stored true)) (called 2 1 single.LoadValue 3 (single.Loaded 0)) 1
-    (single.Stored true) (single.Loaded 0) 3 refl refl refl (apart _ _ (omega arith))
+    in_turn_alone single.register (record {
+      first = record { place = 0; party = 0; call = single.StoreValue 7; end = 1; answer = single.Stored true };
+      second = record { place = 2; party = 1; call = single.LoadValue; end = 3; answer = single.Loaded 0 };
+      calls = refl;
+      in_order = omega arith;
+    })
     (λ legal. let held : single.Loaded 7 ≡ single.Loaded 0 = legal.1.0 in absurd (cc)) (omega arith)

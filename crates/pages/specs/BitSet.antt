@@ -102,7 +102,7 @@ bit b = if b then 1 else 0
 abbrev pub now : List ℕ → ℕ → ℕ
 now words place = bit (stands (slice_index words (1 + place / 64)) place)
 
--- A reset of all acts at each place: it found 1 if it hands the place out, else 0. A reset of the next place acts at the place
+-- A set acts at its place. A reset of all acts at each place: it found 1 if it hands the place out, else 0. A reset of the next place acts at the place
 -- that it hands out, or at every place, if it hands out none.
 abbrev pub at : ℕ → Call → Answer → Option Act
 at b (Set place) (WasSet new) = if place == b then Some (record { found = bit (not new); left = 1 }) else None

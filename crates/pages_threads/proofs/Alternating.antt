@@ -28,6 +28,7 @@ module _ {Call Answer : Type 0} (n : ℕ) where
   one_more b [] e h fits = (fits, tt)
   one_more b (x ∷ es) e h fits = (h.0, one_more (open_after b x) es e h.1 fits)
 
+-- One party (`n`) of a machine of the page: its begins and ends in the history take turns.
 module _ {Call Stage Answer : Type 0} (of : Structure Call Stage Answer) (n : ℕ) where
   -- the party begins a call only where it has none pending, and the history says whether it has one pending now
   record Ties (w : World Call Stage Answer) : Type 0 where

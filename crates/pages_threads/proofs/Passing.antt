@@ -18,6 +18,7 @@ module _ {T Call Answer : Type 0} (by : Naming T Call Answer) where
       ap (λ ts. turn_taken by t.world x ++ ts) (taken_more (after_turn t x) xs ys)
       ∙ sym (append_assoc (turn_taken by t.world x) (turns_taken by (after_turn t x) xs) (turns_taken by (after_turns t (x ∷ xs)) ys))
 
+-- Runs of the page are runs of the model whose roles change hands (`runs`), and no turn of a pass is refused there (`free`).
 module _ {T Call Stage Answer : Type 0} (page : Paged T Call Stage Answer)
     (free : (t : Trace T) (turns : List (Turn T)) → AreAllowedBy (refusal_as page.kind) t turns → AreAllowedOn t turns)
     (runs : capacity_error page.kind page.capacity ≡ None → RunsByRole page.by page.structure (opening page.code page.kind page.capacity 0))
@@ -42,6 +43,7 @@ module _ {T Call Stage Answer : Type 0} (page : Paged T Call Stage Answer)
               };
         }
 
+-- Each theorem that a page proves of its runs holds of what a pass knows, since a pass knows a run of the page.
 module _ {T Call Stage Answer : Type 0} (page : Paged T Call Stage Answer) where
   -- of a theorem of the page
   pub linear : {State : Type 0} (object : Object Call Answer State) → PassesRun page

@@ -213,19 +213,6 @@ module _ {C G M E : Type 0} (want_of : C → G → Want (Unit {0})) (after : C �
     pub ends : EndsIn want_of after kept given steps end last_room last_words call room words
     pub holds : P end last_room last_words
 
-  -- a call of which `Runs` holds can end
-  pub can_end : (P : E → M → List ℕ → Type 0) (call : C) (room : M) (words : List ℕ)
-      → Runs P call room words → CanEnd want_of after kept given call room words
-  can_end = grind arith
-
-  -- where `Runs` holds of a call, P holds of the end to which a driver has brought it
-  pub ends_so : (P : E → M → List ℕ → Type 0) (call : C) (room : M) (words : List ℕ)
-      → Runs P call room words → (e : E) (r : M) (ws : List ℕ)
-      → EndsAlike want_of after kept given call room words e r ws → P e r ws
-  ends_so = grind arith
-
-  -- ---- a call that puts questions
-
   -- The call, run alone from these words, stops within 2^64 - 1 steps, and P holds of its stop, of the room
   -- and of the words then.
   pub record Halts (P : Stop C E → M → List ℕ → Type 0) (call : C) (room : M) (words : List ℕ) : Type 0 where
@@ -239,10 +226,32 @@ module _ {C G M E : Type 0} (want_of : C → G → Want (Unit {0})) (after : C �
     pub stops : StopsIn want_of after kept given steps stop last_room last_words call room words
     pub holds : P stop last_room last_words
 
+-- What a call with a property of its end or its stop gives a driver; the property names the call, its room and the words.
+module _ {C G M E : Type 0} {want_of : C → G → Want (Unit {0})} {after : C → G → ℕ → After C E}
+    {kept : C → M → ℕ → M} {given : G} {call : C} {room : M} {words : List ℕ} where
+  -- a call of which `Runs` holds can end
+  pub can_end : {P : E → M → List ℕ → Type 0} → Runs want_of after kept given P call room words → CanEnd want_of after kept given call room words
+  can_end {P} runs_so =
+      record {
+        steps = runs_so.steps;
+        few = runs_so.few;
+        end = runs_so.end;
+        last_room = runs_so.last_room;
+        last_words = runs_so.last_words;
+        ends = runs_so.ends;
+      }
+
+  -- where `Runs` holds of a call, P holds of the end to which a driver has brought it
+  pub ends_so : {P : E → M → List ℕ → Type 0} {e : E} {r : M} {ws : List ℕ}
+      → Runs want_of after kept given P call room words → EndsAlike want_of after kept given call room words e r ws → P e r ws
+  ends_so = grind arith
+
+  -- ---- a call that puts questions
+
   -- a call of which `Halts` holds can stop
-  pub can_stop : (P : Stop C E → M → List ℕ → Type 0) (call : C) (room : M) (words : List ℕ)
-      → Halts P call room words → CanStop want_of after kept given call room words
-  can_stop P call room words halts_so =
+  pub can_stop : {P : Stop C E → M → List ℕ → Type 0} → Halts want_of after kept given P call room words
+      → CanStop want_of after kept given call room words
+  can_stop {P} halts_so =
       record {
         steps = halts_so.steps;
         few = halts_so.few;
@@ -253,7 +262,6 @@ module _ {C G M E : Type 0} (want_of : C → G → Want (Unit {0})) (after : C �
       }
 
   -- where `Halts` holds of a call, P holds of the stop to which a driver has brought it
-  pub stops_so : (P : Stop C E → M → List ℕ → Type 0) (call : C) (room : M) (words : List ℕ)
-      → Halts P call room words → (s : Stop C E) (r : M) (ws : List ℕ)
-      → StopsAlike want_of after kept given call room words s r ws → P s r ws
+  pub stops_so : {P : Stop C E → M → List ℕ → Type 0} {s : Stop C E} {r : M} {ws : List ℕ}
+      → Halts want_of after kept given P call room words → StopsAlike want_of after kept given call room words s r ws → P s r ws
   stops_so = grind arith

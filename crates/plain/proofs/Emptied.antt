@@ -79,8 +79,18 @@ drop_all (x ∷ xs) = drop_all xs
 
 -- ---- the counts that are still to be handed out
 
-module _ {F : Type 0} (pre : F → BitState → Type 0) (step : F → BitState → Unit {0} → F → Type 0)
-    (capacity : ℕ) (before : List ℕ) (first : F) where
+-- A call that takes all counts away and hands each to a closure: the words before, and the closure.
+pub record EmptyCase (F : Type 0) : Type 1 where
+  pub capacity : ℕ
+  pub before : List ℕ
+  -- when the closure may be called with a place and its count, what the call makes of it, and the closure at first
+  pub pre : F → BitState → Type 0
+  pub step : F → BitState → Unit {0} → F → Type 0
+  pub first : F
+
+module _ {F : Type 0} (case : EmptyCase F) where
+  open case use {capacity, before, pre, step, first}
+
   -- the counts from this place on, each with its place
   abbrev left : ℕ → List BitState
   left place = states_from place (drop place before)
@@ -121,77 +131,81 @@ module _ {F : Type 0} (pre : F → BitState → Type 0) (step : F → BitState �
       → Emptying place call words visit → now ≡ slice_set words place 0 → now ≡ swept (place + 1) before
   more_swept = grind (arith, suc, swept_more)
 
-  module _ (place : ℕ) (low : place < capacity) (call : ResetAll) (words : List ℕ) (visit : F)
-      (emptying : Emptying place call words visit) (n : ℕ) (counted : n ≡ slice_index words call.word) where
-    -- what the step has swapped out is the count of the place
-    count_is : n ≡ slice_index before place
-    count_is =
-        counted ∙ (ap (λ (c : ResetAll). slice_index words c.word) (emptying.at low) ∙ found place call words visit emptying)
-
-    -- the place with its count
-    abbrev state : BitState
-    state = record { bit = place; count = n }
-
-    -- where the count is above 0, the place is the first of those left
-    split : 0 < n → left place ≡ state ∷ left (place + 1)
-    split = grind (arith, count_is, left_one)
-
-    -- where the count is above 0, the closure may be called with the place and then with those after it
-    both : 0 < n → Takes pre step (state ∷ left (place + 1)) visit
-    both some = subst (λ xs. Takes pre step xs visit) (split some) emptying.takes
-
-    -- where the count is above 0, the closure may be called with it
-    pub callable : 0 < n → pre visit (record { bit = place; count = n })
-    callable some = (both some).0
-
-    module _ (next : ResetAll) (now : List ℕ) (is : now ≡ slice_set words call.word 0)
-        (goes : call.word + 1 < call.end → next ≡ record { word = call.word + 1; end = call.end }) where
-      -- after the step the word of this place is 0
-      now_is : now ≡ slice_set words place 0
-      now_is = is ∙ ap (λ (c : ResetAll). slice_set words c.word 0) (emptying.at low)
-
-      -- the call goes on at the next place
-      next_at : place + 1 < capacity → next ≡ record { word = place + 1; end = capacity }
-      next_at = grind arith
-
-      -- after a step, and a call of the closure where the count is above 0, the emptying has
-      -- come to the next place
-      pub empties_one : (later : F) → (0 < n → step visit (record { bit = place; count = n }) tt later)
-          → (n ≡ 0 → later ≡ visit) → Emptying (place + 1) next now later
-      empties_one later did same =
-          ⊎_elim
-          -- the place has a count: the closure was called with it
-          (λ (some : 0 < n).
-          record {
-            long = emptying.long;
-            at = next_at;
-            words_are = more_swept place call words now visit low emptying now_is;
-            takes = (both some).1 later (did some);
-            calls = λ last f. emptying.calls last
-                (subst (λ xs. FoldsTo (λ p x q. step p x tt q) visit xs last) (sym (split some)) (later, did some, f));
-          })
-          -- the place has no count: the closure was not called and is the same
-          (λ (none : n ≤ 0).
-          let long = emptying.long in
-          let is_none : n ≡ 0 = omega arith in
-          let rest = left_none place (omega arith) (sym count_is ∙ is_none) in
-          subst (λ f. Emptying (place + 1) next now f) (sym (same is_none))
-          (record {
-            long = emptying.long;
-            at = next_at;
-            words_are = more_swept place call words now visit low emptying now_is;
-            takes = subst (λ xs. Takes pre step xs visit) rest emptying.takes;
-            calls = λ last f. emptying.calls last (subst (λ xs. FoldsTo (λ p x q. step p x tt q) visit xs last) (sym rest) f);
-          }))
-          (cases_lt 0 n)
-
   -- once it has come to the capacity all counts are 0, and the closure was called with
   -- each place that had one
-  pub ends : (call : ResetAll) (words : List ℕ) (visit : F) → Emptying capacity call words visit
+  pub ends : {place : ℕ} {call : ResetAll} {words : List ℕ} {visit : F} → Emptying place call words visit → place ≡ capacity
       → (words ≡ uncounted capacity) × WasCalled step (states before) first visit
-  ends call words visit emptying =
+  ends {place} {call} {words} {visit} emptying_on at_end =
+      let emptying : Emptying capacity call words visit = subst (λ n. Emptying n call words visit) at_end emptying_on in
       let none : left capacity ≡ [] =
       ap (λ n. states_from capacity (drop n before)) (sym emptying.long) ∙ ap (states_from capacity) (drop_all before) in (
         emptying.words_are ∙ (ap (λ n. swept n before) (sym emptying.long) ∙ (swept_all before ∙ ap (λ n. replicate n 0) emptying.long)),
         emptying.calls visit (subst (λ xs. FoldsTo (λ p x q. step p x tt q) visit xs visit) (sym none) refl),
       )
+
+-- The emptying has come to a place below the capacity, and its step has swapped out the count n of that place.
+module _ {F : Type 0} {case : EmptyCase F} {place : ℕ} {call : ResetAll} {words : List ℕ} {visit : F} (emptying : Emptying case place call words visit)
+    (low : place < case.capacity) {n : ℕ} (counted : n ≡ slice_index words call.word) where
+  open case use {capacity, before, pre, step, first}
+
+  -- what the step has swapped out is the count of the place
+  count_is : n ≡ slice_index before place
+  count_is =
+      counted ∙ (ap (λ (c : ResetAll). slice_index words c.word) (emptying.at low) ∙ found case place call words visit emptying)
+
+  -- the place with its count
+  abbrev state : BitState
+  state = record { bit = place; count = n }
+
+  -- where the count is above 0, the place is the first of those left
+  split : 0 < n → left case place ≡ state ∷ left case (place + 1)
+  split = grind (arith, count_is, left_one)
+
+  -- where the count is above 0, the closure may be called with the place and then with those after it
+  both : 0 < n → Takes pre step (state ∷ left case (place + 1)) visit
+  both some = subst (λ xs. Takes pre step xs visit) (split some) emptying.takes
+
+  -- where the count is above 0, the closure may be called with it
+  pub callable : 0 < n → pre visit (record { bit = place; count = n })
+  callable some = (both some).0
+
+  module _ {next : ResetAll} {now : List ℕ} (is : now ≡ slice_set words call.word 0)
+      (goes : call.word + 1 < call.end → next ≡ record { word = call.word + 1; end = call.end }) where
+    -- after the step the word of this place is 0
+    now_is : now ≡ slice_set words place 0
+    now_is = is ∙ ap (λ (c : ResetAll). slice_set words c.word 0) (emptying.at low)
+
+    -- the call goes on at the next place
+    next_at : place + 1 < capacity → next ≡ record { word = place + 1; end = capacity }
+    next_at = grind arith
+
+    -- after a step, and a call of the closure where the count is above 0, the emptying has
+    -- come to the next place
+    pub empties_one : (later : F) → (0 < n → step visit (record { bit = place; count = n }) tt later)
+        → (n ≡ 0 → later ≡ visit) → Emptying case (place + 1) next now later
+    empties_one later did same =
+        ⊎_elim
+        -- the place has a count: the closure was called with it
+        (λ (some : 0 < n).
+        record {
+          long = emptying.long;
+          at = next_at;
+          words_are = more_swept case place call words now visit low emptying now_is;
+          takes = (both some).1 later (did some);
+          calls = λ last f. emptying.calls last
+              (subst (λ xs. FoldsTo (λ p x q. step p x tt q) visit xs last) (sym (split some)) (later, did some, f));
+        })
+        -- the place has no count: the closure was not called and is the same
+        (λ (none : n ≤ 0).
+        let long = emptying.long in
+        let is_none : n ≡ 0 = omega arith in
+        let rest = left_none case place (omega arith) (sym count_is ∙ is_none) in
+        subst (λ f. Emptying case (place + 1) next now f) (sym (same is_none))
+        (record {
+          long = emptying.long;
+          at = next_at;
+          words_are = more_swept case place call words now visit low emptying now_is;
+          takes = subst (λ xs. Takes pre step xs visit) rest emptying.takes;
+          calls = λ last f. emptying.calls last (subst (λ xs. FoldsTo (λ p x q. step p x tt q) visit xs last) (sym rest) f);
+        }))
+        (cases_lt 0 n)

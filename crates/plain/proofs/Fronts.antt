@@ -91,6 +91,8 @@ behind_more = grind arith
 
 -- ---- all steps
 
+-- A call that keeps Low, and so asks only for words below k; where it ends over those alone with P, Q holds of its end over the whole
+-- list, since the words behind them are as before.
 module _ {C E : Type 0} (want : C → Want (Unit {0})) (after : C → ℕ → After C E) (k : ℕ)
     (Low : C → Type 0) (asks_low : (c : C) → Low c → AsksBelow k (want c))
     (goes_low : (c : C) (old : ℕ) → Low c → LowThen Low (after c old))

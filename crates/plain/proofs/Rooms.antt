@@ -61,24 +61,27 @@ module _ {C G M E : Type 0} (want_of : C → G → Want (Unit {0})) (after : C �
       (kept call room (answer_in words (want_of call given))) (words_then words (want_of call given))
       (λ d u. found n P d (kept call room (answer_in words (want_of call given))) (words_then words (want_of call given)) u) walks
 
-  -- where call and room as one are walked within 2^64 - 1 steps, the call halts, with the walk's property of
-  -- its stop and room
-  pub halts_both : (n : ℕ) (P : Stop (C × M) (E × M) → List ℕ → Type 0) (call : C) (room : M) (words : List ℕ) → n ≤ 2 ^ 64 - 1
-      → Walks want_both after_both n P (call, room) words
-      → Halts want_of after kept given (Apart P) call room words
-  halts_both n P call room words few walks =
-      let f = found n P call room words walks in
-      record { steps = n; few = few; stop = f.0; last_room = f.1; last_words = f.2; stops = f.3; holds = f.4 }
-
   -- a stop of the driver that is an end is a run of the call
   ended : (n : ℕ) (P : E × M → List ℕ → Type 0) (call : C) (room : M) (words : List ℕ) (s : Stop C E) (r : M) (ws : List ℕ)
       → n ≤ 2 ^ 64 - 1 → StopsIn want_of after kept given n s r ws call room words → Apart (OnEnd P) s r ws
       → Runs want_of after kept given (λ e room ws. P (e, room) ws) call room words
   ended = grind arith
 
+-- What a walk of call and room as one says of the call; the walk's property names the stop with its room.
+module _ {C G M E : Type 0} {want_of : C → G → Want (Unit {0})} {after : C → G → ℕ → After C E}
+    {kept : C → M → ℕ → M} {given : G} {call : C} {room : M} {words : List ℕ} where
+  -- where call and room as one are walked within 2^64 - 1 steps, the call halts, with the walk's property of
+  -- its stop and room
+  pub halts_both : (n : ℕ) (P : Stop (C × M) (E × M) → List ℕ → Type 0) → n ≤ 2 ^ 64 - 1
+      → Walks (want_both want_of after kept given) (after_both want_of after kept given) n P (call, room) words
+      → Halts want_of after kept given (Apart P) call room words
+  halts_both n P few walks =
+      let f = found want_of after kept given n P call room words walks in
+      record { steps = n; few = few; stop = f.0; last_room = f.1; last_words = f.2; stops = f.3; holds = f.4 }
+
   -- where call and room as one are walked to an end within 2^64 - 1 steps, the call runs, with the walk's
   -- property of its end and room
-  pub runs_both : (n : ℕ) (P : E × M → List ℕ → Type 0) (call : C) (room : M) (words : List ℕ) → n ≤ 2 ^ 64 - 1
-      → Walks want_both after_both n (OnEnd P) (call, room) words
+  pub runs_both : (n : ℕ) (P : E × M → List ℕ → Type 0) → n ≤ 2 ^ 64 - 1
+      → Walks (want_both want_of after kept given) (after_both want_of after kept given) n (OnEnd P) (call, room) words
       → Runs want_of after kept given (λ e room ws. P (e, room) ws) call room words
   runs_both = grind (arith, found, ended)

@@ -18,7 +18,7 @@ use Rattle.plain.specs.Queues.{words_from}
 use Rattle.plain.specs.Value.{value_in, Represents}
 use Rattle.plain.proofs.Alone.{Runs}
 use Rattle.plain.proofs.Words as words
-use Rattle.plain.proofs.Words.{words_same, words_all, stored_length, stored_other, stored_words, read_in, value_read}
+use Rattle.plain.proofs.Words.{Room, words_same, words_all, stored_length, stored_other, stored_words, read_in, value_read}
 
 -- a cell lies within the words
 cell_within : (size p : ℕ) → cell_word size p + size ≤ 2 + 2 * size
@@ -166,10 +166,10 @@ module _ {V : Type 0} (words_of : V → List ℕ) (value_of : List ℕ → V) (s
 
 -- ---- load
 
-module _ {V R : Type 0} (value_of : List ℕ → V) (size : ℕ) (some : 1 ≤ size) (few : size ≤ 128)
-    (words_in : R → List ℕ) (with_word : R → ℕ → ℕ → R)
-    (put_in : (x : R) (at word : ℕ) → words_in (with_word x at word) ≡ slice_set (words_in x) at word)
+module _ {V R : Type 0} (value_of : List ℕ → V) (size : ℕ) (some : 1 ≤ size) (few : size ≤ 128) (as_room : Room R)
     (ws : List ℕ) where
+  open as_room use {words_in, with_word, put_in}
+
   -- the load, run alone from the words ws, ends within n steps with this last room and these last words
   abbrev LoadEnds : ℕ → R → List ℕ → Load V R → R → Type 0
   LoadEnds n last_room last call room =
@@ -239,12 +239,12 @@ module _ {V R : Type 0} (value_of : List ℕ → V) (size : ℕ) (some : 1 ≤ s
         -- the words are those of a versioned value, and the value read is the one that they hold
         holds = (
           record { long = length-set ws 0 version ∙ long; fits = subst (λ x. x < 2 ^ 64) (sym version_is) fits.fits },
-          value_read value_of size words_in with_word put_in room ws cell wide (omega arith),
+          value_read value_of size as_room room ws cell wide (omega arith),
           λ i. record { value = value_is i; version = version_is i },
         );
       }
 
   -- a load, run alone, answers the value, where its room has place for the words of a value
-  pub load_runs : (call : Load V R) → call ≡ first_load → (room : R)
+  pub load_runs : {call : Load V R} → call ≡ first_load → (room : R)
       → size ≤ length (words_in room) → Represents size ws → LoadRuns call room
-  load_runs call at_first room wide fits = subst (λ c. LoadRuns c room) (sym at_first) (loads_first room wide fits)
+  load_runs at_first room wide fits = subst (λ c. LoadRuns c room) (sym at_first) (loads_first room wide fits)

@@ -81,13 +81,24 @@ any_low (Done e) = tt
 
 -- A call within another: each step of the inner call is a step of the outer one, and the outer call goes on
 -- from the end of the inner. Low is a property that the inner call keeps at each step.
-module _ {C E D X : Type 0} (want : C → Want (Unit {0})) (after : C → ℕ → After C E)
-    (part_want : D → Want (Unit {0})) (part_after : D → ℕ → After D X)
-    (within : D → C) (lift : After D X → After C E) (Low : D → Type 0)
-    (low_on : (d : D) (old : ℕ) → Low d → LowThen Low (part_after d old))
-    (wants_so : (d : D) → want (within d) ≡ part_want d)
-    (goes_so : (d : D) (old : ℕ) → Low d → after (within d) old ≡ lift (part_after d old))
-    (lifts : (d : D) → lift (GoOn d) ≡ GoOn (within d)) where
+pub record Within (C E D X : Type 0) : Type 1 where
+  -- what the outer call asks for and what an answer makes of it, and the same of the inner call
+  pub want : C → Want (Unit {0})
+  pub after : C → ℕ → After C E
+  pub part_want : D → Want (Unit {0})
+  pub part_after : D → ℕ → After D X
+  -- the outer call at a stage of the inner one, and what the outer call makes of a step of the inner one
+  pub within : D → C
+  pub lift : After D X → After C E
+  pub Low : D → Type 0
+  pub low_on : (d : D) (old : ℕ) → Low d → LowThen Low (part_after d old)
+  pub wants_so : (d : D) → want (within d) ≡ part_want d
+  pub goes_so : (d : D) (old : ℕ) → Low d → after (within d) old ≡ lift (part_after d old)
+  pub lifts : (d : D) → lift (GoOn d) ≡ GoOn (within d)
+
+module _ {C E D X : Type 0} (part : Within C E D X) where
+  open part use {want, after, part_want, part_after, within, lift, Low, low_on, wants_so, goes_so, lifts}
+
   -- from the inner call's end x the outer call goes on and stops within n steps, and P holds of the stop
   abbrev pub OuterWalksOn : ℕ → (Stop C E → List ℕ → Type 0) → X → List ℕ → Type 0
   OuterWalksOn n P x words = WalksOn want after n P (lift (Done x)) words
@@ -110,10 +121,10 @@ module _ {C E D X : Type 0} (want : C → Want (Unit {0})) (after : C → ℕ �
   part_from = grind (arith, part_goes)
 
   -- a walk of the inner call to an end from which the outer call goes on is a walk of the outer call
-  pub part_walks_low : (m n : ℕ) (P : Stop C E → List ℕ → Type 0) (d : D) (words : List ℕ) → Low d
+  pub part_walks : (m n : ℕ) (P : Stop C E → List ℕ → Type 0) (d : D) (words : List ℕ) → Low d
       → Walks part_want part_after m (OnEnd (OuterWalksOn n P)) d words → Walks want after (plus m n) P (within d) words
-  part_walks_low zero n P d words low walks = absurd walks
-  part_walks_low (suc m) n P d words low walks =
+  part_walks zero n P d words low walks = absurd walks
+  part_walks (suc m) n P d words low walks =
       subst (λ w. WalksFrom (Walks want after (plus m n) P) P
       (stepped w (within d) (after (within d) (answer_in words w))) (words_then words w))
       (sym (wants_so d))
@@ -121,20 +132,7 @@ module _ {C E D X : Type 0} (want : C → Want (Unit {0})) (after : C → ℕ �
       (sym (goes_so d (answer_in words (part_want d)) low))
       (part_from m n P (part_want d) d (part_after d (answer_in words (part_want d))) (words_then words (part_want d))
       (low_on d (answer_in words (part_want d)) low)
-      (λ e less u. part_walks_low m n P e (words_then words (part_want d)) less u) walks))
-
--- a walk of the inner call is a walk of the outer call, where the inner call has to keep no property
-pub part_walks : {C E D X : Type 0} (want : C → Want (Unit {0})) (after : C → ℕ → After C E)
-    (part_want : D → Want (Unit {0})) (part_after : D → ℕ → After D X)
-    (within : D → C) (lift : After D X → After C E)
-    (wants_so : (d : D) → want (within d) ≡ part_want d)
-    (goes_so : (d : D) (old : ℕ) → after (within d) old ≡ lift (part_after d old))
-    (lifts : (d : D) → lift (GoOn d) ≡ GoOn (within d))
-    (m n : ℕ) (P : Stop C E → List ℕ → Type 0) (d : D) (words : List ℕ)
-    → Walks part_want part_after m (OnEnd (λ x ws. WalksOn want after n P (lift (Done x)) ws)) d words → Walks want after (plus m n) P (within d) words
-part_walks want after part_want part_after within lift wants_so goes_so lifts m n P d words walks =
-    part_walks_low want after part_want part_after within lift (λ d. Unit {0}) (λ d old low. any_low (part_after d old))
-    wants_so (λ d old low. goes_so d old) lifts m n P d words tt walks
+      (λ e less u. part_walks m n P e (words_then words (part_want d)) less u) walks))
 
 -- A walk of a call without a room is a run of the driver.
 module _ {C G E : Type 0} (want_of : C → G → Want (Unit {0})) (after : C → G → ℕ → After C E) (given : G) where
@@ -161,23 +159,25 @@ module _ {C G E : Type 0} (want_of : C → G → Want (Unit {0})) (after : C →
       (room_then (want_of call given) room room) (words_then words (want_of call given))
       (λ d u. found n P d (room_then (want_of call given) room room) (words_then words (want_of call given)) u) walks
 
+-- What a walk of a call without a room says of the driver; the walk's property names the call's stop.
+module _ {C G E : Type 0} {want_of : C → G → Want (Unit {0})} {after : C → G → ℕ → After C E} {given : G} {call : C} {words : List ℕ} where
   -- a call that is walked within 2^64 - 1 steps halts, with the walk's property of its stop
-  pub halts : (n : ℕ) (P : Stop C E → List ℕ → Type 0) (call : C) (words : List ℕ) → n ≤ 2 ^ 64 - 1
+  pub halts : (n : ℕ) (P : Stop C E → List ℕ → Type 0) → n ≤ 2 ^ 64 - 1
       → Walks (λ c. want_of c given) (λ c old. after c given old) n P call words
       → Halts want_of after (λ c (room : Unit {0}) old. room) given (λ s room ws. P s ws) call tt words
-  halts n P call words few walks =
-      let f = found n P call tt words walks in
+  halts n P few walks =
+      let f = found want_of after given n P call tt words walks in
       record { steps = n; few = few; stop = f.0; last_room = f.1; last_words = f.2; stops = f.3; holds = f.4 }
 
   -- a stop of the driver that is an end is a run of the call
-  ended : (n : ℕ) (P : E → List ℕ → Type 0) (call : C) (words : List ℕ) (s : Stop C E) (r : Unit {0}) (ws : List ℕ)
-      → n ≤ 2 ^ 64 - 1 → StopsIn want_of after (λ c (room : Unit {0}) old. room) given n s r ws call tt words → OnEnd P s ws
+  ended : (n : ℕ) (P : E → List ℕ → Type 0) → n ≤ 2 ^ 64 - 1 → DriverStops want_of after given n (OnEnd P) call tt words
       → Runs want_of after (λ c (room : Unit {0}) old. room) given (λ e room ws. P e ws) call tt words
-  ended = grind arith
+  ended n P few (Ended e, r, ws, stops, holds) =
+      record { steps = n; few = few; end = e; last_room = r; last_words = ws; ends = stops; holds = holds }
+  ended n P few (Asked question asks, r, ws, stops, holds) = absurd holds
 
   -- a call that is walked to its end within 2^64 - 1 steps runs, with the walk's property of its end
-  pub runs : (n : ℕ) (P : E → List ℕ → Type 0) (call : C) (words : List ℕ) → n ≤ 2 ^ 64 - 1
+  pub runs : (n : ℕ) (P : E → List ℕ → Type 0) → n ≤ 2 ^ 64 - 1
       → Walks (λ c. want_of c given) (λ c old. after c given old) n (OnEnd P) call words
       → Runs want_of after (λ c (room : Unit {0}) old. room) given (λ e room ws. P e ws) call tt words
-  runs n P call words few walks =
-      let f = found n (OnEnd P) call tt words walks in ended n P call words f.0 f.1 f.2 few f.3 f.4
+  runs n P few walks = ended n P few (found want_of after given n (OnEnd P) call tt words walks)

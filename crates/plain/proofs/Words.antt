@@ -3,7 +3,7 @@ use Rattle.std.proofs.Common.{◌≡◌, ℕ, zero, suc, ◌+◌, ◌^◌, ◌<�
 use Rattle.std.proofs.Common.{refl, sym, ap, subst, ◌∙◌, arith, slice_index, slice_set, get_or-set_same}
 use Rattle.std.proofs.Common.{get_or-set_other, length-set, take}
 use Rattle.std.specs.Prelude.{replicate, nat_lt, if◌then◌else◌, false}
-use Rattle.plain.proofs.Names.{nat_tests, word_at}
+use Rattle.plain.proofs.Names.{nat_tests, word_at, Buffer}
 use Rattle.steps.specs.Copied.{value_in}
 use Rattle.plain.specs.Queues.{words_from}
 
@@ -127,6 +127,16 @@ take_words (x ∷ xs) (suc n) within =
 
 -- ---- words of a cell, from one place on, read into a room
 
+-- How a room holds words: those that it has, and the room with one of them replaced.
+pub record Room (R : Type 0) : Type 0 where
+  pub words_in : R → List ℕ
+  pub with_word : R → ℕ → ℕ → R
+  pub put_in : (x : R) (at word : ℕ) → words_in (with_word x at word) ≡ slice_set (words_in x) at word
+
+-- a buffer of 128 words as such a room
+abbrev pub buffer : Room (Buffer 128)
+buffer = record { words_in = λ x. x.words; with_word = λ x at word. record x { words = slice_set x.words at word }; put_in = λ x at word. refl }
+
 module _ {R : Type 0} (with_word : R → ℕ → ℕ → R) where
   -- the room after n words of the cell that begins at k were put into it, from place `at` on
   abbrev pub read_in : R → List ℕ → ℕ → ℕ → ℕ → R
@@ -134,9 +144,9 @@ module _ {R : Type 0} (with_word : R → ℕ → ℕ → R) where
   read_in room ws k at (suc n) =
       read_in (with_word room at (slice_index ws (word_at k at))) ws k (at + 1) n
 
-module _ {V R : Type 0} (value_of : List ℕ → V) (size : ℕ) (words_in : R → List ℕ)
-    (with_word : R → ℕ → ℕ → R)
-    (put_in : (x : R) (at word : ℕ) → words_in (with_word x at word) ≡ slice_set (words_in x) at word) where
+module _ {V R : Type 0} (value_of : List ℕ → V) (size : ℕ) (as_room : Room R) where
+  open as_room use {words_in, with_word, put_in}
+
   -- the words in a room into which a cell is read are those of the room with the cell's loaded
   read_words : (room : R) (ws : List ℕ) (k at n : ℕ)
       → words_in (read_in with_word room ws k at n) ≡ loaded (words_in room) ws k at n

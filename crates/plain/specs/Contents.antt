@@ -93,7 +93,7 @@ module _ {V : Type 0} where
       Ok (record { index = index; owner = owner; container = s.container })
   handle_at s owner (Err failure) = Err (add_failure failure)
 
-  -- the lowest index without an owner
+  -- what an add answers: a handle of the lowest index without an owner, or why there is none
   abbrev pub added : Contents V → ℕ → Result ContainerHandle ContainerAddFailure
   added s owner = handle_at s owner (owners.acquired s.owners)
 

@@ -141,6 +141,7 @@ module _ {T : Type 0} where
     called_at R p i r said q value s call is same =
         (r, subst (λ z. R p i r z q) is call, same)
 
+    -- A loop calls the closure with the value of each element that is shown. It has come to element `i`, and the closure is `q`.
     module _ (step : F → ℕ × T → CallbackProgression → F → Type 0) (f q : F)
         (es : List (Element T)) (i : ℕ) where
       -- where the loop is past the last element, the closure was called for each value that is shown

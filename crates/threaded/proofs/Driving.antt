@@ -9,6 +9,7 @@ use Rattle.steps.specs.declared.ask.Want.{Want}
 use Rattle.steps.specs.declared.ask.Want.TheVariants as wants
 use Rattle.threaded.specs.Driver.{OwesAsk, Owes, answered}
 
+-- A table of `words` words and `slots` slots. What one operation on it owes under one promise, it owes under a weaker one.
 module _ {V : Type 0} (asked : V → ℕ) (holds : State (Unit {0}) V → Type 0) (words slots id : ℕ) where
   -- One operation may be asked for under a weaker promise where it may be under a stronger one.
   pub weaker : (told more : V → ℕ → V → Type 0) (word : ℕ) (op : Op) (me : Me (Unit {0}) V)

@@ -17,6 +17,7 @@ came : {C A : Type 0} (done : Option A) (call : C) (next : After C A) → CameTo
 came None call next came_to = sym (ap answer_in came_to)
 came (Some answer) call next came_to = sym (ap answer_in came_to)
 
+-- A step leads a call from `flight` to `flight'`. Its events make `noted` of the book, and its end, if it is one, makes `settled` of that.
 module _ (T : Type 0) (words : List ℕ) (push : Option (ℕ × ℕ)) (p : ℕ) (start : LoanStart)
     (flight flight' : LoanFlight) (old : ℕ) (book noted settled : Book) (effect : Effect)
     (done : Option (Answer T)) where

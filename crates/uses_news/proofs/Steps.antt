@@ -68,6 +68,7 @@ module _ {X K : Type 0} {rule : Ghosts K X} where
     pub read_one : HasRead [] xs s u
     pub read_two : HasRead [] ys t w
 
+  -- A whole run of the program: two subscribers, `s` and `t`, of one publisher, which have received `xs` and `ys` in the end.
   module _ (xs ys : List ℕ) (p0 p1 p2 p3 : Publisher X K rule) (s u t w : Subscriber X K rule) (h : HasRun xs ys p0 p1 p2 p3 s u t w) where
     -- the two have a lane each
     pub apart : place_at t ≢ place_at s

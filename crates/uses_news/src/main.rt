@@ -69,7 +69,7 @@ fn fill(block: &mut Vec<u64>, word: u64) -> bool
 }
 
 /// Publishes the block of the number that comes next. Returns to how many subscribers it went. None where no
-/// slot came, or all blocks are published.
+/// slot came, all blocks are published, or the block of the slot has another size.
 fn publish_one(rt: &impl Wait, publisher: &mut Publisher<'_, Vec<u64>, Marked>) -> Option<usize>
     ensures out { HasPublished publisher.old publisher.new }
     ensures few { next_of publisher.old ≤ 100 → next_of publisher.new ≤ 100 }
@@ -85,7 +85,7 @@ fn publish_one(rt: &impl Wait, publisher: &mut Publisher<'_, Vec<u64>, Marked>) 
     Some(publisher.publish(loan))
 }
 
-/// Publishes all blocks. Returns to how many subscribers each went, added up.
+/// Publishes blocks, at most all, until `publish_one` returns None. Returns to how many subscribers each went, added up.
 fn publish_all(rt: &impl Wait, publisher: &mut Publisher<'_, Vec<u64>, Marked>) -> usize
     ensures out { HasPublished publisher.old publisher.new }
     ensures few { next_of publisher.old ≤ 100 → next_of publisher.new ≤ 100 }
@@ -132,7 +132,8 @@ fn receive_one(
     Some(is_last)
 }
 
-/// Receives blocks until the last one comes, and reads their marks. None where one could not be read.
+/// Receives blocks until the last one comes or `TRIES` tries are used up, and reads their marks. None where one could
+/// not be read, or there is no memory for its mark.
 fn receive_all(
     rt: &impl Wait,
     alloc: Global,
@@ -190,8 +191,9 @@ fn run<R: Threads + Wait + Sync>(
     marks
 }
 
-/// Subscribes both, runs the three threads until both have left, and takes both passes in. None where one of
-/// the two was not seen to take part, or its queue has no room.
+/// Subscribes both, runs the three threads to their end, lets both leave, and takes both passes in. None where one of
+/// the two is refused, was not seen to take part or may not leave, where its queue has no room, where a block could not
+/// be read, or where there is no memory for its mark.
 fn hear<R: Threads + Wait + Sync>(
     rt: &R,
     alloc: Global,

@@ -116,6 +116,7 @@ both_rung one two xs ys h g =
       cleared = λ bell. (let c = sum_by-append (λ e. cond (is_clear_of bell e) 1 0) xs ys in let a = h.cleared bell in let b = g.cleared bell in omega arith);
     }
 
+-- Two passes have rung the bells of `one` and `two`, a third has heard those of `heard`, and all are joined.
 module _ (one two heard left : List ℕ) (rung start listened joined : List (Event ℕ)) (rang : BothRung one two rung)
     (fresh : start ≡ []) (listens : HearsMore [] heard start listened) (is : joined ≡ rung ++ listened)
     (rest : (bell : ℕ) → sets bell joined ≡ clears bell joined + times bell left) where

@@ -94,6 +94,7 @@ pub rest_stays : {V : Type 0} (first values : List V) (n : ℕ) (value : V) → 
     → drop (n + 1) (set values n value) ≡ drop (n + 1) first
 rest_stays first values n value same = drop-set-lt (n + 1) values n value (omega arith) ∙ drop_more_same values first n same
 
+-- The loop has passed on the first `n` values of a list. This is what it has done once it has passed on `value` too.
 module _ {E T : Type 0} {kind : kinds.Ghosts E} {words : Ghosts T} (named : T → Item T) (values : List T) (n : ℕ) (value : T)
     (below : n < length values) where
   -- A producer that pushes one value more has sent one more of the list.

@@ -55,6 +55,7 @@ module _ {A : Type 0} where
   pub gain_none : (xs ys : List A) → GainAlike xs xs ys ys
   gain_none xs ys = ([], sym (append-nil xs), sym (append-nil ys))
 
+  -- Two lists have grown by the same elements so far. They do so still if one more is added to both.
   module _ (xs more_xs most_xs ys more_ys most_ys : List A) (so_far : GainAlike xs more_xs ys more_ys) where
     -- (the second list is the same until it grows)
     pub gain_more : (x : A) (kept_ys : List A) → most_xs ≡ more_xs ++ x ∷ [] → kept_ys ≡ more_ys → most_ys ≡ kept_ys ++ x ∷ []
@@ -389,6 +390,7 @@ module _ {T : Type 0} where
       ∙ (ap (λ xs. xs ++ waiting new.seen) took
       ∙ ap (λ xs. xs ++ waiting new.seen) (sym (last_all (sum_by gets theirs.made) (handed_out theirs.seen) all_got)))))
 
+  -- The sender's pass `mine` and the receiver's `theirs` are joined. So all that was sent and all that was received is known.
   module _ (code : Coding (Element T)) (capacity : ℕ) (mine theirs new came : View (Element T)) (same : came ≡ theirs) (pushes : OnlyPushes mine)
       (pops : OnlyPops theirs) (h : HasJoined mine came new) (missing : MissesNothing new) (history : IsHistory code kinds.Queue capacity new.seen) where
     -- the same join, said of the receiver's pass

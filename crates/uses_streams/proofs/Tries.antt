@@ -38,6 +38,7 @@ module _ {T : Type 0} where
       → WereRefused tries capacity item old new
   refused_all capacity n tries item old new all so_far = times_all (PushRefused capacity item) n tries old new all so_far
 
+  -- The queue was found empty `n` times, and is tried once more.
   module _ (n : ℕ) (old between new : View T) (so_far : WereEmpty n old between) where
     pub empty_more : PopEmpty between new → WereEmpty (n + 1) old new
     empty_more empty = times_more PopEmpty n old between new so_far empty

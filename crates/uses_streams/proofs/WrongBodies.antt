@@ -182,6 +182,7 @@ refusal_is_made capacity item u v more same (inl full) =
     (let made : length v.made ≡ length u.made + 3 = ap length full.0.called.made ∙ length-append u.made _ in absurd (omega arith))
 refusal_is_made capacity item u v more same (inr end) = (absurd (omega (arith, end.end)))
 
+-- The call has a first value to pass on (`x`), and its pass knows `v`.
 module _ {T : Type 0} (named : T → Item T) (x : T) (xs : List T) (v : View T) where
   -- `push_all` gives up without a try, though the write position is not at its end
   pub push_all_gives_up : (capacity : ℕ) → length (published v.seen) < 2 ^ 64 - 1 → WerePushedUpTo named capacity 0 (x ∷ xs) v v → ⊥
@@ -192,6 +193,7 @@ module _ {T : Type 0} (named : T → Item T) (x : T) (xs : List T) (v : View T) 
   pub pop_all_gives_up : WerePoppedUpTo named [] (x ∷ xs) v v → ⊥
   pop_all_gives_up h = absurd (omega (arith, finds_nothing h.last v h.stopped, ap (λ (u : View T). length u.made) h.popped))
 
+-- What a producer and a consumer show after a wrong call, beside what its contract says of them.
 module _ {E T : Type 0} {kind : kinds.Ghosts E} {words : Ghosts T} (named : T → Item T) where
   module _ (first now : Producer E T kind words) (x : T) where
     -- `push_waiting` returns without a push

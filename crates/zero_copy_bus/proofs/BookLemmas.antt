@@ -371,6 +371,7 @@ keeps_both holder one two three first second slot i small ne = second slot i sma
 pub changes_none : (slot : ℕ) (holder : Holder) (table : List Holders) → ChangesAt slot holder table table
 changes_none slot holder table = grind arith
 
+-- One slot (`slot`) has changed hands. Of each other slot the holders are the same as before.
 module _ (slot : ℕ) (holder : Holder) (old new : List Holders) (number : ℕ) (changes : ChangesAt slot holder old new) (ne : number ≢ slot) where
   -- a slot other than the changed one was held by this holder before
   pub had_elsewhere : HasSlot new number holder → HasSlot old number holder

@@ -94,6 +94,7 @@ idle v =
           };
     }
 
+-- `old` is the lane's pass, from which `other` is split off. This pass takes out `words`, and is joined again (`z`).
 module _ (s : Shape) (capacity : ℕ) (sent back received words : List ℕ) (old kept other b z : View ℕ) (fits : length sent < 2 ^ 64 - 1)
     (known : HasAll s sent back received old) (cut : HasSplit old kept other) (popped : HasTaken words other b) (both : HasJoined kept b z)
     (all : MissesNothing z) (history : IsHistory one_word kinds.Overflow capacity z.seen) where

@@ -66,6 +66,7 @@ moved place at queue other theirs its olds news e f g h =
 pub both_same : (old mid new : Outlet) → SamePasses old mid → SamePasses mid new → SamePasses old new
 both_same old mid new one two = record { sends = two.sends ∙ one.sends; waits = two.waits ∙ one.waits }
 
+-- The lanes were `olds`, then one of them was let (`mids`). The look that follows settles each lane (`news`).
 module _ (roll : Roll) (one two : List Holders) (place : ℕ) (olds mids news : List Outlet) (each : EachLane (IsSettled roll one two) mids news) where
   -- the lane that was let, where its subscriber is seen to take part
   pub let_after : (queue : QueueId) (theirs : View ℕ) → AtLane place (WasLetOf queue theirs) olds mids

@@ -58,6 +58,7 @@ sent_as room number slot word one two old new other back returned is at came add
           (subst (λ b. Exchanges other (holder_of old) b one two) came has);
     }
 
+-- A lane is served from table `one` to table `two`. Then the table changes to `three` for other holders alone.
 module _ (room number slot : ℕ) (one two three : List Holders) (old new : Outlet) where
   -- what the other holders change behind a publish leaves how the lane was served
   pub served_still : KeepsSlots (holder_of old) two three → IsServed room number slot one two old new → IsServed room number slot one three old new
@@ -110,6 +111,7 @@ module _ (room number slot : ℕ) (one two three : List Holders) (old new : Outl
       after : (n : ℕ) → HasSlot one n (holder_of old) ⊎ (n ≡ slot) → HasSlot two n (holder_of old) ⊎ (n ≡ slot)
       after n some = ⊎_elim (λ has. inl (keeps n ∙ has)) (λ e. inr e) some
 
+-- The table of holders goes from `one` by way of `two` to `three`. One of both changes is for other holders than the lane's.
 module _ (slot : ℕ) (one two three : List Holders) (lane : Outlet) where
   -- whether the subscriber gained the slot is the same after a change for other holders
   pub gained_still : KeepsSlots (holder_of lane) two three → has_gained slot one two lane ≡ has_gained slot one three lane
@@ -222,6 +224,7 @@ so_more number back holder one two three u v w so out changes lacks =
         let ne : slot ≢ back = λ e. x.1 (subst (λ n. Contains (so.numbers ++ back ∷ []) n) (sym e) (Contains-push so.numbers back)) in
         has_elsewhere back holder two three slot changes ne ((so.has slot).1 (x.0, λ c. x.1 (Contains-append_left so.numbers (back ∷ []) slot c)))
 
+-- A loop takes numbers back from a lane: `so` is what it has taken so far, and the next pop leads to `new`.
 module _ (slots number : ℕ) (one two : List Holders) (old now new : Outlet)
     (so : TakenSo number (holder_of old) one two (takes_view old) (takes_view now)) where
   -- a pop finds the queue of returns empty: the lane is taken back from

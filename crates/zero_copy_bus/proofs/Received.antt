@@ -23,6 +23,7 @@ delivers_then a b c (x ∷ xs) ys ds es (inr h) more =
     inr (h.0, h.1 ++ es, ap (λ zs. zs ++ es) h.2, delivers_then (x + 1) b c xs ys h.1 es h.3 more)
 
 module _ {X K : Type 0} {rule : Ghosts K X} where
+  -- A call of `receive` leaves the subscriber's queue, layout and place, and its view goes on.
   module _ (old new : Subscriber X K rule) (queue : receives_queue new ≡ receives_queue old) (layout : layout_at new ≡ layout_at old)
       (place : place_at new ≡ place_at old) (goes : 0 < (receives_queue old).capacity → Goes (receives_view old) (receives_view new)) where
     abbrev s : Shape
@@ -53,6 +54,7 @@ module _ {X K : Type 0} {rule : Ghosts K X} where
           delivers = (refl, same);
         }
 
+    -- The pop has found a word with this number and this slot, which came to the subscriber.
     module _ (number slot word : ℕ) (within : slot < (layout_at old).room) (is : word_of (layout_at old).room number slot ≡ word)
         (p : HasPopped (Some (Index word)) (receives_view old) (receives_view new)) where
       came : 0 < (receives_queue old).capacity → ReceivesOn s (number ∷ []) (receives_view old) (receives_view new)

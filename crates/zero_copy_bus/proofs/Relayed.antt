@@ -23,6 +23,8 @@ begins : (layout : Layout) (lane : Outlet) → IsNew lane → HasAllOf layout []
 begins layout lane new =
     record { none = new.none; all = starts_at (shape_of layout (waits_queue lane)) (waits_queue lane).capacity (waits_view lane) new.first }
 
+-- One lane from its opening until its passes are joined again: what was sent by it before (`sent`), what goes out now (`numbers`), and what
+-- comes to its subscriber (`came`).
 module _ (layout : Layout) (sent back received numbers others came : List ℕ) (first leased last after : Outlet) (theirs end left : View ℕ)
     (known : HasAllOf layout sent back received first) (lets : WasLet theirs first leased) (out : HasSentOn layout numbers others leased last)
     (got : ReceivesOn (shape_of layout (waits_queue first)) came theirs end) (goes : Goes end left) (released : HasReleased roles.Consumer end left)
@@ -75,6 +77,7 @@ module _ (layout : Layout) (sent back received numbers others came : List ℕ) (
             (sym (ends.queue ∙ (last_queue ∙ lets.queue))) all;
       }
 
+-- The lane is drained: a pass takes out what waits, finds the queue empty, and ends.
 module _ (layout : Layout) (sent back received : List ℕ) (old new : Outlet) (known : HasAllOf layout sent back received old) (d : WasDrained old new)
     (found : FoundEmpty old new) (end : new.sends ≡ old.sends) (some : 0 < (waits_queue old).capacity) (fits : length sent < 2 ^ 64 - 1) where
   abbrev its : Shape

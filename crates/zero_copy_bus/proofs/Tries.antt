@@ -236,6 +236,7 @@ module _ {X K : Type 0} {rule : Ghosts K X} where
         next = next;
       }
 
+  -- From `p` to `q` the publisher keeps its lanes, its next number and its layout.
   module _ (p q : Publisher X K rule) (lanes : lanes_of q ≡ lanes_of p) (same : IsSame p q) (next : next_of q ≡ next_of p) where
     -- If the lanes are unchanged and each holder keeps his slots, nothing came back.
     back_kept : ((lane : Outlet) → KeepsSlots (holder_of lane) (table_of p) (table_of q))

@@ -54,6 +54,7 @@ starts_at s capacity v is = subst (HasAll s [] [] []) (sym is) (starts s capacit
 whole_again : (t : Share) → IsAll t → IsAll (both_of (both_of (half_of (half_of t)) (half_of t)) (half_of (half_of t)))
 whole_again t is = let n = t.part in let m = t.parts in rw (sym is) (omega arith)
 
+-- The passes of both ends are split off the channel's, send and receive, and are joined in again: `z` knows all that went through.
 module _ (s : Shape) (capacity : ℕ) (sent back received numbers others came : List ℕ) (old half one kept other w r a b m z : View ℕ)
     (fits : length sent + length numbers < 2 ^ 64 - 1) (known : HasAll s sent back received old)
     (cut : HasSplit old half one) (again : HasSplit half kept other)

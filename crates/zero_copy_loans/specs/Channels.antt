@@ -58,7 +58,7 @@ module _ {X K : Type 0} {rule : Ghosts K X} where
   abbrev pub sending_view : Channel X K rule → View ℕ
   sending_view c = view c.sending
 
-  -- what it knows of the set, and of the queue by which places come back
+  -- what it knows of the set
   abbrev pub set_view : Channel X K rule → View ℕ
   set_view c = sets.view c.pass
 

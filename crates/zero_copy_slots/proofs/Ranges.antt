@@ -10,6 +10,7 @@ range_more first (suc n) number is =
     let on : suc (n + 1) ≡ suc n + 1 = omega arith in
     ap (λ xs. first ∷ xs) (range_more (first + 1) n number (omega arith)) ∙ ap (range_with_len first) on
 
+-- The tags of the cells are the numbers from 0 on, so the tag of each cell is its place.
 module _ (tags items : List ℕ) (number slot : ℕ) (same : tags ≡ items) (numbered : items ≡ range_with_len 0 number) where
   sized : length tags ≡ number
   sized = ap length (same ∙ numbered) ∙ length-range_with_len 0 number

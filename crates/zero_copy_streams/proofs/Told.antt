@@ -34,6 +34,7 @@ module _ {A : Type 0} (tells : ℕ → A → Type 0) where
     read_none before =
         record { numbers = []; told = []; received = sym (append-nil _); appended = sym (append-nil before); of_each = tt }
 
+    -- Of the values read so far something was told each time (`h`). Then one more value is read, or the end.
     module _ (before after longer : List A) (mid new : Receiver X K rule) (h : HasRead tells [] before after old mid) where
       -- one value more was received, and something was told of it
       pub read_told : (one : A) → HasFound tells (found.Told one) mid new → longer ≡ after ++ one ∷ []

@@ -42,6 +42,8 @@ look_tells false n n_is = rw n_is refl
 
 -- ---- the whole history
 
+-- A history of a bit set of capacity c: each event is right for the span of its party's call, a place is found clear
+-- as it is set and set as it is cleared, the answers are right, and no place at or behind the capacity is set.
 module _ {T : Type 0} (c : ℕ) (events : List (Event T)) (spans : Each (StandsRight bits_promise c) events)
     (finds : Each BitFinds events) (answers : Each (BitsAnswerRight c) events)
     (within : (b : ℕ) → c ≤ b → sets b events ≡ 0) where
@@ -154,7 +156,8 @@ module _ {T : Type 0} (c : ℕ) (events : List (Event T)) (spans : Each (StandsR
             → way q b ≡ Some (s, None) → MayAct b s → 0 ≡ left_by kinds.Bits s (number_in b 0 part)
             → number_in b 0 part ≡ 0 → MayEnd b (Some (s, Some 0)) → ActKnown b
         clear_there b part rest cut none under may left nought ends =
-            Silent part rest cut none under may (nought ∙ left) (subst (λ n. MayEnd b (Some (s, Some n))) (sym nought) ends)
+            let may_end = subst (λ n. MayEnd b (Some (s, Some n))) (sym nought) ends in
+            Silent (record { part = part; rest = rest; is = cut; none = none; under = under; may = may; left = nought ∙ left; ends = may_end })
 
         -- what the open call has found at a place fits what it has written
         here : (b : ℕ) (wrote : List (Event T)) → span_of q h ≡ Open s wrote → Fits Fit s b wrote (way q b)
@@ -163,7 +166,7 @@ module _ {T : Type 0} (c : ℕ) (events : List (Event T)) (spans : Each (StandsR
       -- with the end of a set that answers true the history with its silent acts goes on
       end_set_true : (q k : ℕ) → events ≡ h ++ Finished q (Bits (Set k)) (Truth true) ∷ after → IsMarked (h ++ Finished q (Bits (Set k)) (Truth true) ∷ [])
       end_set_true q k events_are =
-          finishes kinds.Bits c Sure h q (Bits (Set k)) (Truth true) m (λ b lt. Stays (done b)) (λ b le. done b)
+          finishes q (Bits (Set k)) (Truth true) m (λ b lt. Stays (done b)) (λ b le. done b)
         where
           -- the call that ends is a set, open until now
           opened : OpenFor (Bits (Set k)) (BitsWrote c (Bits (Set k)) (Truth true)) (span_of q h)
@@ -188,7 +191,7 @@ module _ {T : Type 0} (c : ℕ) (events : List (Event T)) (spans : Each (StandsR
       -- on its place
       end_set_false : (q k : ℕ) → events ≡ h ++ Finished q (Bits (Set k)) (Truth false) ∷ after → IsMarked (h ++ Finished q (Bits (Set k)) (Truth false) ∷ [])
       end_set_false q k events_are =
-          finishes kinds.Bits c Sure h q (Bits (Set k)) (Truth false) m facts far
+          finishes q (Bits (Set k)) (Truth false) m facts far
         where
           -- the call that ends is a set, open until now
           opened : OpenFor (set_call k) (BitsWrote c (set_call k) (Truth false)) (span_of q h)
@@ -218,7 +221,16 @@ module _ {T : Type 0} (c : ℕ) (events : List (Event T)) (spans : Each (StandsR
             where
               -- at its own place the set acted silently, at that moment
               mine : Fact kinds.Bits c Sure h q (set_call k) (Truth false) k
-              mine = Silent once.part once.rest once.is once.within (under k) refl one (refl, λ same. rw one refl)
+              mine = Silent (record {
+                part = once.part;
+                rest = once.rest;
+                is = once.is;
+                none = once.within;
+                under = under k;
+                may = refl;
+                left = one;
+                ends = (refl, λ same. rw one refl);
+              })
 
           -- at or behind the capacity nothing has to be known of the set
           far : (b : ℕ) → c ≤ b → Ends c (Sure b) b (set_call k) (Truth false) (way q b)
@@ -233,7 +245,7 @@ module _ {T : Type 0} (c : ℕ) (events : List (Event T)) (spans : Each (StandsR
       -- with the end of a reset of the next place that answers one the history with its silent acts goes on
       end_next : (q k : ℕ) → events ≡ h ++ Finished q (Bits ResetNext) (Reset k) ∷ after → IsMarked (h ++ Finished q (Bits ResetNext) (Reset k) ∷ [])
       end_next q k events_are =
-          finishes kinds.Bits c Sure h q (Bits ResetNext) (Reset k) m (λ b lt. Stays (done b)) (λ b le. done b)
+          finishes q (Bits ResetNext) (Reset k) m (λ b lt. Stays (done b)) (λ b le. done b)
         where
           -- the call that ends is a reset of the next place, open until now
           opened : OpenFor (Bits ResetNext) (BitsWrote c (Bits ResetNext) (Reset k)) (span_of q h)
@@ -258,7 +270,7 @@ module _ {T : Type 0} (c : ℕ) (events : List (Event T)) (spans : Each (StandsR
       -- with the end of a reset of the next place that answers none the history with its silent acts goes on
       end_none : (q : ℕ) → events ≡ h ++ Finished q (Bits ResetNext) ResetNone ∷ after → IsMarked (h ++ Finished q (Bits ResetNext) ResetNone ∷ [])
       end_none q events_are =
-          finishes kinds.Bits c Sure h q next_call ResetNone m facts
+          finishes q next_call ResetNone m facts
           (λ b le. subst (λ w. Ends c (Sure b) b next_call ResetNone w) (sym (under b)) (refl, λ lt. absurd (omega arith)))
         where
           -- the call that ends is a reset of the next place, open until now
@@ -284,7 +296,7 @@ module _ {T : Type 0} (c : ℕ) (events : List (Event T)) (spans : Each (StandsR
       -- with the end of a reset of all the history with its silent acts goes on
       end_all : (q : ℕ) → events ≡ h ++ Finished q (Bits ResetAll) Done ∷ after → IsMarked (h ++ Finished q (Bits ResetAll) Done ∷ [])
       end_all q events_are =
-          finishes kinds.Bits c Sure h q all_call Done m facts
+          finishes q all_call Done m facts
           (λ b le. let fits = here q all_call Done events_are b opened.wrote opened.is in
           subst (λ w. Ends c (Sure b) b all_call Done w) (sym fits.is) (refl, λ sure lt. absurd (omega arith)))
         where
@@ -346,7 +358,7 @@ module _ {T : Type 0} (c : ℕ) (events : List (Event T)) (spans : Each (StandsR
       end_look : (q k : ℕ) (answer : Bool) → events ≡ h ++ Finished q (Bits (IsSet k)) (Truth answer) ∷ after
           → IsMarked (h ++ Finished q (Bits (IsSet k)) (Truth answer) ∷ [])
       end_look q k answer events_are =
-          finishes kinds.Bits c Sure h q (look_call k) (Truth answer) m facts (λ b le. elsewhere b (λ same. past b same le))
+          finishes q (look_call k) (Truth answer) m facts (λ b le. elsewhere b (λ same. past b same le))
         where
           -- the call that ends is a look, open until now
           opened : OpenFor (look_call k) (BitsWrote c (look_call k) (Truth answer)) (span_of q h)
@@ -384,7 +396,16 @@ module _ {T : Type 0} (c : ℕ) (events : List (Event T)) (spans : Each (StandsR
             where
               -- at its own place the look acted silently, now
               mine : Fact kinds.Bits c Sure h q (look_call k) (Truth answer) k
-              mine = Silent h [] (sym (append-nil h)) tt (under k) refl refl (refl, λ same. look_tells answer (number_in k 0 h) number_is)
+              mine = Silent (record {
+                part = h;
+                rest = [];
+                is = sym (append-nil h);
+                none = tt;
+                under = under k;
+                may = refl;
+                left = refl;
+                ends = (refl, λ same. look_tells answer (number_in k 0 h) number_is);
+              })
 
       -- with the end of any call the history with its silent acts goes on
       ends : (q : ℕ) (s : Start T) (a : Answer T) → events ≡ h ++ Finished q s a ∷ after → IsMarked (h ++ Finished q s a ∷ [])

@@ -26,8 +26,8 @@ next_number : (n : ℕ) → n < 2 ^ 64 → (((n + 1) % 2 ^ 64 ≡ n + 1) × (n +
 next_number n n_below = grind arith
 
 -- two numbers below 2^64 are equal if both are, modulo 2^64, what was counted and not taken out
-same_rest : (m n v w t c : ℕ) → m < 2 ^ 64 → n < 2 ^ 64 → c ≡ t + m + 2 ^ 64 * v → c ≡ t + n + 2 ^ 64 * w → m ≡ n
-same_rest m n v w t c m_below n_below first_c_is second_c_is = grind arith
+same_rest : {m n : ℕ} (v w t : ℕ) {c : ℕ} → m < 2 ^ 64 → n < 2 ^ 64 → c ≡ t + m + 2 ^ 64 * v → c ≡ t + n + 2 ^ 64 * w → m ≡ n
+same_rest = grind arith
 
 one_taken : (U : Type 0) (p k m b : ℕ) → (k == b) ≡ true → takes {T = U} b (TakenOut p k m ∷ []) ≡ m
 one_taken U p k m b test_is = rw test_is (omega arith)
@@ -128,7 +128,7 @@ module _ {T : Type 0} where
   -- what an event takes out of a place is the number of that place
   takes_all : {h : List (Event T)} (p k m : ℕ) → CountFinds h (TakenOut p k m) → Numbers h → m ≡ number_in k 0 h
   takes_all {h} p k m finds numbers =
-      same_rest m (number_in k 0 h) finds.0 (numbers k).wraps (takes k h) (counts k h) finds.3 (numbers k).low finds.1 (numbers k).whole
+      same_rest finds.0 (numbers k).wraps (takes k h) finds.3 (numbers k).low finds.1 (numbers k).whole
 
   -- ---- ways
 
@@ -312,7 +312,7 @@ module _ {T : Type 0} (c : ℕ) (events : List (Event T)) (spans : Each (StandsR
       -- with the end of a set the history with its silent acts goes on
       end_set : (q k n : ℕ) → events ≡ h ++ Finished q (Bits (Set k)) (Number n) ∷ after → IsMarked (h ++ Finished q (Bits (Set k)) (Number n) ∷ [])
       end_set q k n events_are =
-          finishes kinds.Counts c Sure h q (set_call k) (Number n) m (λ b lt. Stays (done b)) (λ b le. done b)
+          finishes q (set_call k) (Number n) m (λ b lt. Stays (done b)) (λ b le. done b)
         where
           -- the call that ends is a set of place k, open until now
           opened : OpenFor (set_call k) (CountsWrote c (set_call k) (Number n)) (span_of q h)
@@ -354,7 +354,7 @@ module _ {T : Type 0} (c : ℕ) (events : List (Event T)) (spans : Each (StandsR
       -- with the end of a look the history with its silent acts goes on: the look acted silently on its place
       end_look : (q k n : ℕ) → events ≡ h ++ Finished q (Bits (Count k)) (Number n) ∷ after → IsMarked (h ++ Finished q (Bits (Count k)) (Number n) ∷ [])
       end_look q k n events_are =
-          finishes kinds.Counts c Sure h q (look_call k) (Number n) m facts (λ b le. elsewhere b (λ same. past b same le))
+          finishes q (look_call k) (Number n) m facts (λ b le. elsewhere b (λ same. past b same le))
         where
           opened : OpenFor (look_call k) (CountsWrote c (look_call k) (Number n)) (span_of q h)
           opened =
@@ -387,19 +387,20 @@ module _ {T : Type 0} (c : ℕ) (events : List (Event T)) (spans : Each (StandsR
               (λ ne. Stays (elsewhere b ne)) (cases_eq k b)
             where
               mine : Fact kinds.Counts c Sure h q (look_call k) (Number n) k
-              mine = Silent h [] (sym (append-nil h)) tt (under k) refl refl (refl, λ same. told)
+              mine = Silent
+                  (record { part = h; rest = []; is = sym (append-nil h); none = tt; under = under k; may = refl; left = refl; ends = (refl, λ same. told) })
 
       -- a place that the call left silently, where its count was 0
       clear_there : {q b : ℕ} (part rest : List (Event T)) → h ≡ part ++ rest → BeginsNone q rest
           → way q b ≡ Some (Bits ResetAll, None) → number_in b 0 part ≡ 0
           → Fact kinds.Counts c Sure h q (Bits ResetAll) Done b
       clear_there part rest cut none under nought =
-          Silent part rest cut none under tt nought (refl, λ sure lt. tt)
+          Silent (record { part = part; rest = rest; is = cut; none = none; under = under; may = tt; left = nought; ends = (refl, λ sure lt. tt) })
 
       -- with the end of a reset of all the history with its silent acts goes on
       end_all : (q : ℕ) → events ≡ h ++ Finished q (Bits ResetAll) Done ∷ after → IsMarked (h ++ Finished q (Bits ResetAll) Done ∷ [])
       end_all q events_are =
-          finishes kinds.Counts c Sure h q all_call Done m facts
+          finishes q all_call Done m facts
           (λ b le. let fits = here q opened.is in
           subst (λ w. Ends c (Sure b) b all_call Done w) (sym fits.is) (refl, λ sure lt. absurd (omega arith)))
         where

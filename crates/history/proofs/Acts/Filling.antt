@@ -6,7 +6,7 @@ use Rattle.history.proofs.Names.{Answer, Event, Finished, Start, Kind, BeginsNon
 use Rattle.history.specs.Acts.{Mark, Happens, Leaves, left_by, told, MayAct, Way, Ends, IsRightEvent}
 use Rattle.history.proofs.Acts.Marks.{same_number, is_number, both_true, number_at, way_at, number_in}
 use Rattle.history.proofs.Acts.Marks.{way_in, number_told, way_at_more, way_more, told_more, Cut, cut, Right}
-use Rattle.history.proofs.Acts.Marks.{right_more, put_else, way_else, put_here, way_here}
+use Rattle.history.proofs.Acts.Marks.{right_more, put_else, way_else, PutHere, put_here, way_here}
 use Rattle.laws_robust.proofs.Cases.{by_bool}
 
 module _ {T : Type 0} (kind : Kind) (capacity : ℕ) (Sure : ℕ → Type 0) where
@@ -34,7 +34,7 @@ module _ {T : Type 0} (kind : Kind) (capacity : ℕ) (Sure : ℕ → Type 0) whe
   told_one ms h e told_is = told_more ms (Happens e ∷ []) ∙ ap (λ es. es ++ e ∷ []) told_is
 
   -- an event that is right leaves marks right that were right before it
-  right_one : (ms : List (Mark T)) (h : List (Event T)) (e : Event T) → told ms ≡ h → (p b : ℕ) (way : Way T)
+  right_one : (ms : List (Mark T)) {h : List (Event T)} (e : Event T) → told ms ≡ h → (p b : ℕ) {way : Way T}
       → IsGood p b ms → way_at p b 0 None ms ≡ way → IsRightEvent kind capacity (Sure b) p b (number_in b 0 h) way e
       → IsGood p b (ms ++ Happens e ∷ [])
   right_one = grind (arith, right_more, way_at, numbers, number_in)
@@ -53,7 +53,7 @@ module _ {T : Type 0} (kind : Kind) (capacity : ℕ) (Sure : ℕ → Type 0) whe
       record {
         marks = marked.marks ++ Happens e ∷ [];
         is = told_one marked.marks h e marked.is;
-        right = λ p b. right_one marked.marks h e marked.is p b (way_in p b 0 None h) (marked.right p b) (marked.ways p b) (now p b);
+        right = λ p b. right_one marked.marks e marked.is p b (marked.right p b) (marked.ways p b) (now p b);
         ways = λ p b. way_one marked.marks h e marked.is p b (marked.ways p b);
       }
 
@@ -68,16 +68,24 @@ module _ {T : Type 0} (kind : Kind) (capacity : ℕ) (Sure : ℕ → Type 0) whe
     abbrev end : Event T
     end = Finished p start answer
 
-    -- how the call has acted on the place: by its events, or silently at a moment of the call
+    -- a silent act of the call on the place: the call is under way, has found nothing there by the end of the history, and
+    -- may act there, and at a moment of the call the place had the number that the call leaves
+    pub record SilentAct (b : ℕ) : Type 0 where
+      -- the history before and after that moment, after which the party begins no call
+      pub part : List (Event T)
+      pub rest : List (Event T)
+      pub is : h ≡ part ++ rest
+      pub none : BeginsNone p rest
+      pub under : way_in p b 0 None h ≡ Some (start, None)
+      pub may : MayAct b start
+      pub left : number_in b 0 part ≡ left_by kind start (number_in b 0 part)
+      -- with that number the call may end with its answer
+      pub ends : MayEndThere b (Some (start, Some (number_in b 0 part)))
+
+    -- how the call has acted on the place: by its events, so that it may end here as it stands, or silently
     pub data Fact (b : ℕ) : Type 0 where
-      -- the call acted by its events, so that it may end here as it stands
       Stays : MayEndThere b (way_in p b 0 None h) → Fact b
-      -- or the call has acted silently on the place: at a moment at which it was under way there
-      -- stood the number that it leaves
-      Silent : (part rest : List (Event T)) → h ≡ part ++ rest → BeginsNone p rest
-          → way_in p b 0 None h ≡ Some (start, None) → MayAct b start
-          → number_in b 0 part ≡ left_by kind start (number_in b 0 part)
-          → MayEndThere b (Some (start, Some (number_in b 0 part))) → Fact b
+      Silent : SilentAct b → Fact b
 
     -- at the places below k, the silent acts of the call are put in
     record Filled (k : ℕ) : Type 0 where
@@ -95,10 +103,9 @@ module _ {T : Type 0} (kind : Kind) (capacity : ℕ) (Sure : ℕ → Type 0) whe
     stay : (k : ℕ) → Filled k → MayEndThere k (way_in p k 0 None h) → Filled (suc k)
     stay = grind arith
 
-    module _ (k : ℕ) (f : Filled k) (part rest : List (Event T)) (is : h ≡ part ++ rest) (none : BeginsNone p rest)
-        (under : way_in p k 0 None h ≡ Some (start, None)) (may : MayAct k start)
-        (left : number_in k 0 part ≡ left_by kind start (number_in k 0 part))
-        (ends : MayEndThere k (Some (start, Some (number_in k 0 part)))) where
+    module _ (k : ℕ) (f : Filled k) (silent : SilentAct k) where
+      open silent use {part, rest, is, none, under, may, left, ends}
+
       -- the marks, cut at the moment of the silent act
       c : Cut f.marks part rest
       c = cut f.marks part (f.is ∙ is)
@@ -135,9 +142,13 @@ module _ {T : Type 0} (kind : Kind) (capacity : ℕ) (Sure : ℕ → Type 0) whe
       left_there : number_at k 0 first ≡ left_by kind start (number_at k 0 first)
       left_there = subst (λ n. n ≡ left_by kind start n) (sym there) left
 
+      -- the silent act can be put between the marks
+      fits : PutHere kind capacity Sure p k start first second
+      fits = record { right = was p k; late = late; none = calm; may = may; left = left_there }
+
       -- with the silent act the marks are right for this party and place
       right_here : IsGood p k new
-      right_here = put_here kind capacity Sure p k start first second (was p k) late calm may left_there
+      right_here = put_here kind capacity Sure p k start fits
 
       -- with the silent act put in, the marks are still right for each party and place
       right_new : (q b : ℕ) → IsGood q b new
@@ -145,11 +156,13 @@ module _ {T : Type 0} (kind : Kind) (capacity : ℕ) (Sure : ℕ → Type 0) whe
           by_bool (p == q && k == b)
           (λ t. let both = both_true (p == q) (k == b) t in
           subst (λ z. IsGood z b new) (is_number p q both.0) (subst (λ z. IsGood p z new) (is_number k b both.1) right_here))
-          (λ t. put_else kind capacity Sure p k q b t 0 None first second (was q b))
+          (λ t. let right_else = put_else kind capacity Sure p k q b t in right_else 0 None first second (was q b))
 
       -- at another place or for another party the silent act changes no way
       elsewhere : (q b : ℕ) → (p == q && k == b) ≡ false → way_at q b 0 None new ≡ way_at q b 0 None f.marks
-      elsewhere q b test_is = way_else kind capacity Sure p k q b test_is 0 None first second ∙ ap (way_at q b 0 None) (sym c.is)
+      elsewhere q b test_is =
+          let same_else = way_else kind capacity Sure p k q b test_is in
+          same_else 0 None first second ∙ ap (way_at q b 0 None) (sym c.is)
 
       -- an act of party p is none of another party
       other_party : (q b : ℕ) → q ≢ p → (p == q && k == b) ≡ false
@@ -177,7 +190,7 @@ module _ {T : Type 0} (kind : Kind) (capacity : ℕ) (Sure : ℕ → Type 0) whe
               ⊎_elim
               (λ (same : b ≡ k).
               subst (λ z. MayEndThere z (way_at p z 0 None new)) (sym same)
-              (subst (MayEndThere k) (sym (way_here kind capacity Sure p k start first second (was p k) late calm may left_there
+              (subst (MayEndThere k) (sym (way_here kind capacity Sure p k start fits
               ∙ ap (λ (n : ℕ). Some (start, Some n)) there))
               ends))
               (λ (ne : b ≢ k). subst (MayEndThere b) (sym (elsewhere p b (other_place b ne))) (f.done b (omega arith)))
@@ -201,14 +214,14 @@ module _ {T : Type 0} (kind : Kind) (capacity : ℕ) (Sure : ℕ → Type 0) whe
     fill (suc k) marked facts = one_more k (fill k marked (λ b lt. facts b (omega arith))) (facts k (omega arith))
 
     -- a call may end whose act at each place below the capacity is known
-    pub finishes : Marked h → ((b : ℕ) → b < capacity → Fact b)
+    ends_marked : Marked h → ((b : ℕ) → b < capacity → Fact b)
         → ((b : ℕ) → capacity ≤ b → MayEndThere b (way_in p b 0 None h)) → Marked (h ++ Finished p start answer ∷ [])
-    finishes marked facts far =
+    ends_marked marked facts far =
         record {
           marks = f.marks ++ Happens end ∷ [];
           is = told_one f.marks h end f.is;
           right =
-              λ q b. right_one f.marks h end f.is q b (way_at q b 0 None f.marks) (f.right q b) refl
+              λ q b. right_one f.marks end f.is q b (f.right q b) refl
               (λ same. subst (λ z. MayEndThere b (way_at z b 0 None f.marks)) same (done b));
           ways = ways;
         }
@@ -227,3 +240,11 @@ module _ {T : Type 0} (kind : Kind) (capacity : ℕ) (Sure : ℕ → Type 0) whe
             by_bool (p == q)
             (λ t. grind (arith, way_at_more, cond, way_at, way_in, way_more))
             (λ t. way_one f.marks h end f.is q b (f.others q b (λ e. (let yes : (p == q) ≡ true = ap (λ z. p == z) e ∙ same_number p in absurd (cc)))))
+
+-- with the end of a call whose act at each place below the capacity is known, and that may end as it stands at
+-- the others, the history can still be marked
+pub finishes : {T : Type 0} {kind : Kind} {capacity : ℕ} {Sure : ℕ → Type 0} {h : List (Event T)} (p : ℕ) (start : Start T) (answer : Answer T)
+    → Marked kind capacity Sure h → ((b : ℕ) → b < capacity → Fact kind capacity Sure h p start answer b)
+    → ((b : ℕ) → capacity ≤ b → Ends capacity (Sure b) b start answer (way_in p b 0 None h))
+    → Marked kind capacity Sure (h ++ Finished p start answer ∷ [])
+finishes {kind = kind} {capacity = capacity} {Sure = Sure} {h = h} p start answer = ends_marked kind capacity Sure h p start answer

@@ -233,9 +233,18 @@ module _ {T : Type 0} (kind : Kind) (capacity : ℕ) (Sure : ℕ → Type 0) whe
           stays = λ other. more.stays (cond (does p b f) (found_now n other) other) ∙ ap (λ z. cond z (found_now n other) other) t;
         }
 
-    module _ (ms ns : List (Mark T)) (right : Right p b 0 None (ms ++ ns))
-        (late : way_at p b 0 None (ms ++ ns) ≡ Some (start, None)) (none : BeginsNone p (told ns))
-        (may : MayAct b start) (left : number_at b 0 ms ≡ left_by kind start (number_at b 0 ms)) where
+    -- a silent act of the call can be put between `ms` and `ns`: both together are right, the call has found nothing on the
+    -- place by their end and began before `ns`, and the act leaves the number that the place has behind `ms`
+    pub record PutHere (ms ns : List (Mark T)) : Type 0 where
+      pub right : Right p b 0 None (ms ++ ns)
+      pub late : way_at p b 0 None (ms ++ ns) ≡ Some (start, None)
+      pub none : BeginsNone p (told ns)
+      pub may : MayAct b start
+      pub left : number_at b 0 ms ≡ left_by kind start (number_at b 0 ms)
+
+    module _ {ms ns : List (Mark T)} (fits : PutHere ms ns) where
+      open fits use {right, late, none, may, left}
+
       -- the number of the place at the silent act
       abbrev n : ℕ
       n = number_at b 0 ms

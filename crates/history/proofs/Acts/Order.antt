@@ -117,7 +117,7 @@ module _ {T : Type 0} where
             omega (arith, length-append before (Begun p start ∷ (called.during ++ end ∷ [])), length-append called.during (end ∷ []))
 
   -- a call that ended in what a pass had seen as it made the next one stands before that
-  pub in_order : (p q : ℕ) (s t : Start T) (a b : Answer T) (old new later last : View T) (history : List (Event T))
+  pub in_order : {p q : ℕ} {s t : Start T} {a b : Answer T} {old new later last : View T} {history : List (Event T)}
       (x : StandsIn p s a old new history) (y : StandsIn q t b later last history)
       → IsBeginning new.seen later.seen → Precedes x.call y.call
   in_order = grind (arith, length, length-append)

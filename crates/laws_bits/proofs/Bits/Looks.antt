@@ -30,7 +30,7 @@ module _ {T : Type 0} (code : Coding T) {c : ℕ} (scene : SetScene T) (holds : 
   -- the one step of a look ends it, with whether its bit stands
   pub look_step : steps ≤ 0 → backs + since ≤ changes → ShowsStep bit_set code c scene [] (starts.IsSet bit) (look_at bit)
   look_step few paid =
-      ends code c scene [] (starts.IsSet bit) (Some loading) false (answers.Truth (has_flag (get_or s.words (element_of bit) 0) bit))
+      ends (Some loading) false (answers.Truth (has_flag (get_or s.words (element_of bit) 0) bit))
       (same_bits code c scene (Some loading) (load_leaves s.words (element_of bit)))
       (ap (λ (ws : List ℕ). get_or ws 0 0) (load_leaves s.words (element_of bit)))
       (below, seen) refl (omega arith) (omega arith)

@@ -88,7 +88,7 @@ module _ {T : Type 0} (code : Coding T) {c : ℕ} (scene : SetScene T) (holds : 
     -- a reset that has found each place clear at a moment of its own ends with none
     comes_none : Passed c p start c events → steps + 1 ≤ 3 + c + (backs + one_if back) → ShowsWith [] (Some a) back (Done answers.ResetNone) []
     comes_none held few =
-        ends code c scene [] next (Some a) back answers.ResetNone (same_bits code c scene (Some a) same) (ap (λ ws. get_or ws 0 0) same)
+        ends (Some a) back answers.ResetNone (same_bits code c scene (Some a) same) (ap (λ ws. get_or ws 0 0) same)
         all refl few paid
       where
         -- each place below the capacity was clear at a moment of the call
@@ -103,7 +103,7 @@ module _ {T : Type 0} (code : Coding T) {c : ℕ} (scene : SetScene T) (holds : 
         → has_flag found (place_after c start passed) ≡ true
         → ShowsWith [] (Some a) back (GoOn (next_at c (resetting.ExchangesElement start passed found))) []
     exchanges passed found held few below is flag_set =
-        goes_on code c scene next (Some a) back (next_at c (resetting.ExchangesElement start passed found))
+        goes_on (Some a) back (next_at c (resetting.ExchangesElement start passed found))
         (same_bits code c scene (Some a) same) (ap (λ ws. get_or ws 0 0) same)
         few refl (refl, (low, below, flag_set)) (
           (omega arith, λ ne. absurd (ne (ap (λ ws. get_or ws (element_of (place_after c start passed)) 0) same ∙ is))),
@@ -322,7 +322,7 @@ module _ {T : Type 0} (code : Coding T) {c : ℕ} (scene : SetScene T) (holds : 
   stores : {place : ℕ} → backs + since ≤ changes → CameTo p c place events → steps ≤ 2 + c + backs
       → StageShows (Cleared p place ∷ []) (resetting.StoresPosition place)
   stores {place} paid came few =
-      ends code c scene (Cleared p place ∷ []) next (Some (record { word = 0; op = Store (after_position place) })) false (answers.Reset place)
+      ends (Some (record { word = 0; op = Store (after_position place) })) false (answers.Reset place)
       (λ b. stands_elsewhere s.words 0 (after_position place) b (λ e. elements_after b (sym e))) stored came (refl, one) (omega arith) (omega arith)
     where
       -- the store writes the position behind the place

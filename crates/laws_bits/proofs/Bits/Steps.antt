@@ -51,38 +51,6 @@ module _ {T : Type 0} (code : Coding T) (c : ℕ) (scene : SetScene T) where
       rest_preserves
       (as_long s.words ask) same no_sets no_clears position (pays_by s.words ask changes) right
 
-  -- a call that has written nothing goes on, and its step changes no bit
-  pub goes_on :
-      (start : BitsStart) (ask : Option Ask) (back : Bool) (flight : BitsFlight) → SameBits ask → Stands ask []
-      → steps + step_count ask ≤ number_of flight (backs + one_if back)
-      → [] ≡ call_wrote p flight (span_of p (events ++ [])) → CallAt c (wrote_in (span_of p (events ++ []))) start flight
-      → KnowsCall p (events ++ []) (words_after s.words ask) (since + change_of s.words ask) (changes + change_of s.words ask) (backs + one_if back) flight
-      → ShowsWith [] start ask back (GoOn flight) []
-  goes_on start ask back flight same position few none at knows =
-      record {
-        preserves = no_change ask same (λ b. refl) (λ b. refl) position tt;
-        own = tt;
-        stands = tt;
-        here = record { span = ap (λ es. Open (Bits start) es) none; steps = few; at = at };
-        knows = knows;
-      }
-
-  -- a call ends, and its step changes no bit
-  pub ends :
-      (wrote : List (Event T)) (start : BitsStart) (ask : Option Ask) (back : Bool) (answer : Answer T)
-      → SameBits ask → Stands ask (Finished p (Bits start) answer ∷ [])
-      → BitsAnswerRight c events (Finished p (Bits start) answer) → BitsWrote c (Bits start) answer wrote
-      → steps + step_count ask ≤ most_bits_steps c start (backs + one_if back) → backs + one_if back + since ≤ changes
-      → ShowsWith wrote start ask back (Done answer) []
-  ends wrote start ask back answer same position right says few paid =
-      record {
-        preserves = no_change ask same (λ b. refl) (λ b. refl) position (right, tt);
-        own = (refl, tt);
-        stands = ((refl, says), tt);
-        here = record { answer = answer; wrote = wrote; span = refl; steps = few };
-        knows = omega arith;
-      }
-
   -- a step keeps the invariant if `ShowsWith` holds of what is told of it: whether it turns back, what becomes of
   -- the call, and what it writes
   pub by_parts :
@@ -93,3 +61,39 @@ module _ {T : Type 0} (code : Coding T) (c : ℕ) (scene : SetScene T) where
       → effects_of p flight (old_of s.words (ask_of (want flight))) ≡ fx
       → ShowsWith before start (ask_of (want flight)) back then fx → StageShows before start flight
   by_parts = grind arith
+
+-- a step of the scene's party changes no bit
+module _ {T : Type 0} {code : Coding T} {c : ℕ} {scene : SetScene T} where
+  open scene use {state as s, events, party as p, changes, since, steps, backs}
+
+  -- a call that has written nothing goes on, and its step changes no bit
+  pub goes_on :
+      {start : BitsStart} (ask : Option Ask) (back : Bool) (flight : BitsFlight) → SameBits code c scene ask → Stands code c scene ask []
+      → steps + step_count ask ≤ number_of flight (backs + one_if back)
+      → [] ≡ call_wrote p flight (span_of p (events ++ [])) → CallAt c (wrote_in (span_of p (events ++ []))) start flight
+      → KnowsCall p (events ++ []) (words_after s.words ask) (since + change_of s.words ask) (changes + change_of s.words ask) (backs + one_if back) flight
+      → StepShows bit_set code c scene [] start ask back (GoOn flight) []
+  goes_on {start} ask back flight same position few none at knows =
+      record {
+        preserves = no_change code c scene ask same (λ b. refl) (λ b. refl) position tt;
+        own = tt;
+        stands = tt;
+        here = record { span = ap (λ es. Open (Bits start) es) none; steps = few; at = at };
+        knows = knows;
+      }
+
+  -- a call ends, and its step changes no bit
+  pub ends :
+      {wrote : List (Event T)} {start : BitsStart} (ask : Option Ask) (back : Bool) (answer : Answer T)
+      → SameBits code c scene ask → Stands code c scene ask (Finished p (Bits start) answer ∷ [])
+      → BitsAnswerRight c events (Finished p (Bits start) answer) → BitsWrote c (Bits start) answer wrote
+      → steps + step_count ask ≤ most_bits_steps c start (backs + one_if back) → backs + one_if back + since ≤ changes
+      → StepShows bit_set code c scene wrote start ask back (Done answer) []
+  ends {wrote} ask back answer same position right says few paid =
+      record {
+        preserves = no_change code c scene ask same (λ b. refl) (λ b. refl) position (right, tt);
+        own = (refl, tt);
+        stands = ((refl, says), tt);
+        here = record { answer = answer; wrote = wrote; span = refl; steps = few };
+        knows = omega arith;
+      }

@@ -14,8 +14,7 @@ pub oldest : (c : ℕ) (k : Core ℕ) → Good 1 words_of_index (c + 1) k → 0 
     → (rest : List ℕ) × (k.waiting ≡ get_or k.cells (k.read % (c + 1)) 0 ∷ rest)
 oldest c k good some =
     let front_is = first_of_some k.waiting some in
-    let old : get_or k.cells (1 * (k.read % (c + 1)) + 0) 0 ≡ front_is.0 =
-    front 1 words_of_index (c + 1) k front_is.0 front_is.1 front_is.2 good 0 (omega arith) in
+    let old : get_or k.cells (1 * (k.read % (c + 1)) + 0) 0 ≡ front_is.0 = front good front_is.2 0 (omega arith) in
     let place : 1 * (k.read % (c + 1)) + 0 ≡ k.read % (c + 1) = omega arith in
     let cell : get_or k.cells (k.read % (c + 1)) 0 ≡ front_is.0 = rw (← place) old in
     (front_is.1, front_is.2 ∙ ap (λ (n : ℕ). n ∷ front_is.1) (sym cell))

@@ -21,7 +21,7 @@ use Rattle.laws_queues.proofs.Queues.Core.{word_at}
 use Rattle.laws_queues.proofs.Overflow.Knows.{overflow_pop_at, KnowsOverflowPop, KnowsBacks, overflow_pop_number}
 use Rattle.laws_queues.proofs.Queues.Knows.{free, layout}
 use Rattle.laws_queues.proofs.Queues.Pending.{nothing_waits}
-use Rattle.laws_queues.proofs.Queues.Stages.{party_then, DoesStep, Moves, MovesOf, still_hangs, quiet, alone}
+use Rattle.laws_queues.proofs.Queues.Stages.{party_then, DoesStep, Moves, MovesOf, still_hangs, same_queue, quiet, alone}
 use Rattle.laws_queues.proofs.Overflow.Takes.{takes_it}
 
 -- The party `p` holds the consumer's role and has a pop under way. `c` is the capacity, `k` the queue
@@ -84,7 +84,7 @@ module _ {T : Type 0} {en : Coding T} {scene : Scene T kinds.Overflow}
             lengths = (tt, (tt, tt));
             -- the queue afterwards, and the list that its calls answer as
             good = inv.queue.good;
-            hangs = still_hangs en kinds.Overflow scene inv small k (after_it ask false (Done PoppedNone)) refl refl refl (calm k.read);
+            hangs = still_hangs inv k (after_it ask false (Done PoppedNone)) refl refl refl (calm k.read);
             out = omega arith;
             book = append-nil (map Index k.waiting);
             goes = rw list refl;
@@ -104,21 +104,31 @@ module _ {T : Type 0} {en : Coding T} {scene : Scene T kinds.Overflow}
     loads_read : 0 < c → steps ≤ 2 * backs + 0 → backs + since ≤ changes
         → StepKeeps (Some load_of_read) false (GoOn (at (overflow_pops.LoadsWrite k.read))) Quiet
     loads_read some few_steps paid =
-        quiet en kinds.Overflow scene inv small (calm k.read) false Pop (Some load_of_read)
-        (at (overflow_pops.LoadsWrite k.read)) k refl refl refl refl inv.queue.good refl
-        (record { span = refl; steps = omega arith; at = (holds, refl, (some, omega arith, λ less. absurd (omega arith))) })
-        (omega arith, omega arith)
-        (λ q ne st f h. (h, refl))
+        quiet inv small (calm k.read) (same_queue inv) (record {
+          start = Pop;
+          ask = Some load_of_read;
+          back = false;
+          flight = at (overflow_pops.LoadsWrite k.read);
+          calm = refl;
+          words = refl;
+          here = record { span = refl; steps = omega arith; at = (holds, refl, (some, omega arith, λ less. absurd (omega arith))) };
+          knows = (omega arith, omega arith);
+        })
 
     -- the load of the write position goes on to the load of the cell, where something waits
     goes_on : (read : ℕ) → 0 < c → read ≤ k.read → k.read < k.write → steps ≤ 2 * backs + 1 → backs + since + k.read ≤ changes + read
         → StepKeeps (Some load_of_write) false (GoOn (at (overflow_pops.LoadsCell read))) Quiet
     goes_on read some low waits few_steps paid =
-        quiet en kinds.Overflow scene inv small (calm k.read) false Pop (Some load_of_write)
-        (at (overflow_pops.LoadsCell read)) k refl refl refl refl inv.queue.good refl
-        (record { span = refl; steps = omega arith; at = (holds, refl, (some, low, waits)) })
-        (low, omega arith)
-        (λ q ne st f h. (h, refl))
+        quiet inv small (calm k.read) (same_queue inv) (record {
+          start = Pop;
+          ask = Some load_of_write;
+          back = false;
+          flight = at (overflow_pops.LoadsCell read);
+          calm = refl;
+          words = refl;
+          here = record { span = refl; steps = omega arith; at = (holds, refl, (some, low, waits)) };
+          knows = (low, omega arith);
+        })
 
     -- the load of the write position ends the pop with None where nothing waits, and else leads on to the
     -- load of the cell
@@ -158,21 +168,24 @@ module _ {T : Type 0} {en : Coding T} {scene : Scene T kinds.Overflow}
         let old = oldest c k queue_good (omega arith) in
         let same : words_after (layout ro k) (Some (record { word = cell_word c read; op = Load })) ≡ layout ro k =
         set-get_or (layout ro k) (cell_word c read) 0 in
-        quiet en kinds.Overflow scene inv small (calm k.read) false Pop
-        (Some (record { word = cell_word c read; op = Load }))
-        (with_value (get_or k.cells (read % (c + 1)) 0) (overflow_pops.MovesRead read)) k refl refl refl
-        refl inv.queue.good same
-        (record {
-          span = refl;
-          steps = omega arith;
-          at = (
-            holds,
-            refl,
-            (some, low, waits, λ here. (old.0, subst (λ r. k.waiting ≡ get_or k.cells (r % (c + 1)) 0 ∷ old.0) (sym here) old.1)),
-          );
+        quiet inv small (calm k.read) (same_queue inv) (record {
+          start = Pop;
+          ask = Some (record { word = cell_word c read; op = Load });
+          back = false;
+          flight = with_value (get_or k.cells (read % (c + 1)) 0) (overflow_pops.MovesRead read);
+          calm = refl;
+          words = same;
+          here = record {
+            span = refl;
+            steps = omega arith;
+            at = (
+              holds,
+              refl,
+              (some, low, waits, λ here. (old.0, subst (λ r. k.waiting ≡ get_or k.cells (r % (c + 1)) 0 ∷ old.0) (sym here) old.1)),
+            );
+          };
+          knows = (low, omega arith);
         })
-        (low, omega arith)
-        (λ q ne st f h. (h, refl))
 
     -- the exchange that moves the read position from `read` to the next
     abbrev asks_move : ℕ → Option Ask
@@ -184,11 +197,16 @@ module _ {T : Type 0} {en : Coding T} {scene : Scene T kinds.Overflow}
         → StepKeeps (asks_move read) true (GoOn (at (overflow_pops.LoadsCell k.read))) Quiet
     moves_back read some moved waits few_steps paid =
         let is_other : (k.read == read) ≡ false = (let apart : k.read ≢ read = λ e. absurd (omega arith) in grind (arith, nat_tests)) in
-        quiet en kinds.Overflow scene inv small (calm k.read) true Pop (asks_move read)
-        (at (overflow_pops.LoadsCell k.read)) k refl refl refl refl inv.queue.good (rw is_other refl)
-        (record { span = refl; steps = omega arith; at = (holds, refl, (some, omega arith, waits)) })
-        (omega arith, omega arith)
-        (λ q ne st f h. (h, refl))
+        quiet inv small (calm k.read) (same_queue inv) (record {
+          start = Pop;
+          ask = asks_move read;
+          back = true;
+          flight = at (overflow_pops.LoadsCell k.read);
+          calm = refl;
+          words = rw is_other refl;
+          here = record { span = refl; steps = omega arith; at = (holds, refl, (some, omega arith, waits)) };
+          knows = (omega arith, omega arith);
+        })
 
     -- the exchange of the read position succeeds and the pop takes the oldest value, or it fails, as a push
     -- has moved the position, and the pop turns back
@@ -225,7 +243,7 @@ module _ {T : Type 0} {en : Coding T} {scene : Scene T kinds.Overflow}
             let goes : after en (at (overflow_pops.MovesRead read)) k.read ≡ GoOn (at (overflow_pops.LoadsCell k.read)) = rw e refl in
             let back : goes_back (at (overflow_pops.MovesRead read)) k.read ≡ true = rw e refl in
             let told : effect_of en (layout ro k) waits (at (overflow_pops.MovesRead read)) k.read ≡ Quiet = rw e refl in
-            rw (back, goes, told) (alone en kinds.Overflow scene inv [] (asks_move read) true
+            rw (back, goes, told) (alone inv (asks_move read) true
             (GoOn (at (overflow_pops.LoadsCell k.read))) Quiet seen
             (moves_back read knows.0 (omega arith) knows.2 few_steps paid))
 
@@ -234,7 +252,7 @@ module _ {T : Type 0} {en : Coding T} {scene : Scene T kinds.Overflow}
   -- a step that writes events of `p` alone keeps the invariant
   by_itself : (ask : Option Ask) (after : After (QueueFlight T) (Answer T)) (effect : Effect T)
       → span_of p events ≡ Open (Queues Pop) [] → StepKeeps ask false after effect → ActingStepKeeps ask false after effect
-  by_itself ask after effect seen step = alone en kinds.Overflow scene inv [] ask false after effect seen step
+  by_itself ask after effect seen step = alone inv ask false after effect seen step
 
   -- the call of `p` is a pop, so `p` has no pending push
   calm_at : (stage : PopStage)

@@ -18,7 +18,7 @@ use Rattle.laws_queues.proofs.Queues.Core as core
 use Rattle.laws_queues.proofs.Queues.Core.{Core, Holds, Good, publishes}
 use Rattle.laws_queues.proofs.Overflow.Knows.{overflow_push_at}
 use Rattle.laws_queues.proofs.Queues.Knows.{free, layout, Hangs}
-use Rattle.laws_queues.proofs.Queues.Keeping.{clash, kept}
+use Rattle.laws_queues.proofs.Queues.Keeping.{clash, same_roles, kept}
 use Rattle.laws_queues.proofs.Queues.Pending.{pending_after, none_hangs}
 use Rattle.laws_queues.proofs.Queues.Stages.{party_then, DoesStep}
 use Rattle.laws_queues.proofs.Overflow.Keeping.{publish_keeps_pop}
@@ -58,7 +58,7 @@ module _ {T : Type 0} {en : Coding T} {scene : Scene T kinds.Overflow}
 
     -- the queue with the value published is right
     good_publish : Good 1 words_of_index (c + 1) after_publish
-    good_publish = let g = inv.queue.good in let write = g.write in publishes 1 words_of_index (c + 1) k v (omega arith) g whole
+    good_publish = let g = inv.queue.good in let write = g.write in publishes g v (omega arith) whole
 
     -- the write position after the step is one more, without a wrap
     next_is : after_position k.write ≡ k.write + 1
@@ -112,7 +112,7 @@ module _ {T : Type 0} {en : Coding T} {scene : Scene T kinds.Overflow}
             knows = omega arith;
             up = record { write = omega arith; read = omega arith; paid = omega arith };
             others =
-                λ q ne. kept ro ro q (λ h. h) (λ h. h) en c kinds.Overflow k after_publish (record {
+                λ q ne. kept (same_roles ro q) en c kinds.Overflow k after_publish (record {
                   push = λ mine w stage h. absurd (clash ro.producer p q ne holds mine);
                   pop = λ mine other stage h. publish_keeps_pop c k v other stage h;
                 });
@@ -162,7 +162,7 @@ module _ {T : Type 0} {en : Coding T} {scene : Scene T kinds.Overflow}
             knows = omega arith;
             up = record { write = omega arith; read = omega arith; paid = omega arith };
             others =
-                λ q ne. kept ro ro q (λ h. h) (λ h. h) en c kinds.Overflow k after_publish (record {
+                λ q ne. kept (same_roles ro q) en c kinds.Overflow k after_publish (record {
                   push = λ mine w stage h. absurd (clash ro.producer p q ne holds mine);
                   pop = λ mine other stage h. publish_keeps_pop c k v other stage h;
                 });
@@ -216,7 +216,7 @@ module _ {T : Type 0} {en : Coding T} {scene : Scene T kinds.Overflow}
             knows = omega arith;
             up = record { write = omega arith; read = omega arith; paid = omega arith };
             others =
-                λ q ne. kept ro ro q (λ h. h) (λ h. h) en c kinds.Overflow k after_publish (record {
+                λ q ne. kept (same_roles ro q) en c kinds.Overflow k after_publish (record {
                   push = λ mine w stage h. absurd (clash ro.producer p q ne holds mine);
                   pop = λ mine other stage h. publish_keeps_pop c k v other stage h;
                 });

@@ -21,9 +21,9 @@ use Rattle.laws_queues.proofs.Overflow.Core.{none_passes, one_passes, oldest, pu
 use Rattle.laws_queues.proofs.Queues.Core.{Holds, filled, taken, fills, one_filled, takes, word_at, set_at}
 use Rattle.laws_queues.proofs.Overflow.Knows.{overflow_push_at, IsFreshOver, KnowsOverflowPush, overflow_push_number}
 use Rattle.laws_queues.proofs.Queues.Knows.{free, layout, has_written}
-use Rattle.laws_queues.proofs.Queues.Keeping.{clash, kept}
+use Rattle.laws_queues.proofs.Queues.Keeping.{clash, same_roles, kept}
 use Rattle.laws_queues.proofs.Queues.Pending.{pending_after, few_wait, none_hangs}
-use Rattle.laws_queues.proofs.Queues.Stages.{party_then, DoesStep, Moves, MovesOf, still_hangs, quiet, alone}
+use Rattle.laws_queues.proofs.Queues.Stages.{party_then, DoesStep, Moves, MovesOf, still_hangs, SameQueue, same_queue, quiet, alone}
 use Rattle.laws_queues.proofs.Overflow.Publishes.{stores_write}
 use Rattle.laws_queues.proofs.Overflow.Keeping.{fill_keeps_pop, take_keeps_pop}
 
@@ -92,7 +92,7 @@ module _ {T : Type 0} {en : Coding T} {scene : Scene T kinds.Overflow}
       lengths = (tt, (tt, tt));
       -- the queue afterwards, and the list that its calls answer as
       good = inv.queue.good;
-      hangs = still_hangs en kinds.Overflow scene inv small k (after_it None (Done (PoppedIndex v))) refl refl refl calm;
+      hangs = still_hangs inv k (after_it None (Done (PoppedIndex v))) refl refl refl calm;
       out = omega arith;
       book = append-nil (map Index k.waiting);
       goes = rw none refl;
@@ -121,11 +121,16 @@ module _ {T : Type 0} {en : Coding T} {scene : Scene T kinds.Overflow}
       let low = inv.queue.reached in
       let not_last : (k.write == 2 ^ 64 - 1) ≡ false = grind (arith, nat_tests) in
       let goes : after en (at overflow_pushes.LoadsWrite) k.write ≡ GoOn (at (overflow_pushes.LoadsRead k.write)) = rw not_last refl in
-      rw goes (quiet en kinds.Overflow scene inv small calm false (PushIndex v) (Some load_of_write)
-      (at (overflow_pushes.LoadsRead k.write)) k refl refl refl refl inv.queue.good refl
-      (record { span = refl; steps = omega arith; at = (holds, refl, refl, (some, refl, fresh)) })
-      (omega arith)
-      (λ q ne st f h. (h, refl)))
+      rw goes (quiet inv small calm (same_queue inv) (record {
+        start = PushIndex v;
+        ask = Some load_of_write;
+        back = false;
+        flight = at (overflow_pushes.LoadsRead k.write);
+        calm = refl;
+        words = refl;
+        here = record { span = refl; steps = omega arith; at = (holds, refl, refl, (some, refl, fresh)) };
+        knows = omega arith;
+      }))
 
   -- the load of the read position changes no word, and the push goes on to store its value into the cell of
   -- the write position
@@ -135,11 +140,16 @@ module _ {T : Type 0} {en : Coding T} {scene : Scene T kinds.Overflow}
       let below = few calm in
       let queue_good = inv.queue.good in
       let write = queue_good.write in
-      quiet en kinds.Overflow scene inv small calm false (PushIndex v) (Some load_of_read)
-      (at (overflow_pushes.StoresCell k.write k.read)) k refl refl refl refl inv.queue.good refl
-      (record { span = refl; steps = omega arith; at = (holds, refl, refl, (some, refl, omega arith, omega arith, fresh)) })
-      (omega arith)
-      (λ q ne st f h. (h, refl))
+      quiet inv small calm (same_queue inv) (record {
+        start = PushIndex v;
+        ask = Some load_of_read;
+        back = false;
+        flight = at (overflow_pushes.StoresCell k.write k.read);
+        calm = refl;
+        words = refl;
+        here = record { span = refl; steps = omega arith; at = (holds, refl, refl, (some, refl, omega arith, omega arith, fresh)) };
+        knows = omega arith;
+      })
 
   -- the store into the cell of the write position keeps the invariant, and the push goes on to store the
   -- next write position; `read` is the read position that it loaded, which can have moved on since
@@ -149,25 +159,36 @@ module _ {T : Type 0} {en : Coding T} {scene : Scene T kinds.Overflow}
       let queue_good = inv.queue.good in
       let write = queue_good.write in
       let none : Holds 1 words_of_index (c + 1) k.cells k.write v 0 = λ i h. absurd (omega arith) in
-      let good = fills 1 words_of_index (c + 1) k 0 v (omega arith) (omega arith) queue_good in
+      let good = fills queue_good 0 v (omega arith) (omega arith) in
       let place : cell_word c k.write ≡ 4 + (1 * (k.write % (c + 1)) + 0) = omega arith in
-      quiet en kinds.Overflow scene inv small calm false (PushIndex v)
-      (Some (record { word = cell_word c k.write; op = Store v }))
-      (at (overflow_pushes.StoresWrite k.write read)) (filled 1 words_of_index (c + 1) k 0 v) refl refl
-      refl refl good
-      (set_at k.write k.read (free ro.producer) (free ro.consumer) k.cells (cell_word c k.write) (1 * (k.write % (c + 1)) + 0) v place)
-      (record {
-        span = refl;
-        steps = omega arith;
-        at =
-            (holds, refl, refl, (some, refl, low, far, one_filled 1 words_of_index (c + 1) k v 0 (omega arith) (omega arith) queue_good none, fresh));
+      let stored = filled 1 words_of_index (c + 1) k 0 v in
+      let same : SameQueue en kinds.Overflow scene stored =
+      record {
+        waits = refl;
+        write = refl;
+        read = refl;
+        good = good;
+        others =
+            λ q ne. kept (same_roles ro q) en c kinds.Overflow k stored (record {
+              push = λ mine w stage h. absurd (clash ro.producer p q ne holds mine);
+              pop = λ mine other stage h. fill_keeps_pop c k 0 v other stage h;
+            });
+      } in
+      quiet inv small calm same (record {
+        start = PushIndex v;
+        ask = Some (record { word = cell_word c k.write; op = Store v });
+        back = false;
+        flight = at (overflow_pushes.StoresWrite k.write read);
+        calm = refl;
+        words = set_at k.write k.read (free ro.producer) (free ro.consumer) k.cells (cell_word c k.write) (1 * (k.write % (c + 1)) + 0) v place;
+        here = record {
+          span = refl;
+          steps = omega arith;
+          at =
+              (holds, refl, refl, (some, refl, low, far, one_filled queue_good v 0 (omega arith) (omega arith) none, fresh));
+        };
+        knows = omega arith;
       })
-      (omega arith)
-      (λ q ne. kept ro ro q (λ h. h) (λ h. h) en c kinds.Overflow k
-      (filled 1 words_of_index (c + 1) k 0 v) (record {
-        push = λ mine w stage h. absurd (clash ro.producer p q ne holds mine);
-        pop = λ mine other stage h. fill_keeps_pop c k 0 v other stage h;
-      }))
 
   -- ---- the move of the read position
 
@@ -209,7 +230,7 @@ module _ {T : Type 0} {en : Coding T} {scene : Scene T kinds.Overflow}
           right = (tt, (tt, tt));
           lengths = (tt, (tt, tt));
           -- the queue afterwards, and the list that its calls answer as
-          good = takes 1 words_of_index (c + 1) k (get_or k.cells (k.read % (c + 1)) 0) rest first queue_good;
+          good = takes queue_good first;
           hangs =
               none_hangs T kinds.Overflow c (taken 1 words_of_index (c + 1) k rest) _
               (pending_after (k.read + 1) p ro.producer holds _ latest) (omega arith);
@@ -222,7 +243,7 @@ module _ {T : Type 0} {en : Coding T} {scene : Scene T kinds.Overflow}
           knows = omega arith;
           up = record { write = omega arith; read = omega arith; paid = omega arith };
           others =
-              λ q ne. kept ro ro q (λ h. h) (λ h. h) en c kinds.Overflow k
+              λ q ne. kept (same_roles ro q) en c kinds.Overflow k
               (taken 1 words_of_index (c + 1) k rest) (record {
                 push = λ mine w stage h. absurd (clash ro.producer p q ne holds mine);
                 pop = λ mine other stage h. take_keeps_pop c k rest far other stage h;
@@ -254,7 +275,7 @@ module _ {T : Type 0} {en : Coding T} {scene : Scene T kinds.Overflow}
           lengths = (tt, tt);
           -- the queue afterwards, and the list that its calls answer as
           good = inv.queue.good;
-          hangs = still_hangs en kinds.Overflow scene inv small k (after_it ask (Done PoppedNone)) refl refl refl calm;
+          hangs = still_hangs inv k (after_it ask (Done PoppedNone)) refl refl refl calm;
           out = omega arith;
           book = append-nil (map Index k.waiting);
           goes = refl;
@@ -312,7 +333,7 @@ module _ {T : Type 0} {en : Coding T} {scene : Scene T kinds.Overflow}
           lengths = (tt, tt);
           -- the queue afterwards, and the list that its calls answer as
           good = inv.queue.good;
-          hangs = still_hangs en kinds.Overflow scene inv small k (after_it ask (Done (PoppedIndex (oldest_at read)))) refl refl refl calm;
+          hangs = still_hangs inv k (after_it ask (Done (PoppedIndex (oldest_at read)))) refl refl refl calm;
           out = omega arith;
           book = append-nil (map Index k.waiting);
           goes = refl;
@@ -339,7 +360,7 @@ module _ {T : Type 0} {en : Coding T} {scene : Scene T kinds.Overflow}
   by_itself : (wrote : List (Event T)) (ask : Option Ask) (after : After (QueueFlight T) (Answer T)) (effect : Effect T)
       → span_of p events ≡ Open (Queues (PushIndex v)) wrote → StepKeeps wrote ask after effect
       → ActingStepKeeps ask after effect
-  by_itself wrote ask after effect seen step = alone en kinds.Overflow scene inv wrote ask false after effect seen step
+  by_itself wrote ask after effect seen step = alone inv ask false after effect seen step
 
   -- where the push at its stage is not about to move the read position, `p` has no pending push
   calm_at : (stage : PushStage)

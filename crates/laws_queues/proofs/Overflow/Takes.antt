@@ -22,7 +22,7 @@ use Rattle.laws_queues.proofs.Overflow.Core.{one_passes, pop_front, pop_room}
 use Rattle.laws_queues.proofs.Overflow.Waiting.{past_none, Pushing, IsPending, pending_is}
 use Rattle.laws_queues.proofs.Queues.Core.{Core, Good, GoesUp, taken, takes}
 use Rattle.laws_queues.proofs.Queues.Knows.{layout, Hangs, has_written}
-use Rattle.laws_queues.proofs.Queues.Keeping.{clash, kept}
+use Rattle.laws_queues.proofs.Queues.Keeping.{clash, same_roles, kept}
 use Rattle.laws_queues.proofs.Queues.Pending.{pending_put, few_wait, none_hangs}
 use Rattle.laws_queues.proofs.Queues.Stages.{party_then, DoesStep, Moves, alone}
 use Rattle.laws_queues.proofs.Overflow.Keeping.{take_keeps_push}
@@ -84,7 +84,7 @@ module _ {T : Type 0} {en : Coding T} {scene : Scene T kinds.Overflow}
 
       -- the queue without its oldest value is right
       good_take : Good 1 words_of_index (c + 1) after_take
-      good_take = takes 1 words_of_index (c + 1) k value rest first inv.queue.good
+      good_take = takes inv.queue.good first
 
       -- one value less waits
       shorter : length k.waiting ≡ suc (length rest)
@@ -143,7 +143,7 @@ module _ {T : Type 0} {en : Coding T} {scene : Scene T kinds.Overflow}
               knows = omega arith;
               up = record { write = omega arith; read = omega arith; paid = omega arith };
               others =
-                  λ q ne. kept ro ro q (λ h. h) (λ h. h) en c kinds.Overflow k after_take (record {
+                  λ q ne. kept (same_roles ro q) en c kinds.Overflow k after_take (record {
                     push = λ mine w stage h. take_keeps_push c k q rest queue_good few w stage h;
                     pop = λ mine other stage h. absurd (clash ro.consumer p q ne holds mine);
                   });
@@ -338,7 +338,7 @@ module _ {T : Type 0} {en : Coding T} {scene : Scene T kinds.Overflow}
                   others_know =
                       λ r np. frame.still_knows (family en kinds.Overflow c) (queue_in scene) after_queue r
                       events told changes (changes + change_of (layout ro k) (asks_move k.read))
-                      (any_knows en c k after_take r events told changes (changes + change_of (layout ro k) (asks_move k.read)) up tt)
+                      (any_knows en c r events told up tt)
                       (party_of r latest) (inv.frame.knows r);
                 },
               )
@@ -357,5 +357,5 @@ module _ {T : Type 0} {en : Coding T} {scene : Scene T kinds.Overflow}
           -- the cases are whether a push is pending at the read position
           go : (o : Option (ℕ × ℕ)) → pending k.read ro.producer latest ≡ o
               → ActingStepKeeps (asks_move k.read) false (Done answer) (takes_effect (Index value) o)
-          go None e = alone en kinds.Overflow scene inv [] (asks_move k.read) false (Done answer) (HandsOut (Index value)) seen (takes_alone e)
+          go None e = alone inv (asks_move k.read) false (Done answer) (HandsOut (Index value)) seen (takes_alone e)
           go (Some push) e = makes_room seen push.0 push.1 e

@@ -18,12 +18,8 @@ pub record IsFirst {T : Type 0} (en : Coding T) (kd : QueueKind) (c : ℕ) (ro :
   pub calm : pending_at k.read (Some (flights.Queues flight)) ≡ None
   pub wrote : has_written {T = T} c k p flight ≡ []
 
-module _ {T : Type 0} {en : Coding T} (law : IsCoding en) (c : ℕ) (ro : Roles) (p : ℕ) (events : List (Event T)) (changes : ℕ) where
-  -- the call is at its first stage
-  abbrev First : (kd : QueueKind) → Core (Val T kd) → QueueStart T → QueueFlight T → Type 0
-  First kd k start flight = IsFirst en kd c ro k p events changes start flight
-
-  -- a begin leads to a call at its first stage, where the party has the role that the call needs
-  pub first_is : (kd : QueueKind) (k : Core (Val T kd)) (start : QueueStart T) (flight : QueueFlight T)
-      → first kd c start ≡ Some flight → lacks_role ro p start ≡ false → First kd k start flight
-  first_is = grind arith
+-- a begin leads to a call at its first stage, where the party has the role that the call needs
+pub first_is : {T : Type 0} {en : Coding T} {kd : QueueKind} {c : ℕ} {ro : Roles} {k : Core (Val T kd)} {p : ℕ} {events : List (Event T)}
+    {changes : ℕ} {start : QueueStart T} {flight : QueueFlight T}
+    → IsCoding en → first kd c start ≡ Some flight → lacks_role ro p start ≡ false → IsFirst en kd c ro k p events changes start flight
+first_is = grind arith

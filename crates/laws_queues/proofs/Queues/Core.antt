@@ -107,16 +107,25 @@ module _ {V : Type 0} (size : ℕ) (words_of : V → List ℕ) (c : ℕ) where
   at_below (x ∷ xs) zero v element_is = omega arith
   at_below (x ∷ xs) (suc i) v element_is = omega (arith, at_below xs i v element_is)
 
+  -- a list with `x` at its end has at a place what the list had, or at its end `x`
+  get_more : (xs : List V) (x : V) (i : ℕ) (v : V) → slice_get (xs ++ x ∷ []) i ≡ Some v → (slice_get xs i ≡ Some v) ⊎ ((i ≡ length xs) × (x ≡ v))
+  get_more [] x zero v element_is = inr (refl, cc)
+  get_more [] x (suc i) v element_is = cc
+  get_more (y ∷ ys) x zero v element_is = inl element_is
+  get_more (y ∷ ys) x (suc i) v element_is = ⊎_elim (λ h. inl h) (λ h. inr (ap suc h.0, h.1)) (get_more ys x i v element_is)
+
+-- the queue `k` is right
+module _ {V : Type 0} {size : ℕ} {words_of : V → List ℕ} {c : ℕ} {k : Core V} (good : Good size words_of c k) where
   -- where there is room, a store into the cell of the write position leaves the values
   -- that wait as they stand
-  pub fills : (k : Core V) (at word : ℕ) → length k.waiting < c → at < size → Good k → Good (filled k at word)
-  fills k at word room below good =
+  pub fills : (at word : ℕ) → length k.waiting < c → at < size → Good size words_of c (filled size words_of c k at word)
+  fills at word room below =
       record {
         write = good.write;
         few = good.few;
         cells = length-set k.cells (size * (k.write % c) + at) word ∙ good.cells;
         held = λ i v e j js.
-            let ahead = at_below k.waiting i v e in
+            let ahead = at_below size words_of c k.waiting i v e in
             let write = good.write in
             let other : (k.read + i) % c ≢ k.write % c = rw write (apart c k.read i (length k.waiting) ahead room) in
             let place : size * ((k.read + i) % c) + j ≢ size * (k.write % c) + at = cells_apart size ((k.read + i) % c) (k.write % c) j at js below other in
@@ -125,29 +134,22 @@ module _ {V : Type 0} (size : ℕ) (words_of : V → List ℕ) (c : ℕ) where
 
   -- where the first `at` words of `v` stand in the cell of the write position, a store of the next makes it
   -- `at + 1` words
-  pub one_filled : (k : Core V) (v : V) (at : ℕ) → length k.waiting < c → at < size → Good k → Holds k.cells k.write v at
-      → Holds (filled k at (get_or (words_of v) at 0)).cells k.write v (at + 1)
-  one_filled k v at room below good so_far =
+  pub one_filled : (v : V) (at : ℕ) → length k.waiting < c → at < size → Holds size words_of c k.cells k.write v at
+      → Holds size words_of c (filled size words_of c k at (get_or (words_of v) at 0)).cells k.write v (at + 1)
+  one_filled v at room below so_far =
       let cells = good.cells in
       let low = cell_within size c k.write at (omega arith) below in
       one_more (λ i. size * (k.write % c) + i) k.cells (words_of v) at (get_or (words_of v) at 0)
       (λ i h e. absurd (omega arith)) (omega arith) refl so_far
 
-  -- a list with `x` at its end has at a place what the list had, or at its end `x`
-  get_more : (xs : List V) (x : V) (i : ℕ) (v : V) → slice_get (xs ++ x ∷ []) i ≡ Some v → (slice_get xs i ≡ Some v) ⊎ ((i ≡ length xs) × (x ≡ v))
-  get_more [] x zero v element_is = inr (refl, cc)
-  get_more [] x (suc i) v element_is = cc
-  get_more (y ∷ ys) x zero v element_is = inl element_is
-  get_more (y ∷ ys) x (suc i) v element_is = ⊎_elim (λ h. inl h) (λ h. inr (ap suc h.0, h.1)) (get_more ys x i v element_is)
-
   -- where there is room and all words of `v` stand in the cell of the write position, the store of the next
   -- write position publishes `v`
-  pub publishes : (k : Core V) (v : V) → length k.waiting < c → Good k → Holds k.cells k.write v size → Good (published k v)
+  pub publishes : (v : V) → length k.waiting < c → Holds size words_of c k.cells k.write v size → Good size words_of c (published size words_of c k v)
   publishes = grind (arith, length-append, get_more)
 
   -- the store of the next read position takes the front value away
-  pub takes : (k : Core V) (v : V) (rest : List V) → k.waiting ≡ v ∷ rest → Good k → Good (taken k rest)
-  takes k v rest waiting_is good =
+  pub takes : {v : V} {rest : List V} → k.waiting ≡ v ∷ rest → Good size words_of c (taken size words_of c k rest)
+  takes {v} {rest} waiting_is =
       let write = good.write in
       let few = good.few in
       let long : length k.waiting ≡ suc (length rest) = ap length waiting_is in
@@ -162,5 +164,5 @@ module _ {V : Type 0} (size : ℕ) (words_of : V → List ℕ) (c : ℕ) where
       }
 
   -- the words of the front value stand in the cell of the read position
-  pub front : (k : Core V) (v : V) (rest : List V) → k.waiting ≡ v ∷ rest → Good k → Holds k.cells k.read v size
+  pub front : {v : V} {rest : List V} → k.waiting ≡ v ∷ rest → Holds size words_of c k.cells k.read v size
   front = grind arith

@@ -177,6 +177,7 @@ module _ {T : Type 0} (en : Coding T) where
     pub reached : k'.write ≤ scene.turns + 1
     pub within : k'.write < 2 ^ 64
 
+  -- a turn leaves the holders `ro'` of the roles and the core `k'`, and writes `es`
   module _ {kd : QueueKind} (scene : Scene T kd) {ro' : Roles} (k' : Core (Val T kd)) {y : Party T} {es : List (Event T)} {changes' : ℕ} where
     -- what holds of a queue before a turn holds after it, where the turn shows this of the queue
     pub holds_more : Holds en kd scene.capacity scene.roles scene.core scene.latest scene.events scene.turns → ShowsQueue kd scene ro' k' y es changes'
@@ -246,30 +247,31 @@ module _ {T : Type 0} (en : Coding T) where
   any_stays = grind arith
 
   -- what a call knows of events and counts stays known after events with which its party begins no call
-  pub any_knows : {V : Type 0} → (c : ℕ) (k k' : Core V) (q : ℕ) (events es : List (Event T)) (changes changes' : ℕ)
+  pub any_knows : {V : Type 0} → (c : ℕ) {k k' : Core V} (q : ℕ) (events es : List (Event T)) {changes changes' : ℕ}
       → GoesUp k k' changes changes' → BeginsNone q es
       → (since backs : ℕ) (flight : Flight T) → Knowing en c k q events since changes backs flight
       → Knowing en c k' q (events ++ es) since changes' backs flight
   any_knows = grind (arith, flight_keeps)
 
-  module _ (kd : QueueKind) (scene : Scene T kd) (ro' : Roles) (k' : Core (Val T kd)) (from : Span T) (y : Party T)
-      (es : List (Event T)) (changes' : ℕ) (shows : Shows kd scene ro' k' from y es changes') where
-    -- a turn that shows this (`Shows`) gives the frame what it asks of a turn
-    pub owes : span_of scene.party scene.events ≡ from → Inv kd scene
-        → frame.Owes (family kd scene.capacity) (record { roles = ro'; core = k' }) scene.party y scene.latest scene.events es changes'
-    owes span_is inv =
-        frame.owes (family kd scene.capacity) _ _ _ _ _ _ _ _ _ _ span_is inv.frame
-        (record {
-          own = shows.own;
-          stands = shows.stands;
-          here = shows.here;
-          knows = shows.knows;
-          others = λ q ne. any_stays kd scene.capacity scene.roles ro' scene.core k' q (shows.others q ne);
-          others_know =
-              λ q ne. any_knows scene.capacity scene.core k' q scene.events es scene.changes changes' shows.up
-              (others_begin_none q scene.party es ne shows.own);
-        })
+-- a turn shows what `Shows` asks
+module _ {T : Type 0} {en : Coding T} {kd : QueueKind} {scene : Scene T kd} {ro' : Roles} {k' : Core (Val T kd)} {from : Span T} {y : Party T}
+    {es : List (Event T)} {changes' : ℕ} (shows : Shows en kd scene ro' k' from y es changes') where
+  -- a turn that shows this (`Shows`) gives the frame what it asks of a turn
+  pub owes : span_of scene.party scene.events ≡ from → Inv en kd scene
+      → frame.Owes (family en kd scene.capacity) (record { roles = ro'; core = k' }) scene.party y scene.latest scene.events es changes'
+  owes span_is inv =
+      frame.owes (family en kd scene.capacity) _ _ _ _ _ _ _ _ _ _ span_is inv.frame
+      (record {
+        own = shows.own;
+        stands = shows.stands;
+        here = shows.here;
+        knows = shows.knows;
+        others = λ q ne. any_stays en kd scene.capacity scene.roles ro' scene.core k' q (shows.others q ne);
+        others_know =
+            λ q ne. any_knows en scene.capacity q scene.events es shows.up
+            (others_begin_none q scene.party es ne shows.own);
+      })
 
-    -- a turn that shows this (`Shows`) shows of the queue what `ShowsQueue` asks
-    pub queue_part : ShowsQueue kd scene ro' k' y es changes'
-    queue_part = grind arith
+  -- a turn that shows this (`Shows`) shows of the queue what `ShowsQueue` asks
+  pub queue_part : ShowsQueue en kd scene ro' k' y es changes'
+  queue_part = grind arith

@@ -89,7 +89,21 @@ module _ {T : Type 0} where
 
 -- ---- what an act tells
 
-module _ {T : Type 0} (own : QueueKind) (t : Trace T) (turn : Turn T) (p : ℕ) (mine : IsParty turn p) (alone : (q : ℕ) → IsParty turn q → q ≡ p) where
+-- a turn of a machine of this kind of queue, which one party alone takes
+pub record OwnTurn (T : Type 0) : Type 0 where
+  pub kind : QueueKind
+  pub trace : Trace T  -- the run before the turn
+  pub turn : Turn T
+  pub party : ℕ
+  pub mine : IsParty turn party
+  pub alone : (q : ℕ) → IsParty turn q → q ≡ party
+  -- the words before the turn, as the state of the queue has them, and the push that is pending then
+  pub words : List ℕ
+  pub waits : Option (ℕ × ℕ)
+
+module _ {T : Type 0} (m : OwnTurn T) where
+  open m use {kind as own, trace as t, turn, party as p, mine, alone, words, waits}
+
   abbrev en : Coding T
   en = t.world.coding
 
@@ -136,136 +150,132 @@ module _ {T : Type 0} (own : QueueKind) (t : Trace T) (turn : Turn T) (p : ℕ) 
     moves_read : asked ≡ Some (record { word = read_word; op = Exchange read (after_position read) }) → Adds read_word
     moves_read = grind arith
 
-  module _ (words : List ℕ) (waits : Option (ℕ × ℕ)) where
-    -- what the call's step writes tells the truth
-    abbrev WritesTruth : QueueStart T → QueueFlight T → ℕ → Type 0
-    WritesTruth start flight old = Right (told_after p start (effect_of en words waits flight old) (after en flight old))
+  -- what the call's step writes tells the truth
+  abbrev WritesTruth : QueueStart T → QueueFlight T → ℕ → Type 0
+  WritesTruth start flight old = Right (told_after p start (effect_of en words waits flight old) (after en flight old))
 
-    -- each act that the call's step writes is justified, where these are the words and
-    -- `waits` is the pending push
-    abbrev Acting : QueueStart T → QueueFlight T → ℕ → Type 0
-    Acting start flight old = Justified (acts_of p start (effect_of en words waits flight old) (answer_in (after en flight old)))
+  -- each act that the call's step writes is justified, where these are the words and
+  -- `waits` is the pending push
+  abbrev Acting : QueueStart T → QueueFlight T → ℕ → Type 0
+  Acting start flight old = Justified (acts_of p start (effect_of en words waits flight old) (answer_in (after en flight old)))
 
-    -- in a step of an overflowing queue's push each act is justified
-    module _ (k : Core ℕ) (place : Positions k.write k.read) (v : ℕ) (room : OneWord) where
-      -- each act that a step of an overflowing queue's push writes is justified
-      overflow_push_right : (stage : overflow_pushes.PushStage) (old : ℕ) → KnowsOverflowPush c k v stage
-          → asked ≡ ask_of (want en (Overflow (overflow_push_at c v room stage)))
-          → old ≡ old_of (k.write ∷ k.read ∷ place.rest) asked
-          → Acting (PushIndex v) (Overflow (overflow_push_at c v room stage)) old
-      overflow_push_right = grind arith
-
-    -- where a pop moves the read position, its act with a value is justified, and so is the
-    -- act of the pending push
-    taking : (item : Item T) (push : Option (ℕ × ℕ)) → ((q w : ℕ) → push ≡ Some (q, w) → q ≡ p → ⊥)
-        → (room : OneWord) (on : overflow_pop.Pop) (b : Bool) → (b ≡ true → Adds read_word)
-        → Justified (acts_of p Pop (cond b (takes_effect item push) Quiet)
-        (answer_in {C = QueueFlight T}
-        (as_call (λ r. Overflow (overflows.Pop r)) popped
-        (went_on (λ end given room. pop_answer room.0 end) tt room (cond b (Done true) (GoOn on))))))
-    taking item None other room on true adds = ((mine, adds refl), tt)
-    taking item (Some push) other room on true adds = ((mine, adds refl), (inr ((λ his. other push.0 push.1 refl (alone push.0 his)), adds refl), tt))
-    taking item push other room on false adds = tt
-
-    -- if the pending push is of the party `p`, it is this call
-    abbrev Waits : QueueFlight T → Type 0
-    Waits flight = (q w : ℕ) → waits ≡ Some (q, w) → q ≡ p → pending_at (get_or words 1 0) (Some (flights.Queues flight)) ≡ Some w
-
-    -- in a step of an overflowing queue's pop each act is justified
-    overflow_pop_right :
-        (k : Core ℕ) (place : Positions k.write k.read) (room : OneWord) (stage : PopStage) (old : ℕ)
-        → KnowsOverflowPop c k room stage → asked ≡ ask_of (want en (Overflow (overflow_pop_at c room stage)))
+  -- in a step of an overflowing queue's push each act is justified
+  module _ (k : Core ℕ) (place : Positions k.write k.read) (v : ℕ) (room : OneWord) where
+    -- each act that a step of an overflowing queue's push writes is justified
+    overflow_push_right : (stage : overflow_pushes.PushStage) (old : ℕ) → KnowsOverflowPush c k v stage
+        → asked ≡ ask_of (want en (Overflow (overflow_push_at c v room stage)))
         → old ≡ old_of (k.write ∷ k.read ∷ place.rest) asked
-        → Waits (Overflow (overflow_pop_at c room stage)) → (0 < c → finding_none own c ≡ Some load_of_write)
-        → (c ≡ 0 → finding_none own c ≡ None) → WritesTruth Pop (Overflow (overflow_pop_at c room stage)) old
-        → Acting Pop (Overflow (overflow_pop_at c room stage)) old
-    overflow_pop_right k place room overflow_pops.FindsNone old knows asks handed waiter some none tells =
-        pop_acts (after en (Overflow (overflow_pop_at c room overflow_pops.FindsNone)) old) refl (asks ∙ sym (none knows)) tells
-    overflow_pop_right k place room overflow_pops.LoadsRead old knows asks handed waiter some none tells = tt
-    overflow_pop_right k place room (overflow_pops.LoadsWrite read) old knows asks handed waiter some none tells =
-        pop_acts (after en flight old) (finds (old == read) refl) (asks ∙ sym (some knows.0)) tells
-      where
-        -- the pop at the load of the write position
-        flight : QueueFlight T
-        flight = Overflow (overflow_pop_at c room (overflow_pops.LoadsWrite read))
+        → Acting (PushIndex v) (Overflow (overflow_push_at c v room stage)) old
+    overflow_push_right = grind arith
 
-        -- the cases are whether the write position is the read position that was loaded, so
-        -- that nothing waits
-        finds : (b : Bool) → (old == read) ≡ b → FindsNone (after en flight old)
-        finds true read_same = rw read_same refl
-        finds false read_moved = rw read_moved tt
-    overflow_pop_right k place room (overflow_pops.LoadsCell read) old knows asks handed waiter some none tells = tt
-    overflow_pop_right k place room (overflow_pops.MovesRead read) old knows asks handed waiter some none tells =
-        taking (Index (get_or words (cell_word c read) 0)) waits
-        (λ q w is same. let here = waiter q w is same in absurd (cc)) room
-        (record { capacity = c; stage = overflow_pops.LoadsCell old }) (old == read)
-        (λ e.
-        let found : old ≡ read = grind (arith, nat_tests) in
-        let now : old ≡ k.read = handed ∙ ap (old_of (k.write ∷ k.read ∷ place.rest)) asks in
-        let same : read ≡ k.read = sym found ∙ now in
-        moves_read place (asks ∙ ap (λ n. Some (record { word = read_word; op = Exchange n (after_position n) })) same))
+  -- where a pop moves the read position, its act with a value is justified, and so is the
+  -- act of the pending push
+  taking : (item : Item T) (push : Option (ℕ × ℕ)) → ((q w : ℕ) → push ≡ Some (q, w) → q ≡ p → ⊥)
+      → (room : OneWord) (on : overflow_pop.Pop) (b : Bool) → (b ≡ true → Adds read_word)
+      → Justified (acts_of p Pop (cond b (takes_effect item push) Quiet)
+      (answer_in {C = QueueFlight T}
+      (as_call (λ r. Overflow (overflows.Pop r)) popped
+      (went_on (λ end given room. pop_answer room.0 end) tt room (cond b (Done true) (GoOn on))))))
+  taking item None other room on true adds = ((mine, adds refl), tt)
+  taking item (Some push) other room on true adds = ((mine, adds refl), (inr ((λ his. other push.0 push.1 refl (alone push.0 his)), adds refl), tt))
+  taking item push other room on false adds = tt
 
-    -- in a step of a call of the index queue each act is justified
-    index_right : (ro : Roles) (k : Core ℕ) → Positions k.write k.read
-        → (start : QueueStart T) (call : rings.RingCall ℕ OneWord) (old : ℕ)
-        → IndexAt kinds.IndexQueue c ro k p start call → finding_none own c ≡ Some load_of_write
-        → asked ≡ ask_of (want en (Indices call)) → WritesTruth start (Indices call) old → Acting start (Indices call) old
-    index_right ro k positions start call old index_at finding_none_is asked_is tells = grind arith
+  -- if the pending push is of the party `p`, it is this call
+  abbrev Waits : QueueFlight T → Type 0
+  Waits flight = (q w : ℕ) → waits ≡ Some (q, w) → q ≡ p → pending_at (get_or words 1 0) (Some (flights.Queues flight)) ≡ Some w
 
-    -- in a step of a call of the queue of values each act is justified
-    value_right : (ro : Roles) (k : Core T) → Positions k.write k.read
-        → (start : QueueStart T) (call : rings.RingCall T (cells.Buffer 128)) (old : ℕ)
-        → ValueAt en kinds.Queue c ro k p start call → finding_none own c ≡ Some load_of_write
-        → asked ≡ ask_of (want en (Values call)) → WritesTruth start (Values call) old → Acting start (Values call) old
-    value_right = grind arith
+  -- what is known of the step of a call that is handed the value `old`, in a queue of the core `k`
+  record Facts {V : Type 0} (k : Core V) (place : Positions k.write k.read) (start : QueueStart T) (flight : QueueFlight T) (old : ℕ) : Type 0 where
+    asks : asked ≡ ask_of (want en flight)
+    handed : old ≡ old_of (k.write ∷ k.read ∷ place.rest) asked
+    waiter : Waits flight
+    tells : WritesTruth start flight old
 
-    -- in a step of any push or pop of an overflowing queue each act is justified
-    overflow_right :
-        (ro : Roles) (k : Core ℕ) (place : Positions k.write k.read) (start : QueueStart T) (call : OverflowCall) (old : ℕ)
-        → OverflowAt c ro k p start call → (0 < c → finding_none own c ≡ Some load_of_write)
-        → (c ≡ 0 → finding_none own c ≡ None)
-        → asked ≡ ask_of (want en (Overflow call)) → old ≡ old_of (k.write ∷ k.read ∷ place.rest) asked
-        → Waits (Overflow call) → WritesTruth start (Overflow call) old → Acting start (Overflow call) old
-    overflow_right ro k place (PushIndex v) (overflows.Push run) old at some none asks handed waiter tells =
-        subst (λ n. asked ≡ ask_of (want en (Overflow (overflow_push_at n run.given run.room run.call.stage)))
-        → Acting (PushIndex v) (Overflow (overflow_push_at n run.given run.room run.call.stage)) old)
-        (sym at.1)
-        (rw at.2 (λ asks. overflow_push_right k place v run.room run.call.stage old at.3 asks handed))
-        asks
-    overflow_right ro k place Pop (overflows.Pop run) old at some none asks handed waiter tells =
-        subst (λ x. WritesTruth Pop (Overflow (overflow_pop_at x run.room run.call.stage)) old
-        → asked ≡ ask_of (want en (Overflow (overflow_pop_at x run.room run.call.stage)))
-        → Waits (Overflow (overflow_pop_at x run.room run.call.stage))
-        → Acting Pop (Overflow (overflow_pop_at x run.room run.call.stage)) old)
-        (sym at.1)
-        (λ right asks waiter. overflow_pop_right k place run.room run.call.stage old at.2 asks handed waiter some none right)
-        tells
-        asks
-        waiter
-    overflow_right ro k place start call old at some none asks handed waiter tells = absurd at
+  -- in a step of an overflowing queue's pop each act is justified
+  overflow_pop_right :
+      (k : Core ℕ) (place : Positions k.write k.read) (room : OneWord) (stage : PopStage) (old : ℕ)
+      → KnowsOverflowPop c k room stage → Facts k place Pop (Overflow (overflow_pop_at c room stage)) old
+      → (0 < c → finding_none own c ≡ Some load_of_write) → (c ≡ 0 → finding_none own c ≡ None)
+      → Acting Pop (Overflow (overflow_pop_at c room stage)) old
+  overflow_pop_right k place room overflow_pops.FindsNone old knows facts some none =
+      pop_acts (after en (Overflow (overflow_pop_at c room overflow_pops.FindsNone)) old) refl (facts.asks ∙ sym (none knows)) facts.tells
+  overflow_pop_right k place room overflow_pops.LoadsRead old knows facts some none = tt
+  overflow_pop_right k place room (overflow_pops.LoadsWrite read) old knows facts some none =
+      pop_acts (after en flight old) (finds (old == read) refl) (facts.asks ∙ sym (some knows.0)) facts.tells
+    where
+      -- the pop at the load of the write position
+      flight : QueueFlight T
+      flight = Overflow (overflow_pop_at c room (overflow_pops.LoadsWrite read))
 
-    -- in a step of a call of any of the three kinds each act is justified
-    step_right : (kd : QueueKind) → own ≡ kd
-        → (ro : Roles) (k : Core (Val T kd)) (place : Positions k.write k.read) (start : QueueStart T) (flight : QueueFlight T) (old : ℕ)
-        → At en kd c ro k p start flight → asked ≡ ask_of (want en flight)
-        → old ≡ old_of (k.write ∷ k.read ∷ place.rest) asked → Waits flight
-        → WritesTruth start flight old → Acting start flight old
-    step_right kd same ro k place start (Role call) old at asks handed waiter tells = tt
-    step_right kinds.IndexQueue same ro k place start (Indices call) old at asks handed waiter tells =
-        index_right ro k place start call old at (ap (λ n. finding_none n c) same ∙ ring_finds of_indices c) asks tells
-    step_right kinds.Overflow same ro k place start (Indices call) old at asks handed waiter tells = absurd at
-    step_right kinds.Queue same ro k place start (Indices call) old at asks handed waiter tells = absurd at
-    step_right kinds.IndexQueue same ro k place start (Values call) old at asks handed waiter tells = absurd at
-    step_right kinds.Overflow same ro k place start (Values call) old at asks handed waiter tells = absurd at
-    step_right kinds.Queue same ro k place start (Values call) old at asks handed waiter tells =
-        value_right ro k place start call old at (ap (λ n. finding_none n c) same ∙ ring_finds of_values c) asks tells
-    step_right kinds.IndexQueue same ro k place start (Overflow call) old at asks handed waiter tells = absurd at
-    step_right kinds.Overflow same ro k place start (Overflow call) old at asks handed waiter tells =
-        let finds = overflow_finds c in
-        overflow_right ro k place start call old at (λ some. ap (λ n. finding_none n c) same ∙ finds.0 some)
-        (λ none. ap (λ n. finding_none n c) same ∙ finds.1 none) asks handed waiter tells
-    step_right kinds.Queue same ro k place start (Overflow call) old at asks handed waiter tells = absurd at
-    step_right kd same ro k place start (Length which call) old at asks handed waiter tells = tt
+      -- the cases are whether the write position is the read position that was loaded, so
+      -- that nothing waits
+      finds : (b : Bool) → (old == read) ≡ b → FindsNone (after en flight old)
+      finds true read_same = rw read_same refl
+      finds false read_moved = rw read_moved tt
+  overflow_pop_right k place room (overflow_pops.LoadsCell read) old knows facts some none = tt
+  overflow_pop_right k place room (overflow_pops.MovesRead read) old knows facts some none =
+      taking (Index (get_or words (cell_word c read) 0)) waits
+      (λ q w is same. let here = facts.waiter q w is same in absurd (cc)) room
+      (record { capacity = c; stage = overflow_pops.LoadsCell old }) (old == read)
+      (λ e.
+      let found : old ≡ read = grind (arith, nat_tests) in
+      let now : old ≡ k.read = facts.handed ∙ ap (old_of (k.write ∷ k.read ∷ place.rest)) facts.asks in
+      let same : read ≡ k.read = sym found ∙ now in
+      moves_read place (facts.asks ∙ ap (λ n. Some (record { word = read_word; op = Exchange n (after_position n) })) same))
+
+  -- in a step of a call of the index queue each act is justified
+  index_right : (ro : Roles) (k : Core ℕ) (place : Positions k.write k.read)
+      → (start : QueueStart T) (call : rings.RingCall ℕ OneWord) (old : ℕ)
+      → IndexAt kinds.IndexQueue c ro k p start call → Facts k place start (Indices call) old
+      → finding_none own c ≡ Some load_of_write → Acting start (Indices call) old
+  index_right ro k place start call old index_at facts finding_none_is = grind arith
+
+  -- in a step of a call of the queue of values each act is justified
+  value_right : (ro : Roles) (k : Core T) (place : Positions k.write k.read)
+      → (start : QueueStart T) (call : rings.RingCall T (cells.Buffer 128)) (old : ℕ)
+      → ValueAt en kinds.Queue c ro k p start call → Facts k place start (Values call) old
+      → finding_none own c ≡ Some load_of_write → Acting start (Values call) old
+  value_right ro k place start call old value_at facts finding_none_is = grind arith
+
+  -- in a step of any push or pop of an overflowing queue each act is justified
+  overflow_right :
+      (ro : Roles) (k : Core ℕ) (place : Positions k.write k.read) (start : QueueStart T) (call : OverflowCall) (old : ℕ)
+      → OverflowAt c ro k p start call → Facts k place start (Overflow call) old
+      → ((0 < c → finding_none own c ≡ Some load_of_write) × (c ≡ 0 → finding_none own c ≡ None)) → Acting start (Overflow call) old
+  overflow_right ro k place (PushIndex v) (overflows.Push run) old at facts finds =
+      subst (λ n. asked ≡ ask_of (want en (Overflow (overflow_push_at n run.given run.room run.call.stage)))
+      → Acting (PushIndex v) (Overflow (overflow_push_at n run.given run.room run.call.stage)) old)
+      (sym at.1)
+      (rw at.2 (λ asks. overflow_push_right k place v run.room run.call.stage old at.3 asks facts.handed))
+      facts.asks
+  overflow_right ro k place Pop (overflows.Pop run) old at facts finds =
+      subst (λ x. Facts k place Pop (Overflow (overflow_pop_at x run.room run.call.stage)) old
+      → Acting Pop (Overflow (overflow_pop_at x run.room run.call.stage)) old)
+      (sym at.1)
+      (λ known. overflow_pop_right k place run.room run.call.stage old at.2 known finds.0 finds.1)
+      facts
+  overflow_right ro k place start call old at facts finds = absurd at
+
+  -- in a step of a call of any of the three kinds each act is justified
+  step_right : (kd : QueueKind) → own ≡ kd → (ro : Roles) (k : Core (Val T kd)) {place : Positions k.write k.read}
+      (start : QueueStart T) (flight : QueueFlight T) {old : ℕ}
+      → At en kd c ro k p start flight → Facts k place start flight old → Acting start flight old
+  step_right kd same ro k start (Role call) at facts = tt
+  step_right kinds.IndexQueue same ro k {place} start (Indices call) {old} at facts =
+      index_right ro k place start call old at facts (ap (λ n. finding_none n c) same ∙ ring_finds of_indices c)
+  step_right kinds.Overflow same ro k start (Indices call) at facts = absurd at
+  step_right kinds.Queue same ro k start (Indices call) at facts = absurd at
+  step_right kinds.IndexQueue same ro k start (Values call) at facts = absurd at
+  step_right kinds.Overflow same ro k start (Values call) at facts = absurd at
+  step_right kinds.Queue same ro k {place} start (Values call) {old} at facts =
+      value_right ro k place start call old at facts (ap (λ n. finding_none n c) same ∙ ring_finds of_values c)
+  step_right kinds.IndexQueue same ro k start (Overflow call) at facts = absurd at
+  step_right kinds.Overflow same ro k {place} start (Overflow call) {old} at facts =
+      let finds = overflow_finds c in
+      overflow_right ro k place start call old at facts
+      (λ some. ap (λ n. finding_none n c) same ∙ finds.0 some, λ none. ap (λ n. finding_none n c) same ∙ finds.1 none)
+  step_right kinds.Queue same ro k start (Overflow call) at facts = absurd at
+  step_right kd same ro k start (Length which call) at facts = tt
 
 -- ---- every turn
 
@@ -287,9 +297,13 @@ module _ {T : Type 0} (en : Coding T) (law : IsCoding en) (kd : QueueKind) (c : 
       let words = layout s.state.roles s.state.core in
       -- the step keeps the invariant, so what it writes tells the truth
       let moves =
-      step_moves law kd scene s.holds.within (inv_of law kd c s p x since) start flight here.at here.steps
-      here.knows (all_fresh s.state.core.write flight (let low = s.holds.reached in omega arith))
-      (here.found, here.span) in
+      step_moves law kd scene s.holds.within (inv_of law kd c s p x since) start flight (record {
+        at = here.at;
+        steps = here.steps;
+        knows = here.knows;
+        fresh = all_fresh s.state.core.write flight (let low = s.holds.reached in omega arith);
+        is = (here.found, here.span);
+      }) in
       let z = t.world.coding in
       let old = old_of words (ask_of (want z flight)) in
       let waits = beside s.state.roles words t.world.latest p in
@@ -298,7 +312,9 @@ module _ {T : Type 0} (en : Coding T) (law : IsCoding en) (kd : QueueKind) (c : 
       let asks : ask_in t.world (Next p) ≡ ask_of (want z flight) = rw here.found refl in
       let reached = s.holds.reached in
       let good = s.holds.good.write in
-      let place : Positions kd t (Next p) p refl (λ q his. his) s.state.core.write s.state.core.read =
+      let own : OwnTurn T =
+      record { kind = kd; trace = t; turn = Next p; party = p; mine = refl; alone = λ q his. his; words = words; waits = waits } in
+      let place : Positions own s.state.core.write s.state.core.read =
       record { rest = _; words = s.fit.words; few = omega arith; low = omega arith } in
       record {
         effects = did p effect;
@@ -307,11 +323,13 @@ module _ {T : Type 0} (en : Coding T) (law : IsCoding en) (kd : QueueKind) (c : 
         are_effects = did_effects (Next p) p effect refl;
         are_acts = all_act p start effect outcome;
         -- each act is justified, as the call stands at its stage in the words of the machine
-        right = step_right kd t (Next p) p refl (λ q his. his) words waits kd refl s.state.roles s.state.core place start flight old
+        right = step_right own kd refl s.state.roles s.state.core {place = place} start flight
             (rw (s.coding, s.capacity) here.at)
-            asks
-            (ap (old_of words) (sym asks))
-            (waiter_is s.state.roles words t.world.latest p flight here.found)
-            (rw (s.capacity, s.coding) moves.2.right);
+            (record {
+              asks = asks;
+              handed = ap (old_of words) (sym asks);
+              waiter = waiter_is s.state.roles words t.world.latest p flight here.found;
+              tells = rw (s.capacity, s.coding) moves.2.right;
+            });
       }
   writes p x since small start flight here = absurd here.at

@@ -46,8 +46,17 @@ keeps_same en kinds.IndexQueue c ro k q = record { push = λ mine v stage h. h; 
 keeps_same en kinds.Overflow c ro k q = record { push = λ mine v stage h. (h, refl); pop = λ mine room stage h. h }
 keeps_same en kinds.Queue c ro k q = record { push = λ mine v stage h. h; pop = λ mine room stage h. h }
 
--- `ro` and `ro'` hold the roles before and after, and the party `q` keeps those that it has
-module _ (ro ro' : Roles) (q : ℕ) (producer : ro.producer ≡ Some q → ro'.producer ≡ Some q) (consumer : ro.consumer ≡ Some q → ro'.consumer ≡ Some q) where
+-- `ro` and `ro'` hold the roles before and after a step, and the party `q` keeps those that it has
+pub record KeepsRoles (ro ro' : Roles) (q : ℕ) : Type 0 where
+  pub producer : ro.producer ≡ Some q → ro'.producer ≡ Some q
+  pub consumer : ro.consumer ≡ Some q → ro'.consumer ≡ Some q
+
+-- each party keeps its roles where the roles stay
+pub same_roles : (ro : Roles) (q : ℕ) → KeepsRoles ro ro q
+same_roles ro q = record { producer = λ h. h; consumer = λ h. h }
+
+-- the party `q` keeps the roles that it has, so its calls stand where they stood
+module _ {ro ro' : Roles} {q : ℕ} (roles : KeepsRoles ro ro' q) where
   -- a call on a role stands where it stood
   role_kept : {T : Type 0} → (start : QueueStart T) (call : RoleCall) → RoleAt ro q start call → RoleAt ro' q start call
   role_kept = grind arith

@@ -69,7 +69,7 @@ abbrev pub IsPaid : {V : Type 0} → Core V → ℕ → ℕ → ℕ → ℕ → 
 IsPaid k since changes backs write read =
     (write ≤ k.write) × (read ≤ k.read) × (backs + since + (k.write + k.read) ≤ changes + (write + read))
 
--- more values than the capacity wait only while the push of the newest has published and not acted
+-- In an overflowing queue at most the capacity waits. While a push has published and not acted, one more waits, its value last.
 abbrev pub Hangs : (T : Type 0) (kd : QueueKind) → ℕ → Core (Val T kd) → Option (ℕ × ℕ) → Type 0
 Hangs T kinds.IndexQueue c k push = Unit {0}
 Hangs T kinds.Overflow c k None = length k.waiting ≤ c

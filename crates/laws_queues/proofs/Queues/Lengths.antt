@@ -15,7 +15,7 @@ use Rattle.laws_queues.proofs.Queues.Invariant.{Scene, Inv}
 use Rattle.laws_queues.proofs.Queues.Core.{Core, Good}
 use Rattle.laws_queues.proofs.Queues.Knows.{layout, len_at, Hangs, Waited, KnowsLen, len_number, At}
 use Rattle.laws_queues.proofs.Queues.Invariant.{waiting_is}
-use Rattle.laws_queues.proofs.Queues.Stages.{IsCalm, Stays, StepOf, still_hangs, quiet, ends}
+use Rattle.laws_queues.proofs.Queues.Stages.{IsCalm, Stays, StepOf, still_hangs, same_queue, quiet, ends}
 use Rattle.laws_queues.proofs.Queues.Pending.{nothing_waits}
 use Rattle.laws_queues.proofs.Queues.Values.{encoded, item}
 
@@ -24,11 +24,12 @@ abbrev pub call_at : {T : Type 0} → LengthOf → ℕ → LenStage → QueueFli
 call_at which c stage = Length which (len_at c stage)
 
 -- as many values wait as the call computes from the two positions
-number_is : {V : Type 0} → (size : ℕ) (words_of : V → List ℕ) (cells c : ℕ) (k : Core V)
+number_is : {V : Type 0} {size : ℕ} {words_of : V → List ℕ} {cells : ℕ} (c : ℕ) {k : Core V}
     → Good size words_of cells k → (c ≡ 0 → length k.waiting ≡ 0) → k.write < 2 ^ 64
     → length k.waiting ≡ number_waiting c k.write k.read
 number_is = grind arith
 
+-- the party has a call on the length under way; it is no pending push (`before`), and the write position fits its word
 module _ {T : Type 0} {en : Coding T} {kd : QueueKind} {scene : Scene T kd} (inv : Inv en kd scene)
     (small : scene.core.write < 2 ^ 64) (before : IsCalm en kd scene scene.core.read) where
   open scene use {capacity as c, roles as ro, core as k, party as p, steps, backs, since, changes, latest, events}
@@ -50,7 +51,7 @@ module _ {T : Type 0} {en : Coding T} {kd : QueueKind} {scene : Scene T kd} (inv
       let long : length (map {B = Item T} (item kd) k.waiting) ≡ length k.waiting = length-map k.waiting (item kd) in
       held_now p (λ part. length (waiting part) ≡ number_waiting c k.write k.read) events
       (ap length (waiting_is events (map (item kd) k.waiting) book)
-      ∙ (long ∙ number_is (encoded en kd).size (encoded en kd).words_of (cells_of kd c) c k good_before
+      ∙ (long ∙ number_is c good_before
       (λ none. nothing_waits en kd c (pending k.read ro.producer latest) none good_before hangs) (omega arith)))
 
   -- what the length call knows at this stage
@@ -82,10 +83,16 @@ module _ {T : Type 0} {en : Coding T} {kd : QueueKind} {scene : Scene T kd} (inv
     -- the load of the write position keeps the invariant, and the call goes on to load the read position
     loads_write : steps ≤ 4 * backs + 0 → LengthKnows lens.LoadsWrite → StaysAt lens.LoadsWrite
     loads_write few_steps knows =
-        quiet en kd scene inv small before false start (Some load_of_write) (call_at which c (lens.LoadsRead k.write)) k refl refl refl refl good_before refl
-        (record { span = refl; steps = omega arith; at = at (lens.LoadsRead k.write) })
-        (omega arith, omega arith, omega arith)
-        (λ q ne st f knows. (knows, refl))
+        quiet inv small before (same_queue inv) (record {
+          start = start;
+          ask = Some load_of_write;
+          back = false;
+          flight = call_at which c (lens.LoadsRead k.write);
+          calm = refl;
+          words = refl;
+          here = record { span = refl; steps = omega arith; at = at (lens.LoadsRead k.write) };
+          knows = (omega arith, omega arith, omega arith);
+        })
 
     -- the load of the read position keeps the invariant, and the call goes on to load the
     -- write position again
@@ -95,11 +102,16 @@ module _ {T : Type 0} {en : Coding T} {kd : QueueKind} {scene : Scene T kd} (inv
     loads_read write few_steps knows =
         let low = knows.0 in
         let paid = knows.2 in
-        quiet en kd scene inv small before false start (Some load_of_read)
-        (call_at which c (lens.LoadsWriteAgain write k.read)) k refl refl refl refl good_before refl
-        (record { span = refl; steps = omega arith; at = at (lens.LoadsWriteAgain write k.read) })
-        ((omega arith, omega arith, omega arith), λ same. rw same waits_now)
-        (λ q ne st f knows. (knows, refl))
+        quiet inv small before (same_queue inv) (record {
+          start = start;
+          ask = Some load_of_read;
+          back = false;
+          flight = call_at which c (lens.LoadsWriteAgain write k.read);
+          calm = refl;
+          words = refl;
+          here = record { span = refl; steps = omega arith; at = at (lens.LoadsWriteAgain write k.read) };
+          knows = ((omega arith, omega arith, omega arith), λ same. rw same waits_now);
+        })
 
     -- the second load of the write position leads on where it finds the position unchanged; else the call
     -- turns back to its first load
@@ -119,21 +131,32 @@ module _ {T : Type 0} {en : Coding T} {kd : QueueKind} {scene : Scene T kd} (inv
             let early = knows.0.1 in
             let paid = knows.0.2 in
             let same : write ≡ k.write = grind (arith, nat_tests) in
-            quiet en kd scene inv small before false start (Some load_of_write)
-            (call_at which c (lens.LoadsReadAgain write read)) k refl refl refl refl good_before refl
-            (record { span = refl; steps = omega arith; at = at (lens.LoadsReadAgain write read) })
-            ((omega arith, omega arith, omega arith), knows.1 same)
-            (λ q ne st f knows. (knows, refl))
+            quiet inv small before (same_queue inv) (record {
+              start = start;
+              ask = Some load_of_write;
+              back = false;
+              flight = call_at which c (lens.LoadsReadAgain write read);
+              calm = refl;
+              words = refl;
+              here = record { span = refl; steps = omega arith; at = at (lens.LoadsReadAgain write read) };
+              knows = ((omega arith, omega arith, omega arith), knows.1 same);
+            })
         -- the position has moved: the call turns back to its first load
         go false e =
             let low = knows.0.0 in
             let early = knows.0.1 in
             let paid = knows.0.2 in
             let moved : k.write ≢ write = grind (arith, nat_tests) in
-            quiet en kd scene inv small before true start (Some load_of_write) (call_at which c lens.LoadsWrite) k refl refl refl refl good_before refl
-            (record { span = refl; steps = omega arith; at = at lens.LoadsWrite })
-            (omega arith)
-            (λ q ne st f knows. (knows, refl))
+            quiet inv small before (same_queue inv) (record {
+              start = start;
+              ask = Some load_of_write;
+              back = true;
+              flight = call_at which c lens.LoadsWrite;
+              calm = refl;
+              words = refl;
+              here = record { span = refl; steps = omega arith; at = at lens.LoadsWrite };
+              knows = omega arith;
+            })
 
     -- the second load of the read position ends the call with the number that waited, where it finds the
     -- position unchanged; else the call turns back to its first load
@@ -156,15 +179,22 @@ module _ {T : Type 0} {en : Coding T} {kd : QueueKind} {scene : Scene T kd} (inv
             let none : backs + 0 ≡ backs = omega arith in (
               k,
               refl,
-              ends en kd scene inv small ro false start (length_answer which c (number_waiting c write read)) (Some load_of_read)
-                  (wrote (number_waiting c write read))
-                  (tells write read knows.1)
-                  (grants (number_waiting c write read))
-                  (holders (number_waiting c write read))
-                  (rw none (omega arith))
-                  (omega arith)
-                  (still_hangs en kd scene inv small k _ refl refl refl before)
-                  (λ q ne st f knows. (knows, refl)),
+              ends inv small (record {
+                start = start;
+                answer = length_answer which c (number_waiting c write read);
+                ask = Some load_of_read;
+                back = false;
+                roles_then = ro;
+                producers = (holders (number_waiting c write read)).0;
+                consumers = (holders (number_waiting c write read)).1;
+                wrote = wrote (number_waiting c write read);
+                tells = tells write read knows.1;
+                grants = grants (number_waiting c write read);
+                steps = rw none (omega arith);
+                paid = omega arith;
+                hangs = still_hangs inv k _ refl refl refl before;
+                others = λ q ne st f knows. (knows, refl);
+              }),
             )
         -- the position has moved: the call turns back to its first load
         go false e =
@@ -172,10 +202,16 @@ module _ {T : Type 0} {en : Coding T} {kd : QueueKind} {scene : Scene T kd} (inv
             let early = knows.0.1 in
             let paid = knows.0.2 in
             let moved : k.read ≢ read = grind (arith, nat_tests) in
-            quiet en kd scene inv small before true start (Some load_of_read) (call_at which c lens.LoadsWrite) k refl refl refl refl good_before refl
-            (record { span = refl; steps = omega arith; at = at lens.LoadsWrite })
-            (omega arith)
-            (λ q ne st f knows. (knows, refl))
+            quiet inv small before (same_queue inv) (record {
+              start = start;
+              ask = Some load_of_read;
+              back = true;
+              flight = call_at which c lens.LoadsWrite;
+              calm = refl;
+              words = refl;
+              here = record { span = refl; steps = omega arith; at = at lens.LoadsWrite };
+              knows = omega arith;
+            })
 
     -- each step of a length call leaves the queue as it is and keeps the invariant
     length_step : (stage : LenStage) → steps ≤ 4 * backs + len_number stage → LengthKnows stage → StaysAt stage

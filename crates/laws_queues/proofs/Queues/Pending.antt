@@ -44,11 +44,11 @@ module _ {T : Type 0} where
   pending_after = grind (arith, pending, put, option_map, pending_here)
 
 -- what `Hangs` says of the values that wait holds also of another core with the same values
-pub hangs_same : (T : Type 0) (kd : QueueKind) (c : ℕ) (k k' : Core (Val T kd)) (o o' : Option (ℕ × ℕ))
+pub hangs_same : (T : Type 0) (kd : QueueKind) (c : ℕ) (k k' : Core (Val T kd)) {o o' : Option (ℕ × ℕ)}
     → k'.waiting ≡ k.waiting → o' ≡ o → Hangs T kd c k o → Hangs T kd c k' o'
-hangs_same T kinds.IndexQueue c k k' o o' same e hangs = tt
-hangs_same T kinds.Queue c k k' o o' same e hangs = tt
-hangs_same T kinds.Overflow c k k' o o' same e hangs = subst (Hangs T kinds.Overflow c k') (sym e) (go o hangs)
+hangs_same T kinds.IndexQueue c k k' same e hangs = tt
+hangs_same T kinds.Queue c k k' same e hangs = tt
+hangs_same T kinds.Overflow c k k' {o} {o'} same e hangs = subst (Hangs T kinds.Overflow c k') (sym e) (go o hangs)
   where
     -- the cases are whether a push is pending
     go : (o : Option (ℕ × ℕ)) → Hangs T kinds.Overflow c k o → Hangs T kinds.Overflow c k' o

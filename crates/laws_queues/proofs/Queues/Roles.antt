@@ -32,6 +32,7 @@ taken_is (Some p) = refl
 abbrev with_roles : {T : Type 0} → {kd : QueueKind} → Scene T kd → Option ℕ → Option ℕ → Scene T kd
 with_roles scene pr co = record scene { roles = record { producer = pr; consumer = co } }
 
+-- the party has a call on a role under way, which has taken no step
 module _ {T : Type 0} (en : Coding T) {kd : QueueKind} (scene : Scene T kd) (small : scene.core.write < 2 ^ 64)
     (few_steps : scene.steps ≤ 0) (no_backs : scene.backs ≡ 0) where
   open scene use {capacity as c, core as k}
@@ -46,31 +47,43 @@ module _ {T : Type 0} (en : Coding T) {kd : QueueKind} (scene : Scene T kd) (sma
   acquire_producer None co inv before = (
     k,
     refl,
-    ends en kd (with_roles scene None co) inv small (record { producer = Some scene.party; consumer = co }) false
-        AcquireProducer (answers.Truth true) (takes producer_word)
-        (record { moments = refl; published = refl; handed_out = refl })
-        tt
-        (rw inv.queue.producers refl)
-        (refl, refl)
-        (omega arith)
-        (omega arith)
-        (none_hangs T kd c k _ (pending_here k.read scene.party _ scene.latest)
-        (few_wait en kd c k (pending k.read None scene.latest) refl inv.queue.good inv.queue.hangs))
-        (λ q ne. kept _ _ q (λ h. cc) (λ h. h) en c kd k k (keeps_same en kd c _ k q)),
+    ends inv small (record {
+      start = AcquireProducer;
+      answer = answers.Truth true;
+      ask = takes producer_word;
+      back = false;
+      roles_then = record { producer = Some scene.party; consumer = co };
+      producers = refl;
+      consumers = refl;
+      wrote = record { moments = refl; published = refl; handed_out = refl };
+      tells = tt;
+      grants = rw inv.queue.producers refl;
+      steps = omega arith;
+      paid = omega arith;
+      hangs = none_hangs T kd c k _ (pending_here k.read scene.party _ scene.latest)
+          (few_wait en kd c k (pending k.read None scene.latest) refl inv.queue.good inv.queue.hangs);
+      others = λ q ne. kept (record { producer = λ h. cc; consumer = λ h. h }) en c kd k k (keeps_same en kd c _ k q);
+    }),
   )
   acquire_producer (Some r) co inv before = (
     k,
     refl,
-    ends en kd (with_roles scene (Some r) co) inv small (record { producer = Some r; consumer = co }) false
-        AcquireProducer (answers.Truth false) (takes producer_word)
-        (record { moments = refl; published = refl; handed_out = refl })
-        tt
-        (rw inv.queue.producers refl)
-        (refl, refl)
-        (omega arith)
-        (omega arith)
-        (still_hangs en kd _ inv small k _ refl refl refl before)
-        (λ q ne st f h. (h, refl)),
+    ends inv small (record {
+      start = AcquireProducer;
+      answer = answers.Truth false;
+      ask = takes producer_word;
+      back = false;
+      roles_then = record { producer = Some r; consumer = co };
+      producers = refl;
+      consumers = refl;
+      wrote = record { moments = refl; published = refl; handed_out = refl };
+      tells = tt;
+      grants = rw inv.queue.producers refl;
+      steps = omega arith;
+      paid = omega arith;
+      hangs = still_hangs inv k _ refl refl refl before;
+      others = λ q ne st f h. (h, refl);
+    }),
   )
 
   -- the exchange that asks for the consumer's role keeps the invariant, whoever holds the two roles
@@ -79,30 +92,42 @@ module _ {T : Type 0} (en : Coding T) {kd : QueueKind} (scene : Scene T kd) (sma
   acquire_consumer pr None inv before = (
     k,
     refl,
-    ends en kd (with_roles scene pr None) inv small (record { producer = pr; consumer = Some scene.party }) false
-        AcquireConsumer (answers.Truth true) (takes consumer_word)
-        (record { moments = refl; published = refl; handed_out = refl })
-        tt
-        (rw inv.queue.consumers refl)
-        (refl, refl)
-        (omega arith)
-        (omega arith)
-        (still_hangs en kd _ inv small k _ refl refl refl before)
-        (λ q ne. kept _ _ q (λ h. h) (λ h. cc) en c kd k k (keeps_same en kd c _ k q)),
+    ends inv small (record {
+      start = AcquireConsumer;
+      answer = answers.Truth true;
+      ask = takes consumer_word;
+      back = false;
+      roles_then = record { producer = pr; consumer = Some scene.party };
+      producers = refl;
+      consumers = refl;
+      wrote = record { moments = refl; published = refl; handed_out = refl };
+      tells = tt;
+      grants = rw inv.queue.consumers refl;
+      steps = omega arith;
+      paid = omega arith;
+      hangs = still_hangs inv k _ refl refl refl before;
+      others = λ q ne. kept (record { producer = λ h. h; consumer = λ h. cc }) en c kd k k (keeps_same en kd c _ k q);
+    }),
   )
   acquire_consumer pr (Some r) inv before = (
     k,
     refl,
-    ends en kd (with_roles scene pr (Some r)) inv small (record { producer = pr; consumer = Some r }) false
-        AcquireConsumer (answers.Truth false) (takes consumer_word)
-        (record { moments = refl; published = refl; handed_out = refl })
-        tt
-        (rw inv.queue.consumers refl)
-        (refl, refl)
-        (omega arith)
-        (omega arith)
-        (still_hangs en kd _ inv small k _ refl refl refl before)
-        (λ q ne st f h. (h, refl)),
+    ends inv small (record {
+      start = AcquireConsumer;
+      answer = answers.Truth false;
+      ask = takes consumer_word;
+      back = false;
+      roles_then = record { producer = pr; consumer = Some r };
+      producers = refl;
+      consumers = refl;
+      wrote = record { moments = refl; published = refl; handed_out = refl };
+      tells = tt;
+      grants = rw inv.queue.consumers refl;
+      steps = omega arith;
+      paid = omega arith;
+      hangs = still_hangs inv k _ refl refl refl before;
+      others = λ q ne st f h. (h, refl);
+    }),
   )
 
   -- the store that gives the producer's role back keeps the invariant, where the party holds the role
@@ -111,19 +136,25 @@ module _ {T : Type 0} (en : Coding T) {kd : QueueKind} (scene : Scene T kd) (sma
   release_producer pr co holds inv before = (
     k,
     refl,
-    ends en kd (with_roles scene pr co) inv small (record { producer = None; consumer = co }) false ReleaseProducer
-        answers.Done (gives producer_word)
-        (record { moments = refl; published = refl; handed_out = refl })
-        tt
-        (refl, inv.queue.producers ∙ holds)
-        (refl, refl)
-        (omega arith)
-        (omega arith)
-        (none_hangs T kd c k None refl
-        (few_wait en kd c k (pending k.read pr scene.latest)
-        (rw holds (ap (option_map (λ (v : ℕ). (scene.party, v))) before))
-        inv.queue.good inv.queue.hangs))
-        (λ q ne. kept _ _ q (λ h. absurd (clash pr scene.party q ne holds h)) (λ h. h) en c kd k k (keeps_same en kd c _ k q)),
+    ends inv small (record {
+      start = ReleaseProducer;
+      answer = answers.Done;
+      ask = gives producer_word;
+      back = false;
+      roles_then = record { producer = None; consumer = co };
+      producers = refl;
+      consumers = refl;
+      wrote = record { moments = refl; published = refl; handed_out = refl };
+      tells = tt;
+      grants = (refl, inv.queue.producers ∙ holds);
+      steps = omega arith;
+      paid = omega arith;
+      hangs = none_hangs T kd c k None refl
+          (few_wait en kd c k (pending k.read pr scene.latest)
+          (rw holds (ap (option_map (λ (v : ℕ). (scene.party, v))) before))
+          inv.queue.good inv.queue.hangs);
+      others = λ q ne. kept (record { producer = λ h. absurd (clash pr scene.party q ne holds h); consumer = λ h. h }) en c kd k k (keeps_same en kd c _ k q);
+    }),
   )
 
   -- the store that gives the consumer's role back keeps the invariant, where the party holds the role
@@ -132,16 +163,22 @@ module _ {T : Type 0} (en : Coding T) {kd : QueueKind} (scene : Scene T kd) (sma
   release_consumer pr co holds inv before = (
     k,
     refl,
-    ends en kd (with_roles scene pr co) inv small (record { producer = pr; consumer = None }) false ReleaseConsumer
-        answers.Done (gives consumer_word)
-        (record { moments = refl; published = refl; handed_out = refl })
-        tt
-        (refl, inv.queue.consumers ∙ holds)
-        (refl, refl)
-        (omega arith)
-        (omega arith)
-        (still_hangs en kd _ inv small k _ refl refl refl before)
-        (λ q ne. kept _ _ q (λ h. h) (λ h. absurd (clash co scene.party q ne holds h)) en c kd k k (keeps_same en kd c _ k q)),
+    ends inv small (record {
+      start = ReleaseConsumer;
+      answer = answers.Done;
+      ask = gives consumer_word;
+      back = false;
+      roles_then = record { producer = pr; consumer = None };
+      producers = refl;
+      consumers = refl;
+      wrote = record { moments = refl; published = refl; handed_out = refl };
+      tells = tt;
+      grants = (refl, inv.queue.consumers ∙ holds);
+      steps = omega arith;
+      paid = omega arith;
+      hangs = still_hangs inv k _ refl refl refl before;
+      others = λ q ne. kept (record { producer = λ h. h; consumer = λ h. absurd (clash co scene.party q ne holds h) }) en c kd k k (keeps_same en kd c _ k q);
+    }),
   )
 
   -- the exchange that asks for the producer's role keeps the invariant
@@ -167,16 +204,22 @@ module _ {T : Type 0} (en : Coding T) {kd : QueueKind} (scene : Scene T kd) (sma
   looks_at_producer inv before = (
     k,
     refl,
-    ends en kd scene inv small scene.roles false HasProducer (answers.Truth (not (free scene.roles.producer == 1)))
-        (looks producer_word)
-        (record { moments = refl; published = refl; handed_out = refl })
-        tt
-        (rw inv.queue.producers (ap answers.Truth (taken_is scene.roles.producer)))
-        (refl, refl)
-        (omega arith)
-        (omega arith)
-        (still_hangs en kd scene inv small k _ refl refl refl before)
-        (λ q ne st f h. (h, refl)),
+    ends inv small (record {
+      start = HasProducer;
+      answer = answers.Truth (not (free scene.roles.producer == 1));
+      ask = looks producer_word;
+      back = false;
+      roles_then = scene.roles;
+      producers = refl;
+      consumers = refl;
+      wrote = record { moments = refl; published = refl; handed_out = refl };
+      tells = tt;
+      grants = rw inv.queue.producers (ap answers.Truth (taken_is scene.roles.producer));
+      steps = omega arith;
+      paid = omega arith;
+      hangs = still_hangs inv k _ refl refl refl before;
+      others = λ q ne st f h. (h, refl);
+    }),
   )
 
   -- the load of the consumer's word keeps the invariant, and leaves the role as it is
@@ -184,14 +227,20 @@ module _ {T : Type 0} (en : Coding T) {kd : QueueKind} (scene : Scene T kd) (sma
   looks_at_consumer inv before = (
     k,
     refl,
-    ends en kd scene inv small scene.roles false HasConsumer (answers.Truth (not (free scene.roles.consumer == 1)))
-        (looks consumer_word)
-        (record { moments = refl; published = refl; handed_out = refl })
-        tt
-        (rw inv.queue.consumers (ap answers.Truth (taken_is scene.roles.consumer)))
-        (refl, refl)
-        (omega arith)
-        (omega arith)
-        (still_hangs en kd scene inv small k _ refl refl refl before)
-        (λ q ne st f h. (h, refl)),
+    ends inv small (record {
+      start = HasConsumer;
+      answer = answers.Truth (not (free scene.roles.consumer == 1));
+      ask = looks consumer_word;
+      back = false;
+      roles_then = scene.roles;
+      producers = refl;
+      consumers = refl;
+      wrote = record { moments = refl; published = refl; handed_out = refl };
+      tells = tt;
+      grants = rw inv.queue.consumers (ap answers.Truth (taken_is scene.roles.consumer));
+      steps = omega arith;
+      paid = omega arith;
+      hangs = still_hangs inv k _ refl refl refl before;
+      others = λ q ne st f h. (h, refl);
+    }),
   )

@@ -111,44 +111,6 @@ module _ {T : Type 0} (en : Coding T) (kd : QueueKind) (scene : Scene T kd) wher
   abbrev pub IsCalm : ℕ → Type 0
   IsCalm position = pending_at position (flight_of (doing_of (party_of p scene.latest))) ≡ None
 
-  module _ (inv : Inv en kd scene) (small : scene.core.write < 2 ^ 64) where
-    -- where the party's call is no pending push, before or after, and what waits stays,
-    -- `Hangs` holds afterwards
-    pub still_hangs : (k' : Core (Val T kd)) (y : Party T) → k'.waiting ≡ k.waiting → k'.read ≡ k.read
-        → pending_at k.read (flight_of (Some y.doing)) ≡ None → IsCalm k.read
-        → Hangs T kd c k' (pending k'.read ro.producer (put p y scene.latest))
-    still_hangs = grind (arith, hangs_same, pending, put, pending_put)
-
-    -- a step with which the call goes on, and which moves no position and writes nothing, keeps the
-    -- invariant (`Shows`)
-    pub quiet :
-        IsCalm k.read → (back : Bool) (start : QueueStart T) (ask : Option Ask) (flight : QueueFlight T) (k' : Core (Val T kd))
-        → pending_at k.read (Some (flights.Queues flight)) ≡ None → k'.waiting ≡ k.waiting
-        → k'.write ≡ k.write → k'.read ≡ k.read
-        → Good (encoded en kd).size (encoded en kd).words_of (cells_of kd c) k' → words_after words ask ≡ layout ro k'
-        → frame.IsUnderWay (family en kd c) (record { roles = ro; core = k' }) p
-        (party_then start ask back (GoOn flight)) (flights.Queues flight) (Open (Queues start) [])
-        → KnowsFlight c k' p scene.events (scene.since + change_of words ask) (changes_then ask) (scene.backs + one_if back) flight
-        → ((q : ℕ) → q ≢ p → (s : QueueStart T) (f : QueueFlight T) → At en kd c ro k q s f
-        → At en kd c ro k' q s f × (has_written {T = T} c k' q f ≡ has_written c k q f))
-        → Stays start ask back (GoOn flight) Quiet
-    quiet = grind (arith, still_hangs, append-nil, map, item, listed)
-
-    -- a step that ends the call, and publishes, hands out and acts nothing, keeps the invariant (`Shows`)
-    pub ends :
-        (ro' : Roles) (back : Bool) (start : QueueStart T) (answer : Answer T) (ask : Option Ask)
-        → Wrote kd c start answer [] → TellsLength c scene.events (Finished p (Queues start) answer)
-        → GrantsRight scene.events (Finished p (Queues start) answer)
-        → (fold producer_after ro.producer (Finished p (Queues start) answer ∷ []) ≡ ro'.producer)
-        × (fold consumer_after ro.consumer (Finished p (Queues start) answer ∷ []) ≡ ro'.consumer)
-        → scene.steps + step_count ask ≤ most_steps en.size kd start (scene.backs + one_if back)
-        → scene.backs + one_if back ≤ changes_then ask - (scene.since + change_of words ask)
-        → Hangs T kd c k (pending k.read ro'.producer (put p (party_then start ask back (Done answer)) scene.latest))
-        → ((q : ℕ) → q ≢ p → (s : QueueStart T) (f : QueueFlight T) → At en kd c ro k q s f
-        → At en kd c ro' k q s f × (has_written {T = T} c k q f ≡ has_written c k q f))
-        → Shows en kd scene ro' k (Open (Queues start) []) (party_then start ask back (Done answer)) (Finished p (Queues start) answer ∷ []) (changes_then ask)
-    ends = grind (arith, append-nil, map, item)
-
   -- ---- a step that may also write events of a second party
 
   -- a step with the operation `ask` leaves some core `k'` of which `ShowsQueue` holds, and gives the frame
@@ -166,22 +128,96 @@ module _ {T : Type 0} (en : Coding T) (kd : QueueKind) (scene : Scene T kd) wher
   abbrev pub MovesOf : QueueStart T → QueueFlight T → Type 0
   MovesOf start flight = Moves start (ask_of (want en flight)) (goes_back flight (old_for flight)) (after en flight (old_for flight)) (effect_for flight)
 
+-- In the core `k'` that a step leaves, the positions and the values that wait are those of the core before it, and the calls of other
+-- parties stand where they stood.
+pub record SameQueue {T : Type 0} (en : Coding T) (kd : QueueKind) (scene : Scene T kd) (k' : Core (Val T kd)) : Type 0 where
+  pub waits : k'.waiting ≡ scene.core.waiting
+  pub write : k'.write ≡ scene.core.write
+  pub read : k'.read ≡ scene.core.read
+  pub good : Good (encoded en kd).size (encoded en kd).words_of (cells_of kd scene.capacity) k'
+  pub others : (q : ℕ) → q ≢ scene.party → (s : QueueStart T) (f : QueueFlight T) → At en kd scene.capacity scene.roles scene.core q s f
+      → At en kd scene.capacity scene.roles k' q s f × (has_written {T = T} scene.capacity k' q f ≡ has_written scene.capacity scene.core q f)
+
+-- a step that leaves the core `k'`, with which the call goes on and writes nothing
+pub record GoesOn {T : Type 0} (en : Coding T) (kd : QueueKind) (scene : Scene T kd) (k' : Core (Val T kd)) : Type 0 where
+  pub start : QueueStart T
+  pub ask : Option Ask
+  pub back : Bool
+  pub flight : QueueFlight T  -- the call after the step
+  -- the call is then no push that is about to move the read position on from here
+  pub calm : pending_at scene.core.read (Some (flights.Queues flight)) ≡ None
+  pub words : words_after (layout scene.roles scene.core) ask ≡ layout scene.roles k'
+  -- it stands where the family says, and knows what its stage says
+  pub here : frame.IsUnderWay (family en kd scene.capacity) (record { roles = scene.roles; core = k' }) scene.party
+      (party_then en kd scene start ask back (GoOn flight)) (flights.Queues flight) (Open (Queues start) [])
+  pub knows : KnowsFlight scene.capacity k' scene.party scene.events (scene.since + change_of (layout scene.roles scene.core) ask)
+      (changes_then en kd scene ask) (scene.backs + one_if back) flight
+
+-- a step that ends the call with an answer, leaves the core, and publishes, hands out and acts nothing
+pub record Ending {T : Type 0} (en : Coding T) (kd : QueueKind) (scene : Scene T kd) : Type 0 where
+  pub start : QueueStart T
+  pub answer : Answer T
+  pub ask : Option Ask
+  pub back : Bool
+  -- who holds the roles afterwards, as the end of the call says
+  pub roles_then : Roles
+  pub producers : fold producer_after scene.roles.producer (Finished scene.party (Queues start) answer ∷ []) ≡ roles_then.producer
+  pub consumers : fold consumer_after scene.roles.consumer (Finished scene.party (Queues start) answer ∷ []) ≡ roles_then.consumer
+  -- the answer is one of a call that has written nothing, and tells the truth
+  pub wrote : Wrote kd scene.capacity start answer []
+  pub tells : TellsLength scene.capacity scene.events (Finished scene.party (Queues start) answer)
+  pub grants : GrantsRight scene.events (Finished scene.party (Queues start) answer)
+  -- the steps and the turns back of the call are within their bounds
+  pub steps : scene.steps + step_count ask ≤ most_steps en.size kd start (scene.backs + one_if back)
+  pub paid : scene.backs + one_if back ≤ changes_then en kd scene ask - (scene.since + change_of (layout scene.roles scene.core) ask)
+  -- more than the capacity wait only while a push is pending, and the calls of other parties stand where they stood
+  pub hangs : Hangs T kd scene.capacity scene.core
+      (pending scene.core.read roles_then.producer (put scene.party (party_then en kd scene start ask back (Done answer)) scene.latest))
+  pub others : (q : ℕ) → q ≢ scene.party → (s : QueueStart T) (f : QueueFlight T) → At en kd scene.capacity scene.roles scene.core q s f
+      → At en kd scene.capacity roles_then scene.core q s f
+      × (has_written {T = T} scene.capacity scene.core q f ≡ has_written scene.capacity scene.core q f)
+
+module _ {T : Type 0} {en : Coding T} {kd : QueueKind} {scene : Scene T kd} (inv : Inv en kd scene) where
+  open scene use {capacity as c, roles as ro, core as k, party as p}
+
+  -- where the party's call is no pending push, before or after, and what waits stays,
+  -- `Hangs` holds afterwards
+  pub still_hangs : (k' : Core (Val T kd)) (y : Party T) → k'.waiting ≡ k.waiting → k'.read ≡ k.read
+      → pending_at k.read (flight_of (Some y.doing)) ≡ None → IsCalm en kd scene k.read
+      → Hangs T kd c k' (pending k'.read ro.producer (put p y scene.latest))
+  still_hangs = grind (arith, hangs_same, pending, put, pending_put)
+
+  -- a step that leaves the core leaves the queue as `SameQueue` says
+  pub same_queue : SameQueue en kd scene k
+  same_queue = record { waits = refl; write = refl; read = refl; good = inv.queue.good; others = λ q ne st f h. (h, refl) }
+
+  module _ (small : scene.core.write < 2 ^ 64) where
+    -- a step with which the call goes on, and which moves no position and writes nothing, keeps the
+    -- invariant (`Shows`)
+    pub quiet : IsCalm en kd scene k.read → {k' : Core (Val T kd)} → SameQueue en kd scene k' → (on : GoesOn en kd scene k')
+        → Stays en kd scene on.start on.ask on.back (GoOn on.flight) Quiet
+    quiet = grind (arith, still_hangs, append-nil, map, item, listed)
+
+    -- a step that ends the call, and publishes, hands out and acts nothing, keeps the invariant (`Shows`)
+    pub ends : (e : Ending en kd scene)
+        → Shows en kd scene e.roles_then k (Open (Queues e.start) []) (party_then en kd scene e.start e.ask e.back (Done e.answer))
+        (Finished p (Queues e.start) e.answer ∷ []) (changes_then en kd scene e.ask)
+    ends = grind (arith, append-nil, map, item)
+
   -- a step with the fields of `Shows` keeps the invariant
-  pub alone :
-      Inv en kd scene → (wrote : List (Event T)) {start : QueueStart T} (ask : Option Ask) (back : Bool)
+  pub alone : {wrote : List (Event T)} {start : QueueStart T} (ask : Option Ask) (back : Bool)
       (after : After (QueueFlight T) (Answer T)) (effect : Effect T)
       → span_of p scene.events ≡ Open (Queues start) wrote
-      → DoesStep wrote start ask back after effect → Moves start ask back after effect
-  alone inv wrote ask back after effect seen step = (
+      → DoesStep en kd scene wrote start ask back after effect → Moves en kd scene start ask back after effect
+  alone ask back after effect seen step = (
     step.0,
     step.1,
-    queue_part en kd scene _ _ _ _ _ _ step.2,
-    owes en kd scene _ _ _ _ _ _ step.2 seen inv,
+    queue_part step.2,
+    owes step.2 seen inv,
   )
 
   -- the next step of a call keeps the invariant, where it has the fields of `Shows`
-  pub of_step : Inv en kd scene → (start : QueueStart T) (flight : QueueFlight T)
-      → span_of p scene.events ≡ Open (Queues start) (has_written c k p flight) → StepOf start flight
-      → MovesOf start flight
-  of_step inv start flight seen step =
-      alone inv _ _ _ _ _ seen step
+  pub of_step : (start : QueueStart T) (flight : QueueFlight T)
+      → span_of p scene.events ≡ Open (Queues start) (has_written c k p flight) → StepOf en kd scene start flight
+      → MovesOf en kd scene start flight
+  of_step start flight seen step = alone _ _ _ _ seen step

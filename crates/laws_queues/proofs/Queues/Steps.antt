@@ -26,7 +26,7 @@ use Rattle.model.specs.declared.families.queues.QueueKind.TheVariants as kinds
 use Rattle.model.specs.declared.turn.Refusal.TheVariants.{NoRole}
 use Rattle.model.specs.Families.{begin_of}
 use Rattle.model.proofs.Frame as frame
-use Rattle.laws_queues.proofs.Overflow.Knows.{overflow_push_at, overflow_pop_at, OverflowAt}
+use Rattle.laws_queues.proofs.Overflow.Knows.{overflow_push_at, overflow_pop_at}
 use Rattle.laws_queues.proofs.Overflow.Pops.{overflow_pop_step}
 use Rattle.laws_queues.proofs.Overflow.Pushes.{overflow_push_step}
 use Rattle.laws_queues.proofs.Queues.Begins.{IsFirst, first_is}
@@ -49,6 +49,14 @@ use Rattle.laws_queues.proofs.Ring.Pushes.{push_step}
 
 -- ---- one step of a call
 
+-- the party's call, which has not turned back and is no pending push, is about to take a step; `inv` holds before it
+record TakesStep {T : Type 0} (en : Coding T) (kd : QueueKind) (scene : Scene T kd) : Type 0 where
+  inv : Inv en kd scene
+  small : scene.core.write < 2 ^ 64
+  no_backs : scene.backs ≡ 0
+  before : IsCalm en kd scene scene.core.read
+
+-- the invariant holds before the step, and the write position fits its word
 module _ {T : Type 0} {en : Coding T} {kd : QueueKind} {scene : Scene T kd} (small : scene.core.write < 2 ^ 64) (inv : Inv en kd scene) where
   -- the step of a call on a role keeps the invariant: it keeps the invariant (`Shows`)
   role_step : (start : QueueStart T) (call : RoleCall) → RoleAt scene.roles scene.party start call → scene.steps ≤ 0
@@ -97,9 +105,9 @@ fresh_ring en write of_values (rings.Pop run) is_fresh = tt
 fresh_ring en write of_values (rings.Peek run) is_fresh = tt
 
 -- Calls of a bounded queue of either kind: the index queue or the queue of values.
-module _ {T : Type 0} (en : Coding T) (law : IsCoding en) (r : Ring) (scene : Scene T (kind_of r))
-    (small : scene.core.write < 2 ^ 64) (inv : Inv en (kind_of r) scene) (no_backs : scene.backs ≡ 0)
-    (before : IsCalm en (kind_of r) scene scene.core.read) where
+module _ {T : Type 0} {en : Coding T} (law : IsCoding en) (r : Ring) {scene : Scene T (kind_of r)} (takes : TakesStep en (kind_of r) scene) where
+  open takes use {inv, small, no_backs, before}
+
   -- the words of the queue before the step
   abbrev words : List ℕ
   words = layout scene.roles scene.core
@@ -139,33 +147,28 @@ module _ {T : Type 0} (en : Coding T) (law : IsCoding en) (r : Ring) (scene : Sc
 
 module _ {T : Type 0} {en : Coding T} (law : IsCoding en) where
   -- a step of a push, pop or peek of the index queue keeps the invariant (`Shows`)
-  index_step : (scene : Scene T IndexQueue) → scene.core.write < 2 ^ 64 → Inv en IndexQueue scene
-      → (start : QueueStart T) (call : RingCall ℕ OneWord)
+  index_step : {scene : Scene T IndexQueue} → TakesStep en IndexQueue scene → (start : QueueStart T) (call : RingCall ℕ OneWord)
       → IndexAt IndexQueue scene.capacity scene.roles scene.core scene.party start call
-      → IsFreshRing scene.core.write call → scene.steps ≤ ring_number one_word in_one call → scene.backs ≡ 0
-      → IsCalm en IndexQueue scene scene.core.read → StepOf en IndexQueue scene start (Indices call)
-  index_step scene small inv (PushIndex v) (rings.Push run) at fresh few_steps backs_are_zero before =
-      push_call en law of_indices scene small inv backs_are_zero before v (rings.Push run) at few_steps fresh
-  index_step scene small inv Pop (rings.Pop run) at fresh few_steps backs_are_zero before =
-      pop_call en law of_indices scene small inv backs_are_zero before (rings.Pop run) at few_steps
-  index_step scene small inv Peek (rings.Peek run) at fresh few_steps backs_are_zero before =
-      peek_call en law of_indices scene small inv backs_are_zero before (rings.Peek run) at few_steps
-  index_step scene small inv start call at fresh few_steps backs_are_zero before = absurd at
+      → IsFreshRing scene.core.write call → scene.steps ≤ ring_number one_word in_one call → StepOf en IndexQueue scene start (Indices call)
+  index_step takes (PushIndex v) (rings.Push run) at fresh few_steps =
+      push_call law of_indices takes v (rings.Push run) at few_steps fresh
+  index_step takes Pop (rings.Pop run) at fresh few_steps =
+      pop_call law of_indices takes (rings.Pop run) at few_steps
+  index_step takes Peek (rings.Peek run) at fresh few_steps =
+      peek_call law of_indices takes (rings.Peek run) at few_steps
+  index_step takes start call at fresh few_steps = absurd at
 
   -- a step of a push, pop or peek of the queue of values keeps the invariant (`Shows`)
-  value_step : (scene : Scene T kinds.Queue) → scene.core.write < 2 ^ 64
-      → Inv en kinds.Queue scene → (start : QueueStart T) (call : RingCall T (cells.Buffer 128))
+  value_step : {scene : Scene T kinds.Queue} → TakesStep en kinds.Queue scene → (start : QueueStart T) (call : RingCall T (cells.Buffer 128))
       → ValueAt en kinds.Queue scene.capacity scene.roles scene.core scene.party start call
-      → IsFreshRing scene.core.write call → scene.steps ≤ ring_number en in_cell call → scene.backs ≡ 0
-      → IsCalm en kinds.Queue scene scene.core.read
-      → StepOf en kinds.Queue scene start (Values call)
-  value_step scene small inv (Push v) (rings.Push run) at fresh few_steps backs_are_zero before =
-      push_call en law of_values scene small inv backs_are_zero before v (rings.Push run) at few_steps fresh
-  value_step scene small inv Pop (rings.Pop run) at fresh few_steps backs_are_zero before =
-      pop_call en law of_values scene small inv backs_are_zero before (rings.Pop run) at few_steps
-  value_step scene small inv Peek (rings.Peek run) at fresh few_steps backs_are_zero before =
-      peek_call en law of_values scene small inv backs_are_zero before (rings.Peek run) at few_steps
-  value_step scene small inv start call at fresh few_steps backs_are_zero before = absurd at
+      → IsFreshRing scene.core.write call → scene.steps ≤ ring_number en in_cell call → StepOf en kinds.Queue scene start (Values call)
+  value_step takes (Push v) (rings.Push run) at fresh few_steps =
+      push_call law of_values takes v (rings.Push run) at few_steps fresh
+  value_step takes Pop (rings.Pop run) at fresh few_steps =
+      pop_call law of_values takes (rings.Pop run) at few_steps
+  value_step takes Peek (rings.Peek run) at fresh few_steps =
+      peek_call law of_values takes (rings.Peek run) at few_steps
+  value_step takes start call at fresh few_steps = absurd at
 
 -- the party has this call under way, and its span has this begin and what the call has written
 abbrev IsCall : {T : Type 0} → {kd : QueueKind} → Scene T kd → QueueStart T → QueueFlight T → Type 0
@@ -173,57 +176,59 @@ IsCall scene start flight =
     (flight_of (doing_of (party_of scene.party scene.latest)) ≡ Some (flights.Queues flight))
     × (span_of scene.party scene.events ≡ Open (Queues start) (has_written scene.capacity scene.core scene.party flight))
 
-module _ {T : Type 0} (en : Coding T) (scene : Scene T kinds.Overflow) (small : scene.core.write < 2 ^ 64) where
+-- the party's call under way stands at its stage within its bound of steps, knows what the stage says, and finds no last position
+pub record Ready {T : Type 0} (en : Coding T) (kd : QueueKind) (scene : Scene T kd) (start : QueueStart T) (flight : QueueFlight T) : Type 0 where
+  pub at : At en kd scene.capacity scene.roles scene.core scene.party start flight
+  pub steps : scene.steps ≤ number_of en flight scene.backs
+  pub knows : KnowsFlight scene.capacity scene.core scene.party scene.events scene.since scene.changes scene.backs flight
+  pub fresh : IsFreshAt {T = T} scene.core.write flight
+  pub is : IsCall scene start flight
+
+module _ {T : Type 0} {en : Coding T} {scene : Scene T kinds.Overflow} (small : scene.core.write < 2 ^ 64) (inv : Inv en kinds.Overflow scene) where
   -- if this is the party's call under way, its next step keeps the invariant
   abbrev MovesFrom : QueueStart T → OverflowCall → Type 0
   MovesFrom start call = IsCall scene start (Overflow call) → MovesOf en kinds.Overflow scene start (Overflow call)
 
   -- a step of a push or a pop of the overflowing queue keeps the invariant
-  overflow_step : Inv en kinds.Overflow scene → (start : QueueStart T) (call : OverflowCall)
-      → OverflowAt scene.capacity scene.roles scene.core scene.party start call
-      → scene.steps ≤ number_of en (Overflow call) scene.backs
-      → KnowsFlight scene.capacity scene.core scene.party scene.events scene.since scene.changes scene.backs (Overflow call)
-      → IsFreshAt {T = T} scene.core.write (Overflow call) → MovesFrom start call
-  overflow_step inv (PushIndex v) (overflows.Push run) at few_steps knows_flight fresh is =
+  overflow_step : (start : QueueStart T) (call : OverflowCall) → Ready en kinds.Overflow scene start (Overflow call)
+      → MovesOf en kinds.Overflow scene start (Overflow call)
+  overflow_step (PushIndex v) (overflows.Push run) ready =
+      let at = ready.at in
       subst (λ n. MovesFrom (PushIndex v) (overflow_push_at n run.given run.room run.call.stage)) (sym at.1)
-      (rw at.2 (λ is. overflow_push_step inv small v run.room at.0 knows_flight run.call.stage fresh at.3 few_steps is.0 is.1))
-      is
-  overflow_step inv Pop (overflows.Pop run) at few_steps knows_flight fresh is =
+      (rw at.2 (λ is. overflow_push_step inv small v run.room at.0 ready.knows run.call.stage ready.fresh at.3 ready.steps is.0 is.1))
+      ready.is
+  overflow_step Pop (overflows.Pop run) ready =
+      let at = ready.at in
       subst (λ n. MovesFrom Pop (overflow_pop_at n run.room run.call.stage)) (sym at.1)
-      (λ is. overflow_pop_step inv small run.room at.0 run.call.stage at.2 few_steps knows_flight is.0 is.1) is
-  overflow_step inv start call at few_steps knows_flight fresh is = absurd at
+      (λ is. overflow_pop_step inv small run.room at.0 run.call.stage at.2 ready.steps ready.knows is.0 is.1) ready.is
+  overflow_step start call ready = absurd ready.at
 
 module _ {T : Type 0} {en : Coding T} (law : IsCoding en) where
-  -- the next step of any call of a queue keeps the invariant, where the call stands at its stage, knows
-  -- what the stage says, and finds no last position
+  -- the next step of any call of a queue keeps the invariant
   pub step_moves : (kd : QueueKind) (scene : Scene T kd) → scene.core.write < 2 ^ 64 → Inv en kd scene
-      → (start : QueueStart T) (flight : QueueFlight T)
-      → At en kd scene.capacity scene.roles scene.core scene.party start flight
-      → scene.steps ≤ number_of en flight scene.backs
-      → KnowsFlight scene.capacity scene.core scene.party scene.events scene.since scene.changes scene.backs flight
-      → IsFreshAt scene.core.write flight → IsCall scene start flight → MovesOf en kd scene start flight
-  step_moves kd scene small inv start (Role call) at few_steps knows_flight fresh is_call =
-      of_step en kd scene inv start (Role call) is_call.1
-      (role_step small inv start call at few_steps knows_flight (ap (pending_at scene.core.read) is_call.0))
-  step_moves IndexQueue scene small inv start (Indices call) at few_steps knows_flight fresh is_call =
-      of_step en IndexQueue scene inv start (Indices call) is_call.1
-      (index_step law scene small inv start call at (fresh_ring en scene.core.write of_indices call fresh) few_steps knows_flight
-      (ap (pending_at scene.core.read) is_call.0))
-  step_moves kinds.Overflow scene small inv start (Indices call) at few_steps knows_flight fresh is_call = absurd at
-  step_moves kinds.Queue scene small inv start (Indices call) at few_steps knows_flight fresh is_call = absurd at
-  step_moves IndexQueue scene small inv start (Values call) at few_steps knows_flight fresh is_call = absurd at
-  step_moves kinds.Overflow scene small inv start (Values call) at few_steps knows_flight fresh is_call = absurd at
-  step_moves kinds.Queue scene small inv start (Values call) at few_steps knows_flight fresh is_call =
-      of_step en kinds.Queue scene inv start (Values call) is_call.1
-      (value_step law scene small inv start call at (fresh_ring en scene.core.write of_values call fresh) few_steps knows_flight
-      (ap (pending_at scene.core.read) is_call.0))
-  step_moves IndexQueue scene small inv start (Overflow call) at few_steps knows_flight fresh is_call = absurd at
-  step_moves kinds.Overflow scene small inv start (Overflow call) at few_steps knows_flight fresh is_call =
-      overflow_step en scene small inv start call at few_steps knows_flight fresh is_call
-  step_moves kinds.Queue scene small inv start (Overflow call) at few_steps knows_flight fresh is_call = absurd at
-  step_moves kd scene small inv start (Length which call) at few_steps knows_flight fresh is_call =
-      of_step en kd scene inv start (Length which call) is_call.1
-      (length_step small inv start which call at few_steps knows_flight (ap (pending_at scene.core.read) is_call.0))
+      → (start : QueueStart T) (flight : QueueFlight T) → Ready en kd scene start flight → MovesOf en kd scene start flight
+  step_moves kd scene small inv start (Role call) ready =
+      of_step inv start (Role call) ready.is.1
+      (role_step small inv start call ready.at ready.steps ready.knows (ap (pending_at scene.core.read) ready.is.0))
+  step_moves IndexQueue scene small inv start (Indices call) ready =
+      of_step inv start (Indices call) ready.is.1
+      (index_step law (record { inv = inv; small = small; no_backs = ready.knows; before = ap (pending_at scene.core.read) ready.is.0 }) start call
+      ready.at (fresh_ring en scene.core.write of_indices call ready.fresh) ready.steps)
+  step_moves kinds.Overflow scene small inv start (Indices call) ready = absurd ready.at
+  step_moves kinds.Queue scene small inv start (Indices call) ready = absurd ready.at
+  step_moves IndexQueue scene small inv start (Values call) ready = absurd ready.at
+  step_moves kinds.Overflow scene small inv start (Values call) ready = absurd ready.at
+  step_moves kinds.Queue scene small inv start (Values call) ready =
+      of_step inv start (Values call) ready.is.1
+      (value_step law (record { inv = inv; small = small; no_backs = ready.knows; before = ap (pending_at scene.core.read) ready.is.0 }) start call
+      ready.at (fresh_ring en scene.core.write of_values call ready.fresh) ready.steps)
+  step_moves IndexQueue scene small inv start (Overflow call) ready = absurd ready.at
+  step_moves kinds.Overflow scene small inv start (Overflow call) ready =
+      overflow_step small inv start call ready
+  step_moves kinds.Queue scene small inv start (Overflow call) ready = absurd ready.at
+  step_moves kd scene small inv start (Length which call) ready =
+      of_step inv start (Length which call) ready.is.1
+      (length_step small inv start which call ready.at ready.steps ready.knows (ap (pending_at scene.core.read) ready.is.0))
 
 -- ---- a turn of the machine
 
@@ -245,6 +250,7 @@ module _ {T : Type 0} (en : Coding T) (kd : QueueKind) (c : ℕ) (t : Trace T) (
   pub few_turns : t.world.turns < 2 ^ 64 - 2 → (p : ℕ) → IsFreshTurn t (Next p)
   few_turns = grind arith
 
+-- the machine is sound before a turn of the party `p`
 module _ {T : Type 0} {en : Coding T} (law : IsCoding en) (kd : QueueKind) (c : ℕ) {t : Trace T} (s : frame.Sound (family en kd c) t) (p : ℕ) where
   -- the scene of the party's step: the queue, the party's call, and the machine around it
   abbrev pub scene_of : Party T → ℕ → Scene T kd
@@ -275,10 +281,13 @@ module _ {T : Type 0} {en : Coding T} (law : IsCoding en) (kd : QueueKind) (c : 
         (registries.Queues s.state.roles) start flight
     comes fresh {start = (Queues start)} {flight = (flights.Queues flight)} here =
         let moves =
-        step_moves law kd (scene_of x since) s.holds.within (inv_of x since) start flight here.at here.steps
-        here.knows
-        (rw (← write_is en kd c t s) (fresh_there t.world.coding t.world.words flight (fresh (flights.Queues flight) here.found)))
-        (here.found, here.span) in
+        step_moves law kd (scene_of x since) s.holds.within (inv_of x since) start flight (record {
+          at = here.at;
+          steps = here.steps;
+          knows = here.knows;
+          fresh = rw (← write_is en kd c t s) (fresh_there t.world.coding t.world.words flight (fresh (flights.Queues flight) here.found));
+          is = (here.found, here.span);
+        }) in
         record {
           state = record { roles = _; core = moves.0 };
           fit = record { kept = refl; words = moves.1 };
@@ -312,7 +321,7 @@ module _ {T : Type 0} {en : Coding T} (law : IsCoding en) (kd : QueueKind) (c : 
         -- the queue afterwards, and the list that its calls answer as
         good = s.holds.good;
         hangs =
-            hangs_same T kd c core_now core_now _ _ refl (pending_put core_now.read pr p party_after t.world.latest first.calm before) s.holds.hangs;
+            hangs_same T kd c core_now core_now refl (pending_put core_now.read pr p party_after t.world.latest first.calm before) s.holds.hangs;
         book = append-nil (map (item kd) core_now.waiting);
         out = omega arith;
         producers = refl;
@@ -333,8 +342,8 @@ module _ {T : Type 0} {en : Coding T} (law : IsCoding en) (kd : QueueKind) (c : 
       record {
         state = s.state;
         fit = record { kept = refl; words = refl };
-        holds = holds_more en scene _ s.holds (queue_part en kd scene _ _ _ _ _ _ shows);
-        owes = owes en kd scene _ _ _ _ _ _ shows refl (inv_of party_after t.world.changes);
+        holds = holds_more en scene _ s.holds (queue_part shows);
+        owes = owes shows refl (inv_of party_after t.world.changes);
       }
 
   -- a begin that the turns admit, and that no row refuses, leaves a machine with the invariant
@@ -346,9 +355,7 @@ module _ {T : Type 0} {en : Coding T} (law : IsCoding en) (kd : QueueKind) (c : 
   begin_comes {start = (Queues start)} (flights.Queues flight) may starts_at rows =
       let role = (row_passed (lacks_role s.state.roles p start) NoRole None rows).0 in
       let called : first kd c start ≡ Some flight = sym (call_is kd c start) ∙ some_mapped (call_of (machine_kind kd) c start) flight starts_at in
-      begins (first_is law c s.state.roles p (t.events ++ Begun p (Queues start) ∷ []) t.world.changes kd s.state.core
-      start flight called role)
-      may.free
+      begins (first_is law called role) may.free
   begin_comes flight may starts_at rows = grind arith
 
 -- no call of a queue asks a question

@@ -13,7 +13,7 @@ use Rattle.model.specs.declared.event.Answer.TheVariants as answers
 use Rattle.laws_queues.proofs.Queues.Core.{Good}
 use Rattle.laws_queues.proofs.Queues.Invariant.{Scene, Inv, waiting_is}
 use Rattle.laws_queues.proofs.Queues.Knows.{layout}
-use Rattle.laws_queues.proofs.Queues.Stages.{IsCalm, first_of_some, cell_asked, DoesStep, quiet, ends}
+use Rattle.laws_queues.proofs.Queues.Stages.{IsCalm, first_of_some, cell_asked, DoesStep, same_queue, quiet, ends}
 use Rattle.laws_queues.proofs.Queues.Values.{Val, encoded, item}
 use Rattle.laws_queues.proofs.Ring.Kinds.{Ring, kind_of, Room, words_in, with_word, flight, got, read_in}
 use Rattle.laws_queues.proofs.Ring.Kinds.{ring_want, ring_after, are_words, calm, wrote_none, knows, number}
@@ -73,15 +73,22 @@ module _ {T : Type 0} {en : Coding T} (r : Ring) (law : IsCoding en) {scene : Sc
       → words_after (layout ro k) ask ≡ layout ro k → PeekKnows room' stage → steps + step_count ask ≤ peek_number size stage
       → StepKeeps ask (GoOn (flight r (peek_at c room' stage)))
   goes_on ask room' stage words known most =
-      quiet en (kind_of r) scene inv small before false Peek ask (flight r (peek_at c room' stage)) k
-      (calm T r k.read (peek_at c room' stage)) refl refl refl inv.queue.good words
-      (record {
-        span = ap (λ es. Open (Queues Peek) es) (sym (wrote_none r c k p (peek_at c room' stage)));
-        steps = rw (number en r (peek_at c room' stage) (backs + 0)) most;
-        at = peek_here en r c ro k p (peek_at c room' stage) (holds, refl, known);
+      quiet inv small before (same_queue inv) (record {
+        start = Peek;
+        ask = ask;
+        back = false;
+        flight = flight r (peek_at c room' stage);
+        calm = calm T r k.read (peek_at c room' stage);
+        words = words;
+        here = record {
+          span = ap (λ es. Open (Queues Peek) es) (sym (wrote_none r c k p (peek_at c room' stage)));
+          steps = rw (number en r (peek_at c room' stage) (backs + 0)) most;
+          at = peek_here en r c ro k p (peek_at c room' stage) (holds, refl, known);
+        };
+        knows =
+            knows r c k p events (since + change_of (layout ro k) ask) (changes + change_of (layout ro k) ask)
+            (backs + 0) (peek_at c room' stage) (omega arith);
       })
-      (knows r c k p events (since + change_of (layout ro k) ask) (changes + change_of (layout ro k) ask) (backs + 0) (peek_at c room' stage) (omega arith))
-      (λ q ne st f h. (h, refl))
 
   -- a step that ends the peek with the oldest value that waits, or None
   tells : (ask : Option Ask) (answer : Answer T) → words_after (layout ro k) ask ≡ layout ro k
@@ -89,15 +96,22 @@ module _ {T : Type 0} {en : Coding T} (r : Ring) (law : IsCoding en) {scene : Sc
   tells ask answer words right most = (
     k,
     words,
-    ends en (kind_of r) scene inv small ro false Peek answer ask
-        (record { moments = refl; published = refl; handed_out = refl })
-        (right ∙ ap (λ (xs : List (Item T)). answer_of_item (slice_get xs 0)) (sym (waiting_is events (items k.waiting) inv.queue.book)))
-        tt
-        (refl, refl)
-        (rw (most_peek en r (backs + 0)) most)
-        (omega arith)
-        (none_hangs T r c k _)
-        (λ q ne st f h. (h, refl)),
+    ends inv small (record {
+      start = Peek;
+      answer = answer;
+      ask = ask;
+      back = false;
+      roles_then = ro;
+      producers = refl;
+      consumers = refl;
+      wrote = record { moments = refl; published = refl; handed_out = refl };
+      tells = right ∙ ap (λ (xs : List (Item T)). answer_of_item (slice_get xs 0)) (sym (waiting_is events (items k.waiting) inv.queue.book));
+      grants = tt;
+      steps = rw (most_peek en r (backs + 0)) most;
+      paid = omega arith;
+      hangs = none_hangs T r c k _;
+      others = λ q ne st f h. (h, refl);
+    }),
   )
 
   -- the load of the read position leads on to the load of the write position
@@ -155,14 +169,14 @@ module _ {T : Type 0} {en : Coding T} (r : Ring) (law : IsCoding en) {scene : Sc
       go true t =
           let goes : ring_after en r (at (loads_cell i)) old ≡ GoOn (flight r (peek_at c next (loads_cell (i + 1)))) = rw t refl in
           let further : i + 1 < size = grind (arith, nat_tests) in
-          rw goes (goes_on ask next (loads_cell (i + 1)) same (loads_more en r law c ro k fits good_before room i known further) (omega arith))
+          rw goes (goes_on ask next (loads_cell (i + 1)) same (loads_more r law ro fits good_before room i known further) (omega arith))
       -- it was the last word: the peek ends with the front value
       go false t =
           let v : Val T (kind_of r) = read_in en r next in
           let goes : ring_after en r (at (loads_cell i)) old ≡ Done (got r v) = rw t refl in
           let below = known.6 in
           let last : size ≡ i + 1 = (let over : size ≤ i + 1 = grind (arith, nat_tests) in omega arith) in
-          let has = loads_last en r law c ro k fits good_before room i known last in
+          let has = loads_last r law ro fits good_before room i known last in
           rw goes (tells ask (got r v) same
           (sym (ap (λ (xs : List (Val T (kind_of r))). answer_of_item {T = T} (slice_get (items xs) 0)) has.2 ∙ answer_is r v))
           (omega arith))

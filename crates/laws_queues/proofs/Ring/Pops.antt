@@ -14,9 +14,9 @@ use Rattle.steps.specs.Queues.Ring.{cell_word}
 use Rattle.model.specs.declared.event.Answer.TheVariants as answers
 use Rattle.laws_queues.proofs.Queues.Core.{Core, Good, taken, takes}
 use Rattle.laws_queues.proofs.Queues.Invariant.{Scene, Inv, waiting_is}
-use Rattle.laws_queues.proofs.Queues.Keeping.{clash, kept}
+use Rattle.laws_queues.proofs.Queues.Keeping.{clash, same_roles, kept}
 use Rattle.laws_queues.proofs.Queues.Knows.{free, layout}
-use Rattle.laws_queues.proofs.Queues.Stages.{IsCalm, first_of_some, cell_asked, DoesStep, quiet}
+use Rattle.laws_queues.proofs.Queues.Stages.{IsCalm, first_of_some, cell_asked, DoesStep, same_queue, quiet}
 use Rattle.laws_queues.proofs.Queues.Values.{Val, encoded, item}
 use Rattle.laws_queues.proofs.Ring.Kinds.{Ring, kind_of, Room, words_in, with_word, flight, got, read_in}
 use Rattle.laws_queues.proofs.Ring.Kinds.{ring_want, ring_after, ring_effect, are_words, calm, wrote_none, knows}
@@ -81,15 +81,22 @@ module _ {T : Type 0} {en : Coding T} (r : Ring) (law : IsCoding en) {scene : Sc
       → steps + step_count ask ≤ pop_number size stage
       → StepKeeps ask (GoOn (flight r (pop_at c room' stage))) Quiet
   goes_on ask room' stage words known most =
-      quiet en (kind_of r) scene inv small before false Pop ask (flight r (pop_at c room' stage)) k
-      (calm T r k.read (pop_at c room' stage)) refl refl refl inv.queue.good words
-      (record {
-        span = ap (λ es. Open (Queues Pop) es) (sym (wrote_none r c k p (pop_at c room' stage)));
-        steps = rw (number en r (pop_at c room' stage) (backs + 0)) most;
-        at = pop_here en r c ro k p (pop_at c room' stage) (holds, refl, known);
+      quiet inv small before (same_queue inv) (record {
+        start = Pop;
+        ask = ask;
+        back = false;
+        flight = flight r (pop_at c room' stage);
+        calm = calm T r k.read (pop_at c room' stage);
+        words = words;
+        here = record {
+          span = ap (λ es. Open (Queues Pop) es) (sym (wrote_none r c k p (pop_at c room' stage)));
+          steps = rw (number en r (pop_at c room' stage) (backs + 0)) most;
+          at = pop_here en r c ro k p (pop_at c room' stage) (holds, refl, known);
+        };
+        knows =
+            knows r c k p events (since + change_of (layout ro k) ask) (changes + change_of (layout ro k) ask)
+            (backs + 0) (pop_at c room' stage) (omega arith);
       })
-      (knows r c k p events (since + change_of (layout ro k) ask) (changes + change_of (layout ro k) ask) (backs + 0) (pop_at c room' stage) (omega arith))
-      (λ q ne st f h. (h, refl))
 
   -- the load of the read position leads on to the load of the write position
   loads_read : size ≤ length (words_in r room) → steps ≤ 0 → StageKeeps pops.LoadsRead
@@ -185,13 +192,13 @@ module _ {T : Type 0} {en : Coding T} (r : Ring) (law : IsCoding en) {scene : Sc
       go true t =
           let goes : ring_after en r (at (loads_cell i)) old ≡ GoOn (flight r (pop_at c next (loads_cell (i + 1)))) = rw t refl in
           let further : i + 1 < size = grind (arith, nat_tests) in
-          rw goes (goes_on ask next (loads_cell (i + 1)) same (loads_more en r law c ro k fits good_before room i known further) (omega arith))
+          rw goes (goes_on ask next (loads_cell (i + 1)) same (loads_more r law ro fits good_before room i known further) (omega arith))
       -- it was the last word: the pop goes on to store the next read position
       go false t =
           let goes : ring_after en r (at (loads_cell i)) old ≡ GoOn (flight r (pop_at c next (pops.StoresRead k.read))) = rw t refl in
           let below = known.6 in
           let last : size ≡ i + 1 = (let over : size ≤ i + 1 = grind (arith, nat_tests) in omega arith) in
-          rw goes (goes_on ask next (pops.StoresRead k.read) same (loads_last en r law c ro k fits good_before room i known last) (omega arith))
+          rw goes (goes_on ask next (pops.StoresRead k.read) same (loads_last r law ro fits good_before room i known last) (omega arith))
 
   -- the store of the next read position ends the pop with the value in its room, the oldest that waits
   stores_read : (rest : List (Val T (kind_of r))) → k.waiting ≡ read_in en r room ∷ rest → steps ≤ 2 + size → StageKeeps (pops.StoresRead k.read)
@@ -218,7 +225,7 @@ module _ {T : Type 0} {en : Coding T} (r : Ring) (law : IsCoding en) {scene : Sc
           right = (tt, (got_is_right r c (events ++ HandedOut p (item (kind_of r) v) ∷ []) p v, (tt, tt)));
           lengths = (tt, (tt, (tt, tt)));
           -- the queue afterwards, and the list that its calls answer as
-          good = rw (cells_are r c) (takes size words_of c k v rest front_is good_before);
+          good = rw (cells_are r c) (takes good_before front_is);
           hangs = none_hangs T r c after _;
           out = omega arith;
           book = append-nil (items k.waiting) ∙ first;
@@ -237,7 +244,7 @@ module _ {T : Type 0} {en : Coding T} (r : Ring) (law : IsCoding en) {scene : Sc
           knows = omega arith;
           up = record { write = omega arith; read = omega arith; paid = omega arith };
           others =
-              λ q ne. kept ro ro q (λ h. h) (λ h. h) en c (kind_of r) k after (ring_keeps en r (record {
+              λ q ne. kept (same_roles ro q) en c (kind_of r) k after (ring_keeps en r (record {
                 push = λ mine w stage h. take_keeps (encoded en (kind_of r)) c k v rest front_is w stage h;
                 pop = λ mine other stage h. absurd (clash ro.consumer p q ne holds mine);
               }));

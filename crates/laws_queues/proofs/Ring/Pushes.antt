@@ -1,9 +1,9 @@
 -- Each step of a bounded queue's push keeps the invariant.
-use Rattle.laws_queues.proofs.Names.{◌≡◌, ◌≢◌, ℕ, ◌+◌, ◌-◌, ◌*◌, ◌%◌, ◌^◌, ◌<◌, ◌≤◌, ◌==◌, nat_lt, Bool, true, false}
+use Rattle.laws_queues.proofs.Names.{◌≡◌, ℕ, ◌+◌, ◌-◌, ◌*◌, ◌%◌, ◌^◌, ◌<◌, ◌≤◌, ◌==◌, nat_lt, Bool, true, false}
 use Rattle.laws_queues.proofs.Names.{◌||◌, Option, Some, List, [], ◌∷◌, ◌++◌, length, get_or, map, refl, sym, ap}
 use Rattle.laws_queues.proofs.Names.{subst, ◌∙◌, append-nil, nat_tests, map-append, length-map, Ask, Store, After}
 use Rattle.laws_queues.proofs.Names.{GoOn, Done, distance, after_position, QueueFlight, RingCall, Effect, Quiet, Acts}
-use Rattle.laws_queues.proofs.Names.{Publishes, Item, QueueStart, Answer, Queues, Published, Acted, Coding, IsCoding}
+use Rattle.laws_queues.proofs.Names.{Publishes, Item, Answer, Queues, Published, Acted, Coding, IsCoding}
 use Rattle.laws_queues.proofs.Names.{ask_of, write_word, appended, load_of_write, load_of_read, published, handed_out}
 use Rattle.laws_queues.proofs.Names.{Open, old_of, words_after, change_of, step_count}
 use Rattle.std.proofs.Common.{arith}
@@ -14,9 +14,9 @@ use Rattle.model.specs.declared.event.Answer.TheVariants as answers
 use Rattle.laws_queues.proofs.Queues.Core as core
 use Rattle.laws_queues.proofs.Queues.Core.{Core, Holds, Good, filled, fills, one_filled, publishes, set_at}
 use Rattle.laws_queues.proofs.Queues.Invariant.{Scene, Inv, waiting_is}
-use Rattle.laws_queues.proofs.Queues.Keeping.{clash, kept}
-use Rattle.laws_queues.proofs.Queues.Knows.{free, layout, has_written, At}
-use Rattle.laws_queues.proofs.Queues.Stages.{IsCalm, cell_asked, asked_place, Leaves, DoesStep, quiet}
+use Rattle.laws_queues.proofs.Queues.Keeping.{clash, same_roles, kept}
+use Rattle.laws_queues.proofs.Queues.Knows.{free, layout}
+use Rattle.laws_queues.proofs.Queues.Stages.{IsCalm, cell_asked, asked_place, Leaves, DoesStep, SameQueue, same_queue, quiet}
 use Rattle.laws_queues.proofs.Queues.Values.{Val, encoded, item}
 use Rattle.laws_queues.proofs.Ring.Kinds.{Ring, kind_of, Room, flight, push, ring_want, ring_after, ring_effect}
 use Rattle.laws_queues.proofs.Ring.Kinds.{are_words, calm, wrote_none, knows, number, push_here, ring_keeps}
@@ -80,24 +80,25 @@ module _ {T : Type 0} {en : Coding T} (r : Ring) (law : IsCoding en) {scene : Sc
       (ring_effect en r (at stage))
 
   -- a step that changes at most the cells of the queue, after which the push is at this stage
-  goes_on : (ask : Option Ask) (stage : PushStage) {k' : Core (Val T (kind_of r))} → k'.waiting ≡ k.waiting
-      → k'.write ≡ k.write → k'.read ≡ k.read → Good size words_of c k' → words_after (layout ro k) ask ≡ layout ro k'
-      → KnowsPush (encoded en (kind_of r)) c k' v stage → steps + step_count ask ≤ push_number size stage
-      → ((q : ℕ) → q ≢ p → (s : QueueStart T) (f : QueueFlight T) → At en (kind_of r) c ro k q s f
-      → At en (kind_of r) c ro k' q s f × (has_written {T = T} c k' q f ≡ has_written c k q f))
-      → StepKeeps ask (GoOn (flight r (at stage))) Quiet
-  goes_on ask stage {k'} waits write read good words known most others =
+  goes_on : (ask : Option Ask) (stage : PushStage) {k' : Core (Val T (kind_of r))} → SameQueue en (kind_of r) scene k'
+      → words_after (layout ro k) ask ≡ layout ro k' → KnowsPush (encoded en (kind_of r)) c k' v stage
+      → steps + step_count ask ≤ push_number size stage → StepKeeps ask (GoOn (flight r (at stage))) Quiet
+  goes_on ask stage {k'} same words known most =
       stays ask (GoOn (flight r (at stage))) Quiet
-      (quiet en (kind_of r) scene inv small before false (push r v) ask (flight r (at stage)) k'
-      (calm T r k.read (at stage)) waits write read
-      (rw (cells_are r c) good) words
-      (record {
-        span = ap (λ es. Open (Queues (push r v)) es) (sym (wrote_none r c k' p (at stage)));
-        steps = rw (number en r (at stage) (backs + 0)) most;
-        at = push_here en r c ro k' p v (at stage) (holds, refl, refl, known);
-      })
-      (knows r c k' p events (since + change_of (layout ro k) ask) (changes + change_of (layout ro k) ask) (backs + 0) (at stage) (omega arith))
-      others)
+      (quiet inv small before same (record {
+        start = push r v;
+        ask = ask;
+        back = false;
+        flight = flight r (at stage);
+        calm = calm T r k.read (at stage);
+        words = words;
+        here = record {
+          span = ap (λ es. Open (Queues (push r v)) es) (sym (wrote_none r c k' p (at stage)));
+          steps = rw (number en r (at stage) (backs + 0)) most;
+          at = push_here en r c ro k' p v (at stage) (holds, refl, refl, known);
+        };
+        knows = knows r c k' p events (since + change_of (layout ro k) ask) (changes + change_of (layout ro k) ask) (backs + 0) (at stage) (omega arith);
+      }))
 
   -- the load of the write position leads on to the load of the read position, as the write
   -- position is not the last
@@ -106,7 +107,7 @@ module _ {T : Type 0} {en : Coding T} (r : Ring) (law : IsCoding en) {scene : Sc
       let not_last : (k.write == 2 ^ 64 - 1) ≡ false = grind (arith, nat_tests) in
       let goes : ring_after en r (at pushes.LoadsWrite) k.write ≡ GoOn (flight r (at (pushes.LoadsRead k.write))) = rw not_last refl in
       rw goes
-      (goes_on (Some load_of_write) (pushes.LoadsRead k.write) refl refl refl good_before refl (refl, fresh) (omega arith) (λ q ne st f h. (h, refl)))
+      (goes_on (Some load_of_write) (pushes.LoadsRead k.write) (same_queue inv) refl (refl, fresh) (omega arith))
 
   -- where the positions are the capacity apart, as many values wait as the capacity
   full : (c == 0 || distance k.write k.read == c) ≡ true → length k.waiting ≡ c
@@ -178,9 +179,8 @@ module _ {T : Type 0} {en : Coding T} (r : Ring) (law : IsCoding en) {scene : Sc
       go false t =
           let goes : ring_after en r (at (pushes.LoadsRead k.write)) k.read ≡ GoOn (flight r (at (stores_cell 0))) = rw t refl in
           let some = lawful.some in
-          rw goes (goes_on (Some load_of_read) (stores_cell 0) refl refl refl good_before refl
-          (refl, room t, refl, omega arith, (λ i h. absurd (omega arith)), fresh) (omega arith)
-          (λ q ne st f h. (h, refl)))
+          rw goes (goes_on (Some load_of_read) (stores_cell 0) (same_queue inv) refl
+          (refl, room t, refl, omega arith, (λ i h. absurd (omega arith)), fresh) (omega arith))
 
   -- the store of the `i`th word of the value leads on to the next word, or to the store of the write position
   stores_word : k.write < 2 ^ 64 - 1 → {i : ℕ} → length k.waiting < c → i < size
@@ -201,7 +201,7 @@ module _ {T : Type 0} {en : Coding T} (r : Ring) (law : IsCoding en) {scene : Sc
 
       -- the queue with the word in its cell is right
       good : Good size words_of c next
-      good = fills size words_of c k i word room below good_before
+      good = fills good_before i word room below
 
       -- the words after the store are those of the queue with the next word of the element in its cell
       words : words_after (layout ro k) ask ≡ layout ro next
@@ -212,16 +212,22 @@ module _ {T : Type 0} {en : Coding T} (r : Ring) (law : IsCoding en) {scene : Sc
 
       -- one more word of the element stands in the cell
       more : Holds size words_of c next.cells next.write v (i + 1)
-      more = one_filled size words_of c k v i room below good_before so_far
+      more = one_filled good_before v i room below so_far
 
       -- the calls of other parties stand where they stood, and have written the same, once the word is stored
-      others : (q : ℕ) → q ≢ p → (st : QueueStart T) (f : QueueFlight T) → At en (kind_of r) c ro k q st f
-          → At en (kind_of r) c ro next q st f × (has_written {T = T} c next q f ≡ has_written c k q f)
-      others q ne =
-          kept ro ro q (λ h. h) (λ h. h) en c (kind_of r) k next (ring_keeps en r (record {
-            push = λ mine w stage h. absurd (clash ro.producer p q ne holds mine);
-            pop = λ mine other stage h. fill_keeps (encoded en (kind_of r)) c k i word other stage h;
-          }))
+      same : SameQueue en (kind_of r) scene next
+      same =
+          record {
+            waits = refl;
+            write = refl;
+            read = refl;
+            good = rw (cells_are r c) good;
+            others =
+                λ q ne. kept (same_roles ro q) en c (kind_of r) k next (ring_keeps en r (record {
+                  push = λ mine w stage h. absurd (clash ro.producer p q ne holds mine);
+                  pop = λ mine other stage h. fill_keeps (encoded en (kind_of r)) c k i word other stage h;
+                }));
+          }
 
       -- the cases are whether a further word of the value follows
       go : (t : Bool) → nat_lt (i + 1) size ≡ t → StageKeeps (stores_cell i)
@@ -232,7 +238,7 @@ module _ {T : Type 0} {en : Coding T} (r : Ring) (law : IsCoding en) {scene : Sc
           rw t refl in
           let further : i + 1 < size = grind (arith, nat_tests) in
           subst (λ a. StepKeeps ask a Quiet) (sym goes)
-          (goes_on ask (stores_cell (i + 1)) refl refl refl good words (refl, room, refl, further, more, fresh) (omega arith) others)
+          (goes_on ask (stores_cell (i + 1)) same words (refl, room, refl, further, more, fresh) (omega arith))
       -- it was the last word: the push goes on to store the next write position
       go false t =
           let goes : ring_after en r (at (stores_cell i)) (get_or (layout ro k) (cell_asked size c k.write i) 0)
@@ -240,9 +246,9 @@ module _ {T : Type 0} {en : Coding T} (r : Ring) (law : IsCoding en) {scene : Sc
           rw t refl in
           let last : size ≡ i + 1 = (let over : size ≤ i + 1 = grind (arith, nat_tests) in omega arith) in
           subst (λ a. StepKeeps ask a Quiet) (sym goes)
-          (goes_on ask (pushes.StoresWrite k.write) refl refl refl good words
+          (goes_on ask (pushes.StoresWrite k.write) same words
           (refl, room, subst (λ n. Holds size words_of c next.cells next.write v n) (sym last) more, fresh)
-          (omega arith) others)
+          (omega arith))
 
   -- the store of the next write position ends the push with true, and its value waits behind the others
   stores_write : k.write < 2 ^ 64 - 1 → length k.waiting < c → Holds size words_of c k.cells k.write v size
@@ -294,7 +300,7 @@ module _ {T : Type 0} {en : Coding T} (r : Ring) (law : IsCoding en) {scene : Sc
             ),
           );
           -- the queue afterwards, and the list that its calls answer as
-          good = rw (cells_are r c) (publishes size words_of c k v room good_before whole);
+          good = rw (cells_are r c) (publishes good_before v room whole);
           hangs = none_hangs T r c after _;
           out = omega arith;
           book = joined;
@@ -311,7 +317,7 @@ module _ {T : Type 0} {en : Coding T} (r : Ring) (law : IsCoding en) {scene : Sc
           knows = omega arith;
           up = record { write = omega arith; read = omega arith; paid = omega arith };
           others =
-              λ q ne. kept ro ro q (λ h. h) (λ h. h) en c (kind_of r) k after (ring_keeps en r (record {
+              λ q ne. kept (same_roles ro q) en c (kind_of r) k after (ring_keeps en r (record {
                 push = λ mine w stage h. absurd (clash ro.producer p q ne holds mine);
                 pop = λ mine other stage h. publish_keeps (encoded en (kind_of r)) c k v other stage h;
               }));

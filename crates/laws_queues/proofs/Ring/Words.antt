@@ -39,7 +39,8 @@ module _ {V : Type 0} {size : ℕ} {words_of : V → List ℕ} {c : ℕ} {k : Co
   pub some_waits : (c == 0 || k.write == k.read) ≡ false → 0 < length k.waiting
   some_waits = grind arith
 
-module _ {T : Type 0} (en : Coding T) (r : Ring) (law : IsCoding en) (c : ℕ) (ro : Roles) (k : Core (Val T (kind_of r))) (fits : c < 2 ^ 32)
+-- a pop or a peek loads the front value of the queue `k`, word by word, into its room
+module _ {T : Type 0} {en : Coding T} (r : Ring) (law : IsCoding en) {c : ℕ} (ro : Roles) {k : Core (Val T (kind_of r))} (fits : c < 2 ^ 32)
     (good : Good (encoded en (kind_of r)).size (encoded en (kind_of r)).words_of c k) (room : Room r) where
   abbrev size : ℕ
   size = (encoded en (kind_of r)).size
@@ -91,7 +92,7 @@ module _ {T : Type 0} (en : Coding T) (r : Ring) (law : IsCoding en) (c : ℕ) (
         let shorter : length k.waiting ≡ suc (length rest) = ap length is in
         let place = asked_place size c k.read i (omega arith) fits short below in
         word_at k.write k.read (free ro.producer) (free ro.consumer) k.cells (cell_asked size c k.read i) (size * (k.read % c) + i) place
-        ∙ front size words_of c k v rest is good i below
+        ∙ front good is i below
 
     -- the room with the loaded word in its place
     abbrev next : Room r

@@ -119,6 +119,7 @@ kept_one (p ∷ ps) (suc i) not_sent = ap (λ z. reclaimed p ∷ z) (kept_one ps
 pub not_reached : (ps ys : List Place) (i : ℕ) (sent : Bool) → ys ≡ so_far i ps → is_sent (place_at ys i) ≡ sent → is_sent (place_at ps i) ≡ sent
 not_reached ps ys i sent e h = ap is_sent (sym (at_so_far ps i) ∙ ap (λ z. place_at z i) (sym e)) ∙ h
 
+-- The loop that frees the sent places of the book has come to place `i`: `ys` is the book so far, `ps` the one from which it began.
 module _ (ps ys : List Place) (i : ℕ) (e : ys ≡ so_far i ps) (lt : i < length ps) where
   -- At a place that was sent the loop frees it, and counts it.
   pub sent_step : is_sent (place_at ys i) ≡ true → (set ys i Free ≡ so_far (i + 1) ps) × (count_by is_sent (take (i + 1) ps) ≡ count_by is_sent (take i ps) + 1)

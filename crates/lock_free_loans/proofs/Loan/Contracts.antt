@@ -144,6 +144,7 @@ pub pops_none : (v : View ℕ) → Popping v v
 pops_none v =
     record { share = refl; since = itself v.seen; first = first_all v.turns; numbers = []; popped = refl; aside = omega arith }
 
+-- A call pops several numbers one after the other: `before` is what it has popped so far, and the view goes on to `new`.
 module _ (old now new : View ℕ) (before : Popping old now) (goes : Goes now new) where
   -- the view goes on from where the pops began
   pub still_goes : Goes old new

@@ -37,6 +37,7 @@ record AreAlike (v w : View ℕ) : Type 0 where
 alike : (v : View ℕ) → AreAlike v v
 alike v = record { seen = refl; made = refl; party = refl; share = refl; aside = refl }
 
+-- Two views that differ at most in the run that they know, before and after a call: the call says the same of both.
 module _ {old old' new new' : View ℕ} (a : AreAlike old old') (b : AreAlike new new') where
   -- a call from one view to another is one between views that differ from them at most in the run that they know
   called_alike : (p : ℕ) (start : Start ℕ) (answer : Answer ℕ) (wrote : List (Event ℕ)) → Called p start answer wrote old new

@@ -25,7 +25,7 @@ abbrev pub AnsweredBy : {T : Type 0} → ContainerStart T → Answer T → View 
 AnsweredBy start answer old new =
     Answered start answer (λ p before. AnswersBy Word (MayBeWorn new.seen) old.capacity before (Finished p (Container start) answer)) old new
 
-module _ {T : Type 0} (code : Coding T) (base from : View T) (settled : SettledFrom code kinds.Container base from) where
+module _ {T : Type 0} {code : Coding T} {base from : View T} (settled : SettledFrom code kinds.Container base from) where
   -- ---- where it began
 
   -- What the pass had seen is the beginning of what it has seen once its last call is settled.
@@ -89,8 +89,8 @@ module _ {T : Type 0} (code : Coding T) (base from : View T) (settled : SettledF
   pub from_since : (xs ys : List (Event T)) → ys ≡ from.seen ++ xs → IsBeginning base.seen ys
   from_since xs ys is = (let all = later xs in record { rest = all.rest; is = is ∙ all.is })
 
-  -- p is the party of the call, w what the pass knows then, s says what was seen since
-  module _ (p : ℕ) (start : Start T) (wrote last : List (Event T)) (w : View T) (s : Since p start wrote last from w) where
+  -- The party p of the call has written these events since the settled view, and w is what the pass knows then.
+  module _ {p : ℕ} {start : Start T} {wrote last : List (Event T)} {w : View T} (s : Since p start wrote last from w) where
     -- As no call is under way, the call's events open with its begin.
     pub opens : opened p start from.going ≡ Begun p start ∷ []
     opens = ap (opened p start) idle_from
@@ -107,10 +107,10 @@ module _ {T : Type 0} (code : Coding T) (base from : View T) (settled : SettledF
     pub since_base : IsBeginning base.seen w.seen
     since_base = grind (arith, from_since, seen_is, append_assoc)
 
-  module _ {C M E : Type 0} (call : Calling T C M E) (w : View T) where
+  module _ {C M E : Type 0} (call : Calling T C M E) where
     -- ---- it has ended
 
-    module _ (e : E) (m : M) (ends : Ends code kinds.Container call from e m w) where
+    module _ {w : View T} {e : E} {m : M} (ends : Ends code kinds.Container call from e m w) where
       -- What is seen behind the call is a history of the container.
       pub history_of : IsHistory code kinds.Container base.capacity w.seen
       history_of = subst (λ n. IsHistory code kinds.Container n w.seen) capacity_from ends.history
@@ -126,7 +126,7 @@ module _ {T : Type 0} (code : Coding T) (base from : View T) (settled : SettledF
       ended_goes =
           record {
             share = ends.share ∙ share_from;
-            since = since_base ends.party call.start ends.wrote (Finished ends.party call.start (call.answer e m) ∷ []) w ends.since;
+            since = since_base ends.since;
             first = (ran_base w ends.ran).first;
             all = λ whole. ends.all (subst IsAll ends.share whole);
           }
@@ -160,17 +160,17 @@ module _ {T : Type 0} (code : Coding T) (base from : View T) (settled : SettledF
             }
 
         -- what was unlocked at a moment of the call was when it began
-        pub open_since : (P : List (Event T) → Type 0) → HeldSometime ended_answered.by (λ part. IsUnlocked part × P part) ended_answered.before
+        pub open_since : {P : List (Event T) → Type 0} → HeldSometime ended_answered.by (λ part. IsUnlocked part × P part) ended_answered.before
             → is_locked base.seen ≡ false
         unfolding ended_answered
-        open_since P once =
+        open_since once =
             let c = ended_called in
             let covered = covers ends.party (Container start) c.during (from.seen ++ c.others) once.part once.rest once.is once.within in
             not_locked (from_since (c.others ++ covered.rest) once.part (covered.is ∙ append_assoc from.seen c.others covered.rest)) once.held.0
 
     -- ---- it is under way
 
-    module _ (c : C) (m : M) (under : IsUnderWay code kinds.Container call from w c m) where
+    module _ {w : View T} {c : C} {m : M} (under : IsUnderWay code kinds.Container call from w c m) where
       -- A pass with the call under way knows a run of the container that gives all that it saw.
       pub under_knows : Knows code kinds.Container base.capacity w
       under_knows = (ran_base w under.ran).knows
@@ -181,7 +181,7 @@ module _ {T : Type 0} (code : Coding T) (base from : View T) (settled : SettledF
       under_goes =
           record {
             share = under.share ∙ share_from;
-            since = since_base under.party call.start under.wrote [] w under.since;
+            since = since_base under.since;
             first = (ran_base w under.ran).first;
             all = λ whole. under.all (subst IsAll under.share whole);
           }
@@ -198,13 +198,14 @@ module _ {T : Type 0} (code : Coding T) (base from : View T) (settled : SettledF
       same_party p party by_holds party_is = grind (arith, settled_party)
 
       -- If the call keeps the state where the party stays, it keeps the state of its pass.
-      kept_by : (party : ℕ) → w.party ≡ Some party → call.by from.party party → (from.party ≡ Some party → w.state ≡ from.state) → KeepsState base w
-      kept_by party party_is by_party same_state p p_is = grind (arith, same_party, settled_party, settled_state)
+      kept_by : (w : View T) (party : ℕ) → w.party ≡ Some party → call.by from.party party
+          → (from.party ≡ Some party → w.state ≡ from.state) → KeepsState base w
+      kept_by w party party_is by_party same_state p p_is = grind (arith, same_party, settled_party, settled_state)
 
       -- A call that has ended keeps the state of its pass.
-      pub ended_keeps : (e : E) (m : M) → Ends code kinds.Container call from e m w → KeepsState base w
-      ended_keeps e m ends = kept_by ends.party ends.mine ends.same (ends.state leaves)
+      pub ended_keeps : {w : View T} {e : E} {m : M} → Ends code kinds.Container call from e m w → KeepsState base w
+      ended_keeps {w} ends = kept_by w ends.party ends.mine ends.same (ends.state leaves)
 
       -- A call under way keeps the state of its pass.
-      pub under_keeps : (c : C) (m : M) → IsUnderWay code kinds.Container call from w c m → KeepsState base w
-      under_keeps c m under = kept_by under.party under.mine under.same (under.state leaves)
+      pub under_keeps : {w : View T} {c : C} {m : M} → IsUnderWay code kinds.Container call from w c m → KeepsState base w
+      under_keeps {w} under = kept_by w under.party under.mine under.same (under.state leaves)

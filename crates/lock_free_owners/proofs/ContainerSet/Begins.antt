@@ -57,8 +57,9 @@ module _ {T : Type 0} (code : Coding T) where
     -- Each step of an add keeps the rule of the table.
     pub add_keeps : Keeps code (AddAt code given) (AddEnds code given) (λ c. add_want code.words_of code.size c given) (λ c n. add_after code.size c n)
         (λ c m n. m)
-    add_keeps = rested_keeps code (adds_value code.size given) (λ c. add_want code.words_of code.size c given) (λ c m. refl) (BeginsAdd given) add_asks
-        (λ c n. add_after code.size c n) (λ c m n. m) (container_add_keeps code law given) add_first
+    add_keeps =
+        let keeps_rule = rested_keeps code (adds_value code.size given) (λ c. add_want code.words_of code.size c given) (λ c m. refl) in
+        keeps_rule (BeginsAdd given) add_asks (λ c n. add_after code.size c n) (λ c m n. m) (container_add_keeps code law given) add_first
 
     -- An add for an owner that there may be is about to begin by an idle pass.
     pub add_begins : (v : View T) → given.owner < empty → IsIdle v → v.other ≡ [] → 0 < v.share.part → AddAt code given v v (first_add v.capacity) tt
@@ -84,8 +85,9 @@ module _ {T : Type 0} (code : Coding T) where
 
     -- Each step of a remove keeps the rule of the table.
     pub remove_keeps : Keeps code (RemoveAt code given) (RemoveEnds code given) (λ c. remove_want c given) (λ c n. remove_after c given n) (λ c m n. m)
-    remove_keeps = rested_keeps code (removes_value given) (λ c. remove_want c given) (λ c m. refl) (BeginsRemove given) remove_asks
-        (λ c n. remove_after c given n) (λ c m n. m) (container_remove_keeps code given) remove_first
+    remove_keeps =
+        let keeps_rule = rested_keeps code (removes_value given) (λ c. remove_want c given) (λ c m. refl) in
+        keeps_rule (BeginsRemove given) remove_asks (λ c n. remove_after c given n) (λ c m n. m) (container_remove_keeps code given) remove_first
 
     -- a remove may begin at a pass between two calls, of an index below the capacity
     pub remove_begins : (v : View T) → given.index < v.capacity → given.owner < empty → IsIdle v → v.other ≡ [] → 0 < v.share.part
@@ -114,8 +116,10 @@ module _ {T : Type 0} (code : Coding T) where
     -- Each step of a replace keeps the rule of the table.
     pub replace_keeps : Keeps code (ReplaceAt code given) (ReplaceEnds code given) (λ c. replace_want code.words_of code.size c given)
         (λ c n. replace_after code.size c given n) (λ c m n. m)
-    replace_keeps = rested_keeps code (replaces_value code.size given) (λ c. replace_want code.words_of code.size c given) (λ c m. refl) (BeginsReplace given)
-        replace_asks (λ c n. replace_after code.size c given n) (λ c m n. m) (container_replace_keeps code law given) replace_first
+    replace_keeps =
+        let keeps_rule = rested_keeps code (replaces_value code.size given) (λ c. replace_want code.words_of code.size c given) (λ c m. refl) in
+        keeps_rule (BeginsReplace given) replace_asks (λ c n. replace_after code.size c given n) (λ c m n. m)
+        (container_replace_keeps code law given) replace_first
 
     -- a replace may begin at a pass between two calls, of an index below the capacity
     pub replace_begins : (v : View T) → given.index < v.capacity → given.owner < empty → IsIdle v → v.other ≡ [] → 0 < v.share.part
@@ -138,8 +142,9 @@ module _ {T : Type 0} (code : Coding T) where
 
     -- Each step of a count keeps the rule of the table.
     pub count_keeps : Keeps code (CountAt code which) (CountEnds code which) borrowed_want borrowed_after (λ c m n. m)
-    count_keeps = rested_keeps code (counts_values which) borrowed_want (λ c m. refl) BeginsCount count_asks borrowed_after (λ c m n. m)
-        (container_count_keeps code which) count_first
+    count_keeps =
+        let keeps_rule = rested_keeps code (counts_values which) borrowed_want (λ c m. refl) in
+        keeps_rule BeginsCount count_asks borrowed_after (λ c m n. m) (container_count_keeps code which) count_first
 
     -- A count is about to begin by an idle pass.
     pub count_begins : (v : View T) → IsIdle v → v.other ≡ [] → 0 < v.share.part → CountAt code which v v (first_borrowed v.capacity) tt
@@ -149,7 +154,9 @@ module _ {T : Type 0} (code : Coding T) where
 
   -- The step of `is_locked` keeps the rule of the table.
   pub lock_keeps : Keeps code (LockAt code) (LockEnds code) (λ c. load 0) locked_after (λ c m n. m)
-  lock_keeps = rested_keeps code sees_lock (λ c. load 0) (λ c m. refl) BeginsLock (λ capacity c b. (_, omega arith, refl)) locked_after (λ c m n. m)
+  lock_keeps =
+      let keeps_rule = rested_keeps code sees_lock (λ c. load 0) (λ c m. refl) in
+      keeps_rule BeginsLock (λ capacity c b. (_, omega arith, refl)) locked_after (λ c m n. m)
       (container_lock_keeps code) (λ v c m b idle alone any. container_lock_first code v c m idle alone any)
 
   -- A call of `is_locked` is about to begin by an idle pass.

@@ -6,6 +6,7 @@ use Rattle.lock_free_owners.specs.Container.Names.{IsOwn}
 use Rattle.lock_free_owners.specs.Container.Turns.{RemoveEnds, ReplaceEnds}
 use Rattle.lock_free_owners.proofs.ContainerSet.Facts.{has_removed, removed_right, freed, released, has_replaced, replaced_answered}
 
+-- A call for the index and the owner of this handle leads a pass of the container from the view `base` to w.
 module _ {T : Type 0} (code : Coding T) (s : Container T) (base w : View T) (key : ContainerHandle) where
   -- a remove by the container's own handle that answers a state has freed its index, and answers
   -- right

@@ -243,6 +243,7 @@ module _ {T : Type 0} (code : Coding T) (capacity : ℕ) where
   abbrev start : Trace T
   start = opening code kinds.Container capacity 0
 
+  -- The pass knows a run of the container, whose events have this end of a call behind the events `before`.
   module _ (v : View T) (knows : Knows code kinds.Container capacity v) (e : Event T) (end : is_end e ≡ true) (before rest : List (Event T))
       (is : v.seen ≡ (before ++ e ∷ []) ++ rest) where
     -- of the turns that a pass knows, the first ones lead to just the events up to the end of the

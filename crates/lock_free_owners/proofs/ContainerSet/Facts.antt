@@ -7,8 +7,8 @@ use Rattle.lock_free_owners.proofs.Names.{ReleaseMode, LockIfLastIndex, Default,
 use Rattle.lock_free_owners.proofs.Names.{Number, Truth, Event, Begun, Filled, Granted, FreedOf, Hidden, Finished}
 use Rattle.lock_free_owners.proofs.Names.{Container, ContainerStart, Add, Remove, Replace, Len, IsEmpty, Coding}
 use Rattle.lock_free_owners.proofs.Names.{added, removed, replaced, is_locked, IsUnlocked, HeldSometime, count_most}
-use Rattle.lock_free_owners.proofs.Names.{View, adds_value, removes_value, replaces_value, counts_values, sees_lock}
-use Rattle.lock_free_owners.proofs.Names.{IsHistory, Called, IsBeginning, Goes, KeepsState, Calling, LeavesState}
+use Rattle.lock_free_owners.proofs.Names.{View}
+use Rattle.lock_free_owners.proofs.Names.{IsHistory, Called, IsBeginning, Goes, KeepsState, Calling, Ends, LeavesState}
 use Rattle.steps.specs.declared.container.enums.ContainerAddFailure.{ContainerAddFailure}
 use Rattle.steps.specs.declared.container.enums.ContainerAddFailure.TheVariants as failures
 use Rattle.steps.specs.declared.indices.enums.ReleaseState.TheVariants as states
@@ -22,8 +22,8 @@ use Rattle.lock_free_owners.specs.Container.Contracts.{HasTested, HasLooked, Ans
 use Rattle.lock_free_owners.specs.Container.Contracts.{RemovesRight, IsRightRemove, IsRightReplace, IsRightLength, IsRightTest, IsRightLook}
 use Rattle.lock_free_owners.specs.Worn.{MayBeWorn}
 use Rattle.lock_free_owners.specs.Container.Steps.{FewAside}
-use Rattle.lock_free_owners.specs.Container.Turns.{CallEnds, AddEnds, RemoveEnds, ReplaceEnds, CountEnds, LockEnds}
-use Rattle.lock_free_owners.specs.Container.Turns.{BeginsAdd, BeginsRemove, BeginsReplace, BeginsCount, BeginsLock}
+use Rattle.lock_free_owners.specs.Container.Turns.{AddEnds, RemoveEnds, ReplaceEnds, CountEnds, LockEnds}
+use Rattle.history.specs.Settled.{EndsSettled}
 use Rattle.lock_free_owners.proofs.ContainerSet.Sound.{sound_history}
 use Rattle.lock_free_owners.proofs.ContainerSet.Resting.{settled_so}
 use Rattle.lock_free_owners.proofs.ContainerSet.Began.{history_of as began_history, share_from, capacity_from}
@@ -36,41 +36,42 @@ use Rattle.lock_free_owners.proofs.RobustSet.Events.{find_own, covers}
 module _ {T : Type 0} (code : Coding T) where
   -- ---- what any call leaves
 
-  module _ {C E : Type 0} (begins : ℕ → C → Type 0) (call : Calling T C (Unit {0}) E) (base w : View T) (e : E)
-      (ends : CallEnds code begins call base e tt w) where
+  -- The call of the driver ended in the view w with e, counted from the view `base`.
+  module _ {C E : Type 0} {call : Calling T C (Unit {0}) E} {base w : View T} {e : E}
+      (ends : EndsSettled code kinds.Container (Ends code kinds.Container call) base e tt w) where
     -- What the pass knew once its last call was settled, where this call began.
     abbrev from : View T
     from = ends.from
 
     -- What the pass has seen behind the call is a history of the container.
     pub history_of : IsHistory code kinds.Container base.capacity w.seen
-    history_of = began_history code base from ends.settled call w e tt ends.over
+    history_of = began_history ends.settled call ends.over
 
     -- The call keeps the share.
     pub share_of : w.share ≡ base.share
-    share_of = ends.over.share ∙ share_from code base from ends.settled
+    share_of = ends.over.share ∙ share_from ends.settled
 
     -- The call keeps the capacity that the pass knows.
     pub capacity_of : w.capacity ≡ base.capacity
-    capacity_of = ends.over.capacity ∙ capacity_from code base from ends.settled
+    capacity_of = ends.over.capacity ∙ capacity_from ends.settled
 
     -- What the pass knows goes on from what it knew before the call.
     pub goes : Goes base w
-    goes = ended_goes code base from ends.settled call w e tt ends.over
+    goes = ended_goes ends.settled call ends.over
 
     -- The call leaves at most one operation aside, and one more where the last call rested.
     pub few_aside : FewAside base w
-    few_aside = ended_aside code base from ends.settled call w e tt ends.over
+    few_aside = ended_aside ends.settled call ends.over
 
     module _ (leaves : LeavesState call) (by_same : (was : Option ℕ) (p : ℕ) → call.by was p → IfSome was (λ q. q ≡ p)) where
       -- The call keeps the state that the pass has.
       pub keeps : KeepsState base w
-      keeps = ended_keeps code base from ends.settled call w leaves by_same e tt ends.over
+      keeps = ended_keeps ends.settled call leaves by_same ends.over
 
     module _ (start : ContainerStart T) (is_start : call.start ≡ Container start) (answer : Answer T) (is_answer : call.answer e tt ≡ answer) where
       -- In the history it is a call with this begin and this answer.
       made_call : Called ends.over.party (Container start) answer ends.over.wrote from w
-      made_call = ended_called code base from ends.settled call w e tt ends.over start is_start answer is_answer
+      made_call = ended_called ends.settled call ends.over start is_start answer is_answer
 
       -- a call that has ended is one of the history, which wrote this, from where the last one of
       -- the pass had ended
@@ -104,13 +105,14 @@ module _ {T : Type 0} (code : Coding T) where
 
       -- What is seen behind the settled view goes on from what the pass had seen before.
       onward : (xs : List (Event T)) → IsBeginning base.seen (from.seen ++ xs)
-      onward xs = later code base from ends.settled xs
+      onward xs = later ends.settled xs
 
       -- if the call wrote this event, what `Before` says of the history before it holds, and that
       -- history goes on from what the pass had seen
-      pub wrote_at : (event : ℕ → Event T) (first rest : List (Event T)) → ends.over.wrote ≡ first ++ event p ∷ rest → (Before : ℕ → List (Event T) → Type 0)
-          → ((before after : List (Event T)) → w.seen ≡ before ++ event p ∷ after → Before p before) → WroteAt event Before base w
-      wrote_at event first rest is Before held =
+      pub wrote_at : (event : ℕ → Event T) (first : List (Event T)) → (rest : List (Event T)) × (ends.over.wrote ≡ first ++ event p ∷ rest)
+          → {Before : ℕ → List (Event T) → Type 0} → ((before after : List (Event T)) → w.seen ≡ before ++ event p ∷ after → Before p before)
+          → WroteAt event Before base w
+      wrote_at event first (rest, is) held =
           let c = made_call in
           let part = find_own p c.during first rest (event p) (c.during_own ∙ is) in
           let others : List (Event T) = from.seen ++ c.others in
@@ -132,7 +134,7 @@ module _ {T : Type 0} (code : Coding T) where
 
       -- the last answer, and what stood before it
       pub answered : AnsweredBy start answer base w
-      answered = ended_answered code base from ends.settled call w e tt ends.over start is_start answer is_answer
+      answered = ended_answered ends.settled call ends.over start is_start answer is_answer
 
       -- if the container was not locked at a moment of the call, the pass had not seen the lock before it
       pub open_since : HeldSometime p IsUnlocked answered.before → is_locked base.seen ≡ false
@@ -152,11 +154,11 @@ module _ {T : Type 0} (code : Coding T) where
   module _ (base w : View T) (b : Bool) (ends : LockEnds code base b tt w) where
     -- A call of `is_locked` that has ended is a call of the history.
     pub looked : HasLooked b base w
-    looked = made BeginsLock sees_lock base w b ends IsLocked refl (Truth b) refl (λ by es. es ≡ []) ends.over.tells
+    looked = made ends IsLocked refl (Truth b) refl (λ by es. es ≡ []) ends.over.tells
 
     -- Its answer is right by what came before its end.
     pub looked_answered : IsRightLook b base w
-    looked_answered = answered BeginsLock sees_lock base w b ends IsLocked refl (Truth b) refl
+    looked_answered = answered ends IsLocked refl (Truth b) refl
 
   -- A right answer true has seen the lock. With a right answer false no lock was seen before the call.
   looked_so : (base w : View T) (b : Bool) → IsRightLook b base w → FoundLock b base w
@@ -173,11 +175,11 @@ module _ {T : Type 0} (code : Coding T) where
     module _ (ends : CountEnds code counts.Len base n tt w) where
       -- A call of `len` that has ended is a call of the history.
       pub counted : HasCounted n base w
-      counted = made BeginsCount (counts_values counts.Len) base w n ends Len refl (Number n) refl (λ by es. es ≡ []) ends.over.tells
+      counted = made ends Len refl (Number n) refl (λ by es. es ≡ []) ends.over.tells
 
       -- The number of `len` is right by what came before its end.
       pub counted_answered : IsRightLength n base w
-      counted_answered = answered BeginsCount (counts_values counts.Len) base w n ends Len refl (Number n) refl
+      counted_answered = answered ends Len refl (Number n) refl
 
       -- a count of the indices that have an owner is at most the capacity
       pub counted_most : n ≤ base.capacity
@@ -200,11 +202,11 @@ module _ {T : Type 0} (code : Coding T) where
     module _ (ends : CountEnds code counts.IsEmpty base n tt w) where
       -- A call of `is_empty` that has ended is a call of the history.
       pub tested : HasTested (n == 0) base w
-      tested = made BeginsCount (counts_values counts.IsEmpty) base w n ends IsEmpty refl (Truth (n == 0)) refl (λ by es. es ≡ []) ends.over.tells
+      tested = made ends IsEmpty refl (Truth (n == 0)) refl (λ by es. es ≡ []) ends.over.tells
 
       -- The answer of `is_empty` is right by what came before its end.
       pub tested_answered : IsRightTest (n == 0) base w
-      tested_answered = answered BeginsCount (counts_values counts.IsEmpty) base w n ends IsEmpty refl (Truth (n == 0)) refl
+      tested_answered = answered ends IsEmpty refl (Truth (n == 0)) refl
 
       -- `is_empty` answers true where the lock had been seen.
       pub tested_none : is_locked base.seen ≡ true → (n == 0) ≡ true
@@ -218,14 +220,14 @@ module _ {T : Type 0} (code : Coding T) where
     -- a remove that has ended is a call of the history, which wrote what its answer says
     pub has_removed : (answer : Removed) → RemoveEnds code given base answer tt w → HasRemoved given answer base w
     has_removed answer ends =
-        made (BeginsRemove given) (removes_value given) base w answer ends (Remove given.index given.owner given.mode) refl (removed answer) refl
-        (λ by es. container.HasRemoved by given answer es) (ends.over.tells (idle_from code base ends.from ends.settled))
+        made ends (Remove given.index given.owner given.mode) refl (removed answer) refl
+        (λ by es. container.HasRemoved by given answer es) (ends.over.tells (idle_from ends.settled))
 
     -- the end of a remove is the last event that the pass has seen, with an answer that is right
     pub removed_answered : (answer : Removed) → RemoveEnds code given base answer tt w
         → AnsweredBy (Remove given.index given.owner given.mode) (removed answer) base w
     removed_answered answer ends =
-        answered (BeginsRemove given) (removes_value given) base w answer ends (Remove given.index given.owner given.mode) refl (removed answer) refl
+        answered ends (Remove given.index given.owner given.mode) refl (removed answer) refl
 
     -- the answer of a remove says what is right of a remove
     removed_so : (mode : ReleaseMode) (answer : Removed) → AnsweredBy (Remove given.index given.owner mode) (removed answer) base w
@@ -246,9 +248,9 @@ module _ {T : Type 0} (code : Coding T) where
     removed_at : (state : ReleaseState) (rest : List (Event T)) → (ends : RemoveEnds code given base (Ok state) tt w)
         → ends.over.wrote ≡ FreedOf ends.over.party given.index given.owner ∷ rest → WasFreed given.index given.owner base w
     removed_at state rest ends is =
-        wrote_at (BeginsRemove given) (removes_value given) base w (Ok state) ends (Remove given.index given.owner given.mode) refl (removed (Ok state)) refl
-        (λ by. FreedOf by given.index given.owner) [] rest is _
-        (λ before after at. ((sound_history code base.capacity w.seen (history_of (BeginsRemove given) (removes_value given) base w (Ok state) ends)).does
+        wrote_at ends (Remove given.index given.owner given.mode) refl (removed (Ok state)) refl
+        (λ by. FreedOf by given.index given.owner) [] (rest, is)
+        (λ before after at. ((sound_history code base.capacity w.seen (history_of ends)).does
         before after (FreedOf ends.over.party given.index given.owner) at).0)
 
     -- what a remove that freed its index wrote begins with that free
@@ -262,7 +264,7 @@ module _ {T : Type 0} (code : Coding T) where
     -- a remove that freed its index freed it in this call
     freed_so : (state : ReleaseState) → RemoveEnds code given base (Ok state) tt w → WasFreed given.index given.owner base w
     freed_so state ends =
-        let first = freed_first state ends.over.party ends.over.wrote (ends.over.tells (idle_from code base ends.from ends.settled)) in
+        let first = freed_first state ends.over.party ends.over.wrote (ends.over.tells (idle_from ends.settled)) in
         removed_at state first.0 ends first.1
 
     -- A remove that answers Ok has freed its index.
@@ -282,7 +284,7 @@ module _ {T : Type 0} (code : Coding T) where
     released_so LockIfLastIndex states.Locked ends =
         (let a = removed_answered base w (gives LockIfLastIndex) (Ok states.Locked) ends in (lock_stays (last_of a) a.right, refl))
     released_so LockIfLastIndex states.Unlocked ends =
-        λ same. open_since (BeginsRemove (gives LockIfLastIndex)) (removes_value (gives LockIfLastIndex)) base w (Ok states.Unlocked) ends
+        λ same. open_since ends
         (Remove index owner LockIfLastIndex) refl (removed (Ok states.Unlocked)) refl
         (removed_answered base w (gives LockIfLastIndex) (Ok states.Unlocked) ends).right.0
     released_so Default states.Locked ends =
@@ -300,13 +302,13 @@ module _ {T : Type 0} (code : Coding T) where
     -- a replace that has ended is a call of the history, which wrote what its answer says
     pub has_replaced : HasReplaced given answer base w
     has_replaced =
-        made (BeginsReplace given) (replaces_value code.size given) base w answer ends (Replace given.index given.value given.owner) refl (replaced answer) refl
-        (λ by es. container.HasReplaced by given answer es) (ends.over.tells (idle_from code base ends.from ends.settled))
+        made ends (Replace given.index given.value given.owner) refl (replaced answer) refl
+        (λ by es. container.HasReplaced by given answer es) (ends.over.tells (idle_from ends.settled))
 
     -- A replace answers right by what came before its end, in the words of the laws.
     replaced_by : AnsweredBy (Replace given.index given.value given.owner) (replaced answer) base w
     replaced_by =
-        answered (BeginsReplace given) (replaces_value code.size given) base w answer ends (Replace given.index given.value given.owner) refl
+        answered ends (Replace given.index given.value given.owner) refl
         (replaced answer) refl
 
   -- the answer of a replace is right
@@ -321,38 +323,38 @@ module _ {T : Type 0} (code : Coding T) where
     -- what an add wrote is what its answer says
     pub has_added : (answer : Added) → AddEnds code given base answer tt w → HasAdded given answer base w
     has_added answer ends =
-        made (BeginsAdd given) (adds_value code.size given) base w answer ends (Add given.value given.owner) refl (added answer) refl
+        made ends (Add given.value given.owner) refl (added answer) refl
         (λ by es. container.HasAdded base.capacity by given answer es)
-        (subst (λ n. container.HasAdded n ends.over.party given answer ends.over.wrote) (capacity_from code base ends.from ends.settled)
-        (ends.over.tells (idle_from code base ends.from ends.settled)))
+        (subst (λ n. container.HasAdded n ends.over.party given answer ends.over.wrote) (capacity_from ends.settled)
+        (ends.over.tells (idle_from ends.settled)))
 
     -- An add answers right by what came before its end, in the words of the laws.
     pub added_answered : (answer : Added) → AddEnds code given base answer tt w → AnsweredBy (Add given.value given.owner) (added answer) base w
     added_answered answer ends =
-        answered (BeginsAdd given) (adds_value code.size given) base w answer ends (Add given.value given.owner) refl (added answer) refl
+        answered ends (Add given.value given.owner) refl (added answer) refl
 
     module _ (index : ℕ) (ends : AddEnds code given base (Ok index) tt w) where
       -- The history behind the add is sound.
       abbrev sound_here : IsSound code base.capacity w.seen
-      sound_here = sound_history code base.capacity w.seen (history_of (BeginsAdd given) (adds_value code.size given) base w (Ok index) ends)
+      sound_here = sound_history code base.capacity w.seen (history_of ends)
 
       -- what it wrote, from its first two events on
       taken_first : (rest : List (Event T)) × (ends.over.wrote
           ≡ Filled ends.over.party index given.owner ∷ Granted ends.over.party index given.owner ∷ rest)
-      taken_first = (let h = ends.over.tells (idle_from code base ends.from ends.settled) in (_, h.1.2))
+      taken_first = (let h = ends.over.tells (idle_from ends.settled) in (_, h.1.2))
 
       -- the index that an add took had no owner when the add filled it
       pub filled_so : WasFilled index given.owner base w
       filled_so =
-          wrote_at (BeginsAdd given) (adds_value code.size given) base w (Ok index) ends (Add given.value given.owner) refl (added (Ok index)) refl
-          (λ by. Filled by index given.owner) [] (Granted ends.over.party index given.owner ∷ taken_first.0) taken_first.1 _
+          wrote_at ends (Add given.value given.owner) refl (added (Ok index)) refl
+          (λ by. Filled by index given.owner) [] (Granted ends.over.party index given.owner ∷ taken_first.0, taken_first.1)
           (λ before after is. (let does_it = sound_here.does before after (Filled ends.over.party index given.owner) is in (does_it.0, does_it.1, does_it.3)))
 
       -- an index that an add took was granted to its owner
       pub granted_so : WasGranted index given.owner base w
       granted_so =
-          wrote_at (BeginsAdd given) (adds_value code.size given) base w (Ok index) ends (Add given.value given.owner) refl (added (Ok index)) refl
-          (λ by. Granted by index given.owner) (Filled ends.over.party index given.owner ∷ []) taken_first.0 taken_first.1 _
+          wrote_at ends (Add given.value given.owner) refl (added (Ok index)) refl
+          (λ by. Granted by index given.owner) (Filled ends.over.party index given.owner ∷ []) taken_first
           (λ before after is. (
             (sound_here.does before after (Granted ends.over.party index given.owner) is).0,
             λ well_formed honest. sound_here.holds well_formed honest before after (Granted ends.over.party index given.owner) is,

@@ -22,6 +22,7 @@ use Rattle.history.proofs.Calls.{Stands, stands, flight_is, heard_events}
 use Rattle.history.proofs.Reached.{decide_as}
 use Rattle.lock_free_owners.specs.Container.FindContract.{below_question}
 
+-- A find by the party p for this owner, in a container of this capacity, answers this number.
 module _ {T : Type 0} (code : Coding T) (capacity p owner number : ℕ) where
   -- The begin of a find for this owner.
   abbrev start : Start T

@@ -2,7 +2,7 @@
 -- of the table, an answer may end it, and what it has then copied and counted.
 use Rattle.lock_free_owners.proofs.Names.{◌≡◌, ◌⊎◌, inl, inr, ℕ, ◌+◌, ◌<◌, nat_lt, Bool, true, false, Option}
 use Rattle.lock_free_owners.proofs.Names.{Some, None, List, [], ◌∷◌, ◌++◌, slice_set, refl, sym, ap, subst, ◌∙◌}
-use Rattle.lock_free_owners.proofs.Names.{append-nil, fold, arith, find_asks, find_want, empty, by_test, After, GoOn}
+use Rattle.lock_free_owners.proofs.Names.{IsMachine, total_words, weaker_owes, append-nil, fold, arith, find_asks, find_want, empty, by_test, After, GoOn}
 use Rattle.lock_free_owners.proofs.Names.{Done, Buffer, Number, Event, Begun, Copied, Container, Coding, IsCoding}
 use Rattle.lock_free_owners.proofs.Names.{is_question, IsFilledWith, IsCount, fresh_cell, kept_at, Open, own_after}
 use Rattle.lock_free_owners.proofs.Names.{span_of, number_of, View, copies_of, copies_after, Called, room_of}
@@ -14,7 +14,7 @@ use Rattle.steps.specs.declared.container.find.FindStage.{FindStage}
 use Rattle.steps.specs.declared.container.find.FindStage.TheVariants as finds
 use Rattle.model.specs.declared.families.container.ContainerStart.TheVariants as starts
 use Rattle.model.specs.declared.turn.Kind.TheVariants as kinds
-use Rattle.threaded.specs.Driver.{Next, Told}
+use Rattle.threaded.specs.Driver.{Next, Told, Owes}
 use Rattle.history.proofs.ContainerFinds.{find_call, container_find_keeps, container_find_word, container_find_hears}
 use Rattle.history.proofs.ContainerFinds.{container_find_first, find_copied, find_rests_so, no_ends, copies_span}
 use Rattle.history.proofs.Settling.{KeepsWhere}
@@ -23,6 +23,8 @@ use Rattle.lock_free_owners.specs.Container.FindTurns.{words_in, Copying, Begins
 use Rattle.lock_free_owners.specs.Container.FindTurns.{FindBegun, FindOver, FindAt, FindDone, FindTells, IsAtWord, IsLeft}
 use Rattle.lock_free_owners.specs.Container.Visits.{visits_of}
 use Rattle.lock_free_owners.specs.Container.Idle.{asks, may_rest, IsIdle}
+use Rattle.history.specs.Steps.{TakesAtMost}
+use Rattle.lock_free_owners.proofs.ContainerSet.Counted.{counted_owes}
 use Rattle.lock_free_owners.proofs.ContainerSet.FindCounts.{counts_whole, counts_below}
 use Rattle.lock_free_owners.proofs.ContainerSet.Idle.{rests, idle_none}
 use Rattle.lock_free_owners.proofs.ContainerSet.Resting.{settled_so, resting_so}
@@ -79,7 +81,7 @@ module _ {T : Type 0} (code : Coding T) (law : IsCoding code) (owner : ℕ) wher
 
   -- Each step of a find at a word of the container (so not at a question to its closure) takes the
   -- machine to a next state of a run, and the find to its next stage or its end.
-  pub find_keeps : KeepsWhere code kinds.Container (container_words code) (λ (c : Find T (Buffer 128)). is_question (find_want code.size c) ≡ false)
+  find_keeps : KeepsWhere code kinds.Container (container_words code) (λ (c : Find T (Buffer 128)). is_question (find_want code.size c) ≡ false)
       (FindAt code owner) (FindDone code owner) (λ c. find_want code.size c) (find_goes code owner) (find_copying code owner)
   find_keeps =
       rested_words code (finding code owner) (λ c. find_want code.size c) (λ c m. refl) (BeginsFind owner) begins_asks
@@ -88,7 +90,7 @@ module _ {T : Type 0} (code : Coding T) (law : IsCoding code) (owner : ℕ) wher
       (container_find_word code law words_in kept_at put_in owner)
 
   -- A find at a word is at no question.
-  pub at_its_word : (capacity : ℕ) (stage : FindStage) → IsAtWord stage → is_question (find_asks code.size capacity stage) ≡ false
+  at_its_word : (capacity : ℕ) (stage : FindStage) → IsAtWord stage → is_question (find_asks code.size capacity stage) ≡ false
   at_its_word capacity stage at_word = grind arith
 
   -- A find that is about to begin behind a rested call is not one that has begun.
@@ -111,7 +113,7 @@ module _ {T : Type 0} (code : Coding T) (law : IsCoding code) (owner : ℕ) wher
   -- A find at one stage in one view has made the same copies, whichever view it is said to have begun in.
   same_copies : (base other v : View T) (c : Find T (Buffer 128)) (m k : Copying T) → FindAt code owner base v c m → FindAt code owner other v c k → m.1 ≡ k.1
   same_copies base other v c m k (inl x) (inl y) =
-      find_copied code law words_in kept_at put_in owner x.from y.from v c c m k (idle_from code base x.from x.settled) (idle_from code other y.from y.settled)
+      find_copied code law words_in kept_at put_in owner x.from y.from v c c m k (idle_from x.settled) (idle_from y.settled)
       x.stage y.stage
   same_copies base other v c m k (inl x) (inr y) = absurd (apart x.from v c m k (rested_at other v c k y) (begins_at other v c k y) x.stage)
   same_copies base other v c m k (inr x) (inl y) = absurd (apart y.from v c k m (rested_at base v c m x) (begins_at base v c m x) y.stage)
@@ -119,11 +121,11 @@ module _ {T : Type 0} (code : Coding T) (law : IsCoding code) (owner : ℕ) wher
 
   -- What one step tells holds whichever list of copies the find is said to have made: there
   -- is one such list only.
-  pub find_tells : (base v : View T) (c : Find T (Buffer 128)) (room : Buffer 128) (copies : List (ℕ × T)) → FindAt code owner base v c (room, copies)
+  find_tells : {base v : View T} {c : Find T (Buffer 128)} {room : Buffer 128} {copies : List (ℕ × T)} → FindAt code owner base v c (room, copies)
       → (n : ℕ) (w : View T) → Told (λ (z : View T). z.capacity) (FindAt code owner) (FindDone code owner) (find_goes code owner)
       (find_copying code owner) c (room, copies) v n w
       → (w.capacity ≡ v.capacity) × FindTells code owner c room v n w
-  find_tells base v c room copies at n w h = (
+  find_tells {base} {v} {c} {room} {copies} at n w h = (
     h.0,
     λ other more there. (
         let same : copies ≡ more = same_copies base other v c (room, copies) (room, more) at there in
@@ -132,6 +134,23 @@ module _ {T : Type 0} (code : Coding T) (law : IsCoding code) (owner : ℕ) wher
         same
         (h.1 other (subst (λ xs. FindAt code owner other v c (room, xs)) (sym same) there))),
   )
+
+  -- A step of the find at a word is one that the rule of the table allows. By one operation the find goes on, whichever
+  -- list of copies it is said to have made.
+  pub find_owes : {base v : View T} {c : Find T (Buffer 128)} {room : Buffer 128} {copies : List (ℕ × T)} → FindAt code owner base v c (room, copies)
+      → IsAtWord c.stage → {key words : ℕ} (slots id : ℕ) → words ≡ total_words key code.size + 1 → v.capacity ≡ key
+      → Owes (λ (z : View T). z.asked) (IsMachine code kinds.Container key) words slots id
+      (λ u n w. (w.capacity ≡ u.capacity) × FindTells code owner c room u n w × TakesAtMost 1 u w) (find_want code.size c) (v, [])
+  find_owes {base} {v} {c} {room} {copies} at word {key} {words} slots id sized known =
+      let told : View T → ℕ → View T → Type 0 =
+      Told (λ (z : View T). z.capacity) (FindAt code owner) (FindDone code owner) (find_goes code owner) (find_copying code owner) c (room, copies) in
+      let more : View T → ℕ → View T → Type 0 = λ u n w. (w.capacity ≡ u.capacity) × FindTells code owner c room u n w × TakesAtMost 1 u w in
+      let weaker = weaker_owes (λ (z : View T). z.asked) (IsMachine code kinds.Container key) words slots id in
+      let counted = counted_owes (λ (z : View T). z.asked) (IsMachine code kinds.Container key) words slots id in
+      let keeps = find_keeps base v c (room, copies) key words slots id in
+      weaker (λ u n w. told u n w × TakesAtMost 1 u w) more (find_want code.size c) (v, [])
+      (λ n w h. let tells = find_tells at n w h.0 in (tells.0, tells.1, h.1))
+      (counted told (find_want code.size c) (v, []) (keeps (at_its_word c.capacity c.stage word) sized known at))
 
   -- a find may begin where no call is under way, or where the last one rests
   begins_by : (v : View T) → 0 < v.capacity → owner < empty → (v.going ≡ None) ⊎ IsResting code v → v.other ≡ [] → 0 < v.share.part
@@ -151,50 +170,50 @@ module _ {T : Type 0} (code : Coding T) (law : IsCoding code) (owner : ℕ) wher
 
   -- ---- at its question
 
-  -- the find began at base, and stands at c at v with m in its room
-  module _ (base v : View T) (c : Find T (Buffer 128)) (m : Copying T) (index found : ℕ) (is : c.stage ≡ finds.Asks index found) where
+  clash : {A : Type 0} (b : Bool) → b ≡ true → b ≡ false → A
+  clash b there still = (let both : true ≡ false = sym there ∙ still in absurd (cc))
+
+  -- The find stands at the question about this index.
+  module _ (c : Find T (Buffer 128)) {index found : ℕ} (is : c.stage ≡ finds.Asks index found) where
     -- The find stands at a question.
     due : is_question (find_want code.size c) ≡ true
     due = ap (λ stage. is_question (find_asks code.size c.capacity stage)) is
 
-    clash : {A : Type 0} (b : Bool) → b ≡ true → b ≡ false → A
-    clash b there still = (let both : true ≡ false = sym there ∙ still in absurd (cc))
-
     -- A find at a question is under way and has heard no answer to that question yet.
-    under_at : (from : View T) → FindBegun code owner from v c m → IsUnderWay code kinds.Container (finding code owner) from v c m
-    under_at from find_begun = grind (arith, clash, is_question, find_want, due, find_call, words_in, kept_at, put_in, number_of)
+    under_at : (from v : View T) (m : Copying T) → FindBegun code owner from v c m → IsUnderWay code kinds.Container (finding code owner) from v c m
+    under_at from v m find_begun = grind (arith, clash, is_question, find_want, due, find_call, words_in, kept_at, put_in, number_of)
 
     -- A find at a question has begun, so it is under way from a settled view.
-    pub asked_from : FindAt code owner base v c m
+    pub asked_from : {base v : View T} {m : Copying T} → FindAt code owner base v c m
         → (from : View T) × SettledFrom code kinds.Container base from × IsUnderWay code kinds.Container (finding code owner) from v c m
     asked_from find_at = grind (arith, under_at)
 
     -- An answer copies nothing.
-    same_room : (n : ℕ) → find_copying code owner c m n ≡ m
-    same_room n = ap (λ stage. (keeps_of kept_at stage m.0 n, copies_after stage n (value_of_room code words_in m.0) m.1)) is
+    same_room : (m : Copying T) (n : ℕ) → find_copying code owner c m n ≡ m
+    same_room m n = ap (λ stage. (keeps_of kept_at stage m.0 n, copies_after stage n (value_of_room code words_in m.0) m.1)) is
 
     -- an answer that does not end the find is heard, and it goes on
-    pub heard_on : (d : Find T (Buffer 128)) (said : Bool) → find_goes code owner c (number_of said) ≡ GoOn d → FindAt code owner base v c m
-        → FindAt code owner base v d m
-    heard_on d said goes at =
-        let x = asked_from at in
+    pub heard_on : {base v : View T} {d : Find T (Buffer 128)} {m : Copying T} (said : Bool) → find_goes code owner c (number_of said) ≡ GoOn d
+        → FindAt code owner base v c m → FindAt code owner base v d m
+    heard_on {v} {d} {m} said goes at =
+        let (from, settled, under) = asked_from at in
         inl (record {
-          from = x.0;
-          settled = x.1;
-          stage = subst (FindBegun code owner x.0 v d) (same_room (number_of said))
-              (container_find_hears code law words_in kept_at put_in owner x.0 v c d m said due goes (inl (inr x.2)));
+          from = from;
+          settled = settled;
+          stage = subst (FindBegun code owner from v d) (same_room m (number_of said))
+              (container_find_hears code law words_in kept_at put_in owner from v c d m said due goes (inl (inr under)));
         })
 
     -- A find that an answer ends rests at its question.
-    rests_at : (e : ℕ) (said : Bool) → find_goes code owner c (number_of said) ≡ Done e → (at : FindAt code owner base v c m)
+    rests_at : {base v : View T} {m : Copying T} {e : ℕ} (said : Bool) → find_goes code owner c (number_of said) ≡ Done e → (at : FindAt code owner base v c m)
         → RestsAt code kinds.Container (find_goes code owner) (find_copying code owner) (finding code owner) (asked_from at).0 v e m
-    rests_at e said find_goes_is at = grind (arith, asked_from, due, same_room, number_of)
+    rests_at said find_goes_is at = grind (arith, asked_from, due, same_room, number_of)
 
   -- ---- where it has ended, or rests
 
   -- the find began at from, e is the number that it answers, m its room, w what the pass knows
   -- then; id is the container's number
-  module _ (cap : ℕ) (base w : View T) (from : View T) (settled : SettledFrom code kinds.Container base from) (e : ℕ) (m : Copying T) (id : ℕ) where
+  module _ (cap : ℕ) {base w from : View T} (settled : SettledFrom code kinds.Container base from) {e : ℕ} {m : Copying T} (id : ℕ) where
     module _ (rest : RestsAt code kinds.Container (find_goes code owner) (find_copying code owner) (finding code owner) from w e m) where
       -- The find that rests is still under way.
       abbrev under : IsUnderWay code kinds.Container (finding code owner) from w rest.asking m
@@ -206,7 +225,7 @@ module _ {T : Type 0} (code : Coding T) (law : IsCoding code) (owner : ℕ) wher
 
       -- It wrote just that.
       tells : under.wrote ≡ told
-      tells = under.tells (idle_from code base from settled) ∙ named_copies under.party owner id m.1
+      tells = under.tells (idle_from settled) ∙ named_copies under.party owner id m.1
 
       -- a find that an answer has ended rests: it has begun, and written its copies
       rests_so : Rests under.party (Container (starts.Find owner)) (Number e) told from w
@@ -215,12 +234,12 @@ module _ {T : Type 0} (code : Coding T) (law : IsCoding code) (owner : ℕ) wher
           record {
             others = under.since.others;
             during = under.since.during;
-            is = seen_is code base from settled under.party (Container (starts.Find owner)) under.wrote [] w under.since
+            is = seen_is settled under.since
                 ∙ ap (λ ds. (from.seen ++ under.since.others) ++ Begun under.party (Container (starts.Find owner)) ∷ ds) (append-nil under.since.during);
             alone = under.since.alone;
             others_own = under.since.others_own;
             during_own = under.since.during_own ∙ tells;
-            made = made_is code base from settled under.party (Container (starts.Find owner)) under.wrote [] w under.since
+            made = made_is settled under.since
                 ∙ ap (λ ds. from.made ++ Begun under.party (Container (starts.Find owner)) ∷ ds) (append-nil under.wrote ∙ tells);
             resting = resting_so code w so.0;
             party = so.1;
@@ -268,22 +287,20 @@ module _ {T : Type 0} (code : Coding T) (law : IsCoding code) (owner : ℕ) wher
           record {
             idle = ap (λ (o : Option ℕ). may_rest o w.going) under.mine
                 ∙ (ap (may_rest (Some under.party)) under.going ∙ at_question rest.asking.stage rest.asks);
-            capacity = under.capacity ∙ capacity_from code base from settled;
-            share = under.share ∙ share_from code base from settled;
+            capacity = under.capacity ∙ capacity_from settled;
+            share = under.share ∙ share_from settled;
             alone = under.alone;
-            goes = under_goes code base from settled (finding code owner) w rest.asking m under;
-            aside = under_aside code base from settled (finding code owner) w rest.asking m under;
-            knows = under_knows code base from settled (finding code owner) w rest.asking m under;
-            keeps =
-                under_keeps code base from settled (finding code owner) w
-                (record { start = refl; flight = λ c k. refl }) (λ was p by. by) rest.asking m under;
+            goes = under_goes settled (finding code owner) under;
+            aside = under_aside settled (finding code owner) under;
+            knows = under_knows settled (finding code owner) under;
+            keeps = under_keeps settled (finding code owner) (record { start = refl; flight = λ c k. refl }) (λ was p by. by) under;
           }
 
     module _ (ends : Ends code kinds.Container (finding code owner) from e m w) where
       -- A find that has ended has counted the indices of the owner in the whole container.
       counted_so : cap ≡ base.capacity → IsCount ends.party (IsFilledWith owner) cap e w.seen
       counted_so size =
-          subst (λ n. IsCount ends.party (IsFilledWith owner) n e w.seen) (capacity_from code base from settled ∙ sym size)
+          subst (λ n. IsCount ends.party (IsFilledWith owner) n e w.seen) (capacity_from settled ∙ sym size)
           (counts_whole code from.capacity ends.party owner e w.seen ends.last)
 
       -- A find that has ended has counted the owner's indices below the capacity, and copied the values
@@ -298,9 +315,9 @@ module _ {T : Type 0} (code : Coding T) (law : IsCoding code) (owner : ℕ) wher
             counts = counted_so size;
             over = inl (
               subst (λ es. Called ends.party (Container (starts.Find owner)) (Number e) es from w)
-                  (ends.tells (idle_from code base from settled) ∙ named_copies ends.party owner id m.1)
-                  (ended_called code base from settled (finding code owner) w e m ends (starts.Find owner) refl (Number e) refl),
-              ended_answered code base from settled (finding code owner) w e m ends (starts.Find owner) refl (Number e) refl,
+                  (ends.tells (idle_from settled) ∙ named_copies ends.party owner id m.1)
+                  (ended_called settled (finding code owner) ends (starts.Find owner) refl (Number e) refl),
+              ended_answered settled (finding code owner) ends (starts.Find owner) refl (Number e) refl,
               refl,
             );
           }
@@ -310,30 +327,29 @@ module _ {T : Type 0} (code : Coding T) (law : IsCoding code) (owner : ℕ) wher
       ended_left =
           record {
             idle = idle_none w ends.idle;
-            capacity = ends.capacity ∙ capacity_from code base from settled;
-            share = ends.share ∙ share_from code base from settled;
+            capacity = ends.capacity ∙ capacity_from settled;
+            share = ends.share ∙ share_from settled;
             alone = ends.alone;
-            goes = ended_goes code base from settled (finding code owner) w e m ends;
-            aside = ended_aside code base from settled (finding code owner) w e m ends;
-            knows = ended_knows code base from settled (finding code owner) w e m ends;
-            keeps = ended_keeps code base from settled (finding code owner) w (record { start = refl; flight = λ c k. refl }) (λ was p by. by) e m ends;
+            goes = ended_goes settled (finding code owner) ends;
+            aside = ended_aside settled (finding code owner) ends;
+            knows = ended_knows settled (finding code owner) ends;
+            keeps = ended_keeps settled (finding code owner) (record { start = refl; flight = λ c k. refl }) (λ was p by. by) ends;
           }
 
   -- A find that has ended leaves its pass as each find does, and has searched the whole container.
-  pub over_so : (cap : ℕ) (base w : View T) (e : ℕ) (m : Copying T) (id : ℕ) → cap ≡ base.capacity → FindDone code owner base e m w
+  pub over_so : {cap : ℕ} {base w : View T} {e : ℕ} {m : Copying T} (id : ℕ) → cap ≡ base.capacity → FindDone code owner base e m w
       → IsLeft code base w × HasSearched cap owner e cap (visits_of owner id m.1) base w
-  over_so cap base w e m id size x =
-      (ended_left cap base w x.from x.settled e m id x.over, ended_so cap base w x.from x.settled e m id x.over size)
+  over_so {cap} id size x = (ended_left cap x.settled id x.over, ended_so cap x.settled id x.over size)
 
   -- the answer has ended it at its question
-  pub answer_over : (cap : ℕ) (base v : View T) (c : Find T (Buffer 128)) (m : Copying T) (index found : ℕ) → c.stage ≡ finds.Asks index found
-      → FindAt code owner base v c m → (e id : ℕ) (said : Bool) → find_goes code owner c (number_of said) ≡ Done e
+  pub answer_over : (cap : ℕ) {base v : View T} {c : Find T (Buffer 128)} {m : Copying T} {index found : ℕ} → c.stage ≡ finds.Asks index found
+      → FindAt code owner base v c m → {e : ℕ} (id : ℕ) (said : Bool) → find_goes code owner c (number_of said) ≡ Done e
       → IsLeft code base v × HasSearched cap owner e (index + 1) (visits_of owner id m.1) base v
   unfolding rests_at
-  answer_over cap base v c m index found is at e id said goes =
-      let x = asked_from base v c m index found is at in
-      let rest = rests_at base v c m index found is e said goes at in (
-        rested_left cap base v x.0 x.1 e m id rest,
+  answer_over cap {base} {v} {c} {m} is at {e} id said goes =
+      let x = asked_from c is at in
+      let rest = rests_at c is said goes at in (
+        rested_left cap x.1 id rest,
         subst (λ n. HasSearched cap owner e n (visits_of owner id m.1) base v) (ap below_question is)
-            (rested_so cap base v x.0 x.1 e m id rest),
+            (rested_so cap x.1 id rest),
       )

@@ -16,7 +16,9 @@ module _ {T : Type 0} (size : ℕ) (seen : Numbers) (capacity index : ℕ) where
   pub counts_next : (n other : ℕ) (d : Look T) → look_after size (at_count capacity index) seen n ≡ GoOn d → CountsNext other d
   counts_next n other d = grind (arith, by_test, by_eq, is_even, slice_index_or, at_look, look_comes_to, look_finds, nat_lt, nat_tests)
 
+-- The look began in the view `from` with the state of these numbers, and w is what the pass knows after a step that
+-- leaves m in its room.
 module _ {T : Type 0} (code : Coding T) (which : LookOf) (from : View T) (shown : Showing T) (seen : Numbers) (w : View T) (m : Showing T) where
   -- Where a step has led to a next stage, the look is under way at it.
-  pub gone_on : (a : After (Look T) Bool) (d : Look T) → a ≡ GoOn d → LookOnGoes code which from shown seen a m w → LookOnAt code which from shown seen w d m
-  gone_on a d is goes = subst (λ z. LookOnGoes code which from shown seen z m w) is goes
+  pub gone_on : {a : After (Look T) Bool} {d : Look T} → a ≡ GoOn d → LookOnGoes code which from shown seen a m w → LookOnAt code which from shown seen w d m
+  gone_on is goes = subst (λ z. LookOnGoes code which from shown seen z m w) is goes

@@ -31,7 +31,20 @@ use Rattle.lock_free_owners.proofs.ContainerSet.Idle.{rests, idle_none}
 use Rattle.lock_free_owners.proofs.ContainerSet.SameStates.{Decided}
 use Rattle.lock_free_owners.proofs.Rules.Container.LookRuns.{state_rule}
 
-module _ {T : Type 0} (code : Coding T) (law : IsCoding code) (which : LookOf) (from : View T) (shown : Showing T) (seen : Numbers) where
+-- A look of a state: which call it is, the view in which it began, and the state that it was given.
+pub record LookCase (T : Type 0) : Type 0 where
+  -- how a value is coded in words
+  pub code : Coding T
+  pub law : IsCoding code
+  pub which : LookOf
+  pub from : View T
+  -- what the state shows, and the change numbers by which it does
+  pub shown : Showing T
+  pub seen : Numbers
+
+module _ {T : Type 0} (look : LookCase T) where
+  open look use {code, law, which, from, shown, seen}
+
   -- What the look asks for.
   abbrev want : Looking T → Want (Unit {0})
   want c = look_want code.size c
@@ -92,15 +105,17 @@ module _ {T : Type 0} (code : Coding T) (law : IsCoding code) (which : LookOf) (
   -- it has not, where it is decided which
   look_keeps_by : Decided On → Keeps code At Over want after kept
   look_keeps_by (inl on) base v c m key words slots id wide known at =
-      weaker_owes (λ (z : View T). z.asked) (IsMachine code kinds.Container key) words slots id (ToldOn c m)
-      (Told (λ (z : View T). z.capacity) At Over after kept c m) (want c) (v, [])
+      let weaker = weaker_owes (λ (z : View T). z.asked) (IsMachine code kinds.Container key) words slots id in
+      let keeps = state_rests_keep code law which from.capacity seen from v c m in
+      weaker (ToldOn c m) (Told (λ (z : View T). z.capacity) At Over after kept c m) (want c) (v, [])
       (λ n w h. (h.0, λ b here. joins on b (after c n) (kept c m n) w (h.1 from (here.0 on))))
-      (state_rests_keep code law which from.capacity seen from v c m key words slots id wide known (at.0 on))
+      (keeps key words slots id wide known (at.0 on))
   look_keeps_by (inr other) base v c m key words slots id wide known at =
-      weaker_owes (λ (z : View T). z.asked) (IsMachine code kinds.Container key) words slots id (ToldStill c m)
-      (Told (λ (z : View T). z.capacity) At Over after kept c m) (want c) (v, [])
+      let weaker = weaker_owes (λ (z : View T). z.asked) (IsMachine code kinds.Container key) words slots id in
+      let keeps = state_rule code code.value_of code.size law.some seen from v c m in
+      weaker (ToldStill c m) (Told (λ (z : View T). z.capacity) At Over after kept c m) (want c) (v, [])
       (λ n w h. (h.0, λ b here. leaves other b (after c n) (kept c m n) w (h.1 from (here.1 other))))
-      (state_rule code code.value_of code.size law.some seen from v c m key words slots id wide known (at.1 other))
+      (keeps key words slots id wide known (at.1 other))
 
   -- Each step of a look keeps the rule of the table, whether its state stands in the history or not.
   pub look_keeps : Decided On → Keeps code At Over want after kept
@@ -134,10 +149,11 @@ module _ {T : Type 0} (code : Coding T) (law : IsCoding code) (which : LookOf) (
   -- one
   pub look_on_keeps : Decided On → Keeps code AtOn OverOn want after kept
   look_on_keeps decided base v c m key words slots id wide known at =
-      weaker_owes (λ (z : View T). z.asked) (IsMachine code kinds.Container key) words slots id (Told (λ (z : View T). z.capacity) At Over after kept c m)
-      (Told (λ (z : View T). z.capacity) AtOn OverOn after kept c m) (want c) (v, [])
+      let weaker = weaker_owes (λ (z : View T). z.asked) (IsMachine code kinds.Container key) words slots id in
+      let keeps = look_keeps decided base v c m in
+      weaker (Told (λ (z : View T). z.capacity) At Over after kept c m) (Told (λ (z : View T). z.capacity) AtOn OverOn after kept c m) (want c) (v, [])
       (λ n w h. (h.0, λ b here. goes_past b (after c n) (kept c m n) w (takes c c.stage n here.1) (h.1 b here.0)))
-      (look_keeps decided base v c m key words slots id wide known at.0)
+      (keeps key words slots id wide known at.0)
 
   -- after its first step a look has found a change and goes on, or has ended with false
   abbrev pub IsAfterFirst : After (Looking T) Bool → Type 0
@@ -145,28 +161,28 @@ module _ {T : Type 0} (code : Coding T) (law : IsCoding code) (which : LookOf) (
   IsAfterFirst (Done changed) = changed ≡ false
 
   -- what the first step leads to on a container that has an index
-  pub first_leads : (capacity : ℕ) (a : After (Looking T) Bool) (n : ℕ) → 0 < capacity → a ≡ look_after code.size (first_look capacity) seen n → IsAfterFirst a
-  first_leads capacity a n capacity_positive a_is = grind (arith, by_test, look_comes_to, first_look, nat_lt, nat_tests)
+  pub first_leads : (capacity n : ℕ) {a : After (Looking T) Bool} → 0 < capacity → a ≡ look_after code.size (first_look capacity) seen n → IsAfterFirst a
+  first_leads capacity n {a} capacity_positive a_is = grind (arith, by_test, look_comes_to, first_look, nat_lt, nat_tests)
 
   -- ---- where a step has led
 
   -- Where a step has led to a next stage, the look is under way at that stage.
-  pub goes_from : (base w : View T) (a : After (Looking T) Bool) (m : Showing T) (d : Looking T) → a ≡ GoOn d → NextOf At Over base a m w
+  pub goes_from : (base w : View T) {a : After (Looking T) Bool} (m : Showing T) {d : Looking T} → a ≡ GoOn d → NextOf At Over base a m w
       → LookAt code which from shown seen w d m
-  goes_from base w a m d e h = subst (λ z. NextOf At Over base z m w) e h
+  goes_from base w m e h = subst (λ z. NextOf At Over base z m w) e h
 
   -- Where a step has ended the look, the look is over with that answer.
-  pub ends_from : (base w : View T) (a : After (Looking T) Bool) (m : Showing T) (changed : Bool) → a ≡ Done changed → NextOf At Over base a m w
+  pub ends_from : (base w : View T) {a : After (Looking T) Bool} (m : Showing T) {changed : Bool} → a ≡ Done changed → NextOf At Over base a m w
       → LookOver code which from shown seen changed m w
-  ends_from base w a m changed e h = subst (λ z. NextOf At Over base z m w) e h
+  ends_from base w m e h = subst (λ z. NextOf At Over base z m w) e h
 
   -- A look that goes on after its first step is past that step.
-  pub past_from : (a : After (Looking T) Bool) (d : Looking T) → a ≡ GoOn d → IsAfterFirst a → IsPast d.stage
-  past_from a d e h = subst IsAfterFirst e h
+  pub past_from : {a : After (Looking T) Bool} {d : Looking T} → a ≡ GoOn d → IsAfterFirst a → IsPast d.stage
+  past_from e h = subst IsAfterFirst e h
 
   -- A look that its first step ends found no change.
-  pub false_from : (a : After (Looking T) Bool) (changed : Bool) → a ≡ Done changed → IsAfterFirst a → changed ≡ false
-  false_from a changed e h = subst IsAfterFirst e h
+  pub false_from : {a : After (Looking T) Bool} {changed : Bool} → a ≡ Done changed → IsAfterFirst a → changed ≡ false
+  false_from e h = subst IsAfterFirst e h
 
   -- ---- it begins
 
@@ -180,6 +196,8 @@ module _ {T : Type 0} (code : Coding T) (law : IsCoding code) (which : LookOf) (
   pub look_begins : IsIdle from → from.other ≡ [] → 0 < from.share.part → LookAt code which from shown seen from (first_look from.capacity) shown
   look_begins is_idle other_is_empty part_positive = grind (arith, begins_on, rests)
 
+-- A look of a state, as the history has it, began in the view `from` and has ended in the view w with this answer; m is
+-- what its state shows then.
 module _ {T : Type 0} (code : Coding T) (which : LookOf) (from w : View T) (seen : Numbers) (changed : Bool) (m : Showing T)
     (ends : RestedLooked code which from.capacity seen from changed m w) where
   -- ---- what it leaves as a call of the history
@@ -190,16 +208,16 @@ module _ {T : Type 0} (code : Coding T) (which : LookOf) (from w : View T) (seen
 
   -- What the pass knows goes on from what it knew before the look.
   pub look_goes : Goes from w
-  look_goes = ended_goes code from ends.from ends.settled (looking code which from.capacity seen) w changed m ends.over.0
+  look_goes = ended_goes ends.settled (looking code which from.capacity seen) ends.over.0
 
   -- The look leaves at most one operation aside, and one more where the last call rested.
   pub look_aside : FewAside from w
-  look_aside = ended_aside code from ends.from ends.settled (looking code which from.capacity seen) w changed m ends.over.0
+  look_aside = ended_aside ends.settled (looking code which from.capacity seen) ends.over.0
 
   -- The look answers what is right by the events before its end.
   pub look_answered : AnsweredBy (look_start which) (looked which (state_of_look from.capacity seen m) changed) from w
   look_answered =
-      ended_answered code from ends.from ends.settled (looking code which from.capacity seen) w changed m ends.over.0 (look_start which) refl
+      ended_answered ends.settled (looking code which from.capacity seen) ends.over.0 (look_start which) refl
       (looked which (state_of_look from.capacity seen m) changed) refl
 
   -- In the history the look is one call, which wrote what a look over all elements writes.
@@ -239,10 +257,10 @@ module _ {T : Type 0} (code : Coding T) (from : View T) where
   of_history old e h = (h.0, h.1, h.2 ∙ ap (λ n. Some (state_of_look n old.seen old.shown)) (sym e))
 
   -- the state that a look leaves is the one that its pass has
-  pub latest_so : (which : LookOf) (w : View T) (changed : Bool) (old new : ContainerState T) → old.capacity ≡ from.capacity
+  pub latest_so : (which : LookOf) {w : View T} {changed : Bool} (old new : ContainerState T) → old.capacity ≡ from.capacity
       → new ≡ settled_if (Done changed) (record old { shown = new.shown })
       → RestedLooked code which from.capacity old.seen from changed new.shown w → HasIt w new
-  latest_so which w changed old new same_capacity new_is rested_looked = grind (arith, unnumbered, settled_if, state_of_look, settled)
+  latest_so which old new same_capacity new_is rested_looked = grind (arith, unnumbered, settled_if, state_of_look, settled)
 
 -- what is known of a pass that a look has left
 pub record Left {T : Type 0} (v w : View T) : Type 0 where
@@ -251,8 +269,9 @@ pub record Left {T : Type 0} (v w : View T) : Type 0 where
   pub share : w.share ≡ v.share
   pub capacity : w.capacity ≡ v.capacity
 
-module _ {T : Type 0} (code : Coding T) (which : LookOf) (from : View T) (shown : Showing T) (seen : Numbers)
-    (changed : Bool) (m : Showing T) (w : View T) where
+-- A look of any state, whether the history has it or not, led from the view `from` to w.
+module _ {T : Type 0} (code : Coding T) (which : LookOf) {from : View T} (shown : Showing T) (seen : Numbers)
+    {changed : Bool} {m : Showing T} {w : View T} where
   -- A look leaves of its pass what `Left` says.
   pub left_so : Decided (IsOnHistory code which from shown seen) → IsIdle from → from.other ≡ [] → LookOver code which from shown seen changed m w → Left from w
   left_so decided is_idle other_is_empty look_over = grind (arith, idle_none, share_from, capacity_from)
@@ -262,7 +281,7 @@ module _ {T : Type 0} (code : Coding T) (which : LookOf) (from : View T) (shown 
       → LookOver code which from shown seen changed m w → Knows code kinds.Container from.capacity w
   knows_so (inl on) knows over =
       let ends = over.0 on in
-      ended_knows code from ends.from ends.settled (looking code which from.capacity seen) w changed m ends.over.0
+      ended_knows ends.settled (looking code which from.capacity seen) ends.over.0
   knows_so (inr beside) knows over =
       let counted = over.1 beside in
       subst (λ (z : View T). Knows code kinds.Container from.capacity z) (sym counted.known)

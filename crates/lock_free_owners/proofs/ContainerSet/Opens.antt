@@ -13,6 +13,7 @@ module _ (capacity size : ℕ) where
       → (0 ∷ replicate capacity empty) ++ replicate rest 0 ≡ opening_words size capacity ++ 0 ∷ []
   filled rest rest_is = grind (arith, replicate, empty, one_more, append_assoc)
 
+-- The capacity is one that a container may have, so its opening is not refused.
 module _ {T : Type 0} (code : Coding T) (law : IsCoding code) (capacity : ℕ) (some : 0 < capacity) (small : capacity < 2 ^ 32) where
   -- The capacity is not refused as too great.
   most : nat_lt (2 ^ 32 - 1) capacity ≡ false

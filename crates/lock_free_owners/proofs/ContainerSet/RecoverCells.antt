@@ -38,24 +38,27 @@ module _ {T : Type 0} (code : Coding T) (given : DeadOwner) (capacity cell : ℕ
   past : capacity ≤ cell + 1 → recover_comes_to here (cell + 1) ≡ GoOn (stands recovers.LoadsCounterAgain)
   past capacity_up_to = grind (arith, by_test, nat_lt, goes_to, nat_tests)
 
-  module _ (base w : View T) (room : Buffer 128) (visits : List (ℕ × Came T)) (k : ℕ) where
-    -- the recovery stands at its next stage, or has ended, after it has loaded the cell
-    abbrev There : After (Recover T (Buffer 128)) ReleaseState → Type 0
-    There a = Next (λ (z : View T). z.capacity) (RecoverAt code given) (RecoverEnds code given) base a (room, visits) w
+  -- the recovery stands at its next stage, or has ended, after it has loaded the cell
+  abbrev There : View T → View T → Buffer 128 → List (ℕ × Came T) → After (Recover T (Buffer 128)) ReleaseState → Type 0
+  There base w room visits a = Next (λ (z : View T). z.capacity) (RecoverAt code given) (RecoverEnds code given) base a (room, visits) w
 
-    -- where the load of this cell, which found k, has led the recovery
-    abbrev Loaded : Type 0
-    Loaded = There (recover_goes code given here k)
+  -- where the load of this cell, which found k, has led the recovery
+  abbrev Loaded : View T → View T → Buffer 128 → List (ℕ × Came T) → ℕ → Type 0
+  Loaded base w room visits k = There base w room visits (recover_goes code given here k)
 
-    -- A loaded cell of the owner leads the recovery to the load of its change number.
-    pub comes_own : k ≡ given.owner → Loaded → RecoverAt code given base w (stands (recovers.LoadsCount cell)) (room, visits)
-    comes_own is loaded = subst There (own k is) loaded
+  -- A loaded cell of the owner leads the recovery to the load of its change number.
+  pub comes_own : {base w : View T} {room : Buffer 128} {visits : List (ℕ × Came T)} {k : ℕ} → k ≡ given.owner → Loaded base w room visits k
+      → RecoverAt code given base w (stands (recovers.LoadsCount cell)) (room, visits)
+  comes_own {base} {w} {room} {visits} {k} is loaded = subst (There base w room visits) (own k is) loaded
 
-    -- A loaded cell that is not the owner's leads the recovery to the next cell.
-    pub comes_next : (k ≡ given.owner → ⊥) → cell + 1 < capacity → Loaded → RecoverAt code given base w (at_cell capacity (cell + 1)) (room, visits)
-    comes_next other within loaded = subst There (next within) (subst There (others k other) loaded)
+  -- A loaded cell that is not the owner's leads the recovery to the next cell.
+  pub comes_next : {base w : View T} {room : Buffer 128} {visits : List (ℕ × Came T)} {k : ℕ} → (k ≡ given.owner → ⊥) → cell + 1 < capacity
+      → Loaded base w room visits k → RecoverAt code given base w (at_cell capacity (cell + 1)) (room, visits)
+  comes_next {base} {w} {room} {visits} {k} other within loaded =
+      subst (There base w room visits) (next within) (subst (There base w room visits) (others k other) loaded)
 
-    -- A last cell that is not the owner's leads the recovery to its load of the counter.
-    pub comes_past : (k ≡ given.owner → ⊥) → capacity ≤ cell + 1 → Loaded
-        → RecoverAt code given base w (stands recovers.LoadsCounterAgain) (room, visits)
-    comes_past other last loaded = subst There (past last) (subst There (others k other) loaded)
+  -- A last cell that is not the owner's leads the recovery to its load of the counter.
+  pub comes_past : {base w : View T} {room : Buffer 128} {visits : List (ℕ × Came T)} {k : ℕ} → (k ≡ given.owner → ⊥) → capacity ≤ cell + 1
+      → Loaded base w room visits k → RecoverAt code given base w (stands recovers.LoadsCounterAgain) (room, visits)
+  comes_past {base} {w} {room} {visits} {k} other last loaded =
+      subst (There base w room visits) (past last) (subst (There base w room visits) (others k other) loaded)

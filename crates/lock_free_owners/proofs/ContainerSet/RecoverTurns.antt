@@ -2,7 +2,7 @@
 -- rule of the table, and it may take an answer of its closure.
 use Rattle.lock_free_owners.proofs.Names.{◌≡◌, ◌⊎◌, inl, inr, ℕ, ◌<◌, nat_lt, Bool, true, false, None}
 use Rattle.lock_free_owners.proofs.Names.{List, [], ◌∷◌, ◌++◌, slice_set, refl, sym, ap, subst, ◌∙◌, append_assoc}
-use Rattle.lock_free_owners.proofs.Names.{append-nil, arith, goes_to, empty, by_test, After, GoOn, Done, DeadOwner}
+use Rattle.lock_free_owners.proofs.Names.{◌+◌, IsMachine, total_words, weaker_owes, append-nil, arith, goes_to, empty, by_test, After, GoOn, Done, DeadOwner}
 use Rattle.lock_free_owners.proofs.Names.{Buffer, ReleaseState, State, Event, Begun, Copied, Asked, Finished}
 use Rattle.lock_free_owners.proofs.Names.{Container, Coding, IsCoding, is_question, is_locked, fresh_cell, kept_at}
 use Rattle.lock_free_owners.proofs.Names.{Each, number_of, Word, DriverTold, View, wrote_visits, told_yet, Called}
@@ -20,7 +20,7 @@ use Rattle.model.specs.declared.families.container.ContainerStart.TheVariants as
 use Rattle.model.specs.declared.turn.Kind.TheVariants as kinds
 use Rattle.laws_robust.proofs.Sound.{raise_asks_none, lock_asks_none}
 use Rattle.laws_container.specs.Gone.{AsksBy}
-use Rattle.threaded.specs.Driver.{Next}
+use Rattle.threaded.specs.Driver.{Next, Owes}
 use Rattle.history.specs.ContainerRecovery.{Came, visits_after, VisitsAt}
 use Rattle.history.specs.ValueQueue.{value_there}
 use Rattle.lock_free_owners.specs.Robust.Contracts.{FoundState}
@@ -81,7 +81,7 @@ module _ {T : Type 0} (code : Coding T) (law : IsCoding code) (given : DeadOwner
   never_first capacity c d m n is_question_true recover_goes_is begins_recover = grind (arith, answers_later)
 
   -- each step of a recovery keeps the rule of the table, and tells what is known after it
-  pub recover_keeps : Keeps code (RecoverAt code given) (RecoverEnds code given) (λ c. recover_want code.size c given) (recover_goes code given)
+  recover_keeps : Keeps code (RecoverAt code given) (RecoverEnds code given) (λ c. recover_want code.size c given) (recover_goes code given)
       (recover_visiting code given)
   recover_keeps =
       rested_asks code (recovering code given) (λ c. recover_want code.size c given) (λ c m. refl) (BeginsRecover given) begins_asks
@@ -109,7 +109,7 @@ module _ {T : Type 0} (code : Coding T) (law : IsCoding code) (given : DeadOwner
   same_visits : (base other v : View T) (c : Recover T (Buffer 128)) (m k : Visiting T) → RecoverAt code given base v c m → RecoverAt code given other v c k
       → m.1 ≡ k.1
   same_visits base other v c m k (inl x) (inl y) =
-      recover_did code law words_in kept_at put_in given x.from y.from v c c m k (idle_from code base x.from x.settled) (idle_from code other y.from y.settled)
+      recover_did code law words_in kept_at put_in given x.from y.from v c c m k (idle_from x.settled) (idle_from y.settled)
       x.stage y.stage
   same_visits base other v c m k (inl x) (inr y) = absurd (apart x.from v c m k (rested_at other v c k y) (begins_at other v c k y) x.stage)
   same_visits base other v c m k (inr x) (inl y) = absurd (apart y.from v c k m (rested_at base v c m x) (begins_at base v c m x) y.stage)
@@ -117,13 +117,13 @@ module _ {T : Type 0} (code : Coding T) (law : IsCoding code) (given : DeadOwner
 
   -- What one step tells holds whichever list of visits the recovery is said to have made: there is one
   -- such list only.
-  pub recover_tells : (base v : View T) (c : Recover T (Buffer 128)) (room : Buffer 128) (visits : List (ℕ × Came T))
+  recover_tells : {base v : View T} {c : Recover T (Buffer 128)} {room : Buffer 128} {visits : List (ℕ × Came T)}
       → RecoverAt code given base v c (room, visits)
       → (n : ℕ) (w : View T)
       → DriverTold (λ (z : View T). z.capacity) (RecoverAt code given) (RecoverEnds code given)
       (recover_goes code given) (recover_visiting code given) c (room, visits) v n w
       → (w.capacity ≡ v.capacity) × RecoverTells code given c room v n w
-  recover_tells base v c room visits at n w h = (
+  recover_tells {base} {v} {c} {room} {visits} at n w h = (
     h.0,
     λ other more there. (
         let same : visits ≡ more = same_visits base other v c (room, visits) (room, more) at there in
@@ -131,6 +131,21 @@ module _ {T : Type 0} (code : Coding T) (law : IsCoding code) (given : DeadOwner
         (recover_visiting code given c (room, xs) n) w) same
         (h.1 other (subst (λ xs. RecoverAt code given other v c (room, xs)) (sym same) there))),
   )
+
+  -- A step of the recovery is one that the rule of the table allows, and it goes on by it, whichever list of visits it is
+  -- said to have made.
+  pub recover_owes : {base v : View T} {c : Recover T (Buffer 128)} {room : Buffer 128} {visits : List (ℕ × Came T)}
+      → RecoverAt code given base v c (room, visits) → {key words : ℕ} (slots id : ℕ) → words ≡ total_words key code.size + 1 → v.capacity ≡ key
+      → Owes (λ (z : View T). z.asked) (IsMachine code kinds.Container key) words slots id
+      (λ u n w. (w.capacity ≡ u.capacity) × RecoverTells code given c room u n w) (recover_want code.size c given) (v, [])
+  recover_owes {base} {v} {c} {room} {visits} at {key} {words} slots id sized known =
+      let told : View T → ℕ → View T → Type 0 =
+      DriverTold (λ (z : View T). z.capacity) (RecoverAt code given) (RecoverEnds code given) (recover_goes code given) (recover_visiting code given)
+      c (room, visits) in
+      let more : View T → ℕ → View T → Type 0 = λ u n w. (w.capacity ≡ u.capacity) × RecoverTells code given c room u n w in
+      let weaker = weaker_owes (λ (z : View T). z.asked) (IsMachine code kinds.Container key) words slots id in
+      let keeps = recover_keeps base v c (room, visits) key words slots id in
+      weaker told more (recover_want code.size c given) (v, []) (λ n w h. recover_tells at n w h) (keeps sized known at)
 
   -- a recovery may begin where no call is under way, or where the last one rests
   begins_by : (v : View T) → given.owner < empty → (v.going ≡ None) ⊎ IsResting code v → v.other ≡ [] → 0 < v.share.part
@@ -150,43 +165,43 @@ module _ {T : Type 0} (code : Coding T) (law : IsCoding code) (given : DeadOwner
 
   -- ---- at its question
 
-  -- the recovery began at base, and stands at c at v with m in its room
-  module _ (base v : View T) (c : Recover T (Buffer 128)) (m : Visiting T) (index count : ℕ) (is : c.stage ≡ recovers.Asks index count) where
+  -- The recovery stands at the question about this index.
+  module _ (c : Recover T (Buffer 128)) {index count : ℕ} (is : c.stage ≡ recovers.Asks index count) where
     -- The recovery stands at a question.
     due : is_question (recover_want code.size c given) ≡ true
     due = ap (λ stage. is_question (recover_asks code.size c.capacity stage given.owner)) is
 
     -- A recovery at a question is under way and has heard no answer to that question yet.
-    under_at : (from : View T) → RecoverBegun code given from v c m → IsUnderWay code kinds.Container (recovering code given) from v c m
-    under_at from recover_begun = grind (arith, clash, is_question, recover_want, due, recover_call, words_in, kept_at, put_in, number_of)
+    under_at : (from v : View T) (m : Visiting T) → RecoverBegun code given from v c m → IsUnderWay code kinds.Container (recovering code given) from v c m
+    under_at from v m recover_begun = grind (arith, clash, is_question, recover_want, due, recover_call, words_in, kept_at, put_in, number_of)
 
     -- A recovery at a question has begun, so it is under way from a settled view.
-    asked_from : RecoverAt code given base v c m
+    asked_from : {base v : View T} {m : Visiting T} → RecoverAt code given base v c m
         → (from : View T) × SettledFrom code kinds.Container base from × IsUnderWay code kinds.Container (recovering code given) from v c m
     asked_from recover_at = grind (arith, under_at)
 
     -- An answer changes no visit.
-    same_room : (n : ℕ) → recover_visiting code given c m n ≡ m
-    same_room n = ap (λ stage. (keeps_of kept_at stage m.0 n, visits_after given.owner stage n (value_there code words_in m.0) m.1)) is
+    same_room : (m : Visiting T) (n : ℕ) → recover_visiting code given c m n ≡ m
+    same_room m n = ap (λ stage. (keeps_of kept_at stage m.0 n, visits_after given.owner stage n (value_there code words_in m.0) m.1)) is
 
     -- an answer is heard, and the recovery goes on
-    pub heard_on : (d : Recover T (Buffer 128)) (said : Bool) → recover_goes code given c (number_of said) ≡ GoOn d → RecoverAt code given base v c m
-        → RecoverAt code given base v d m
-    heard_on d said goes at =
-        let x = asked_from at in
+    pub heard_on : {base v : View T} {d : Recover T (Buffer 128)} {m : Visiting T} (said : Bool) → recover_goes code given c (number_of said) ≡ GoOn d
+        → RecoverAt code given base v c m → RecoverAt code given base v d m
+    heard_on {v} {d} {m} said goes at =
+        let (from, settled, under) = asked_from at in
         inl (record {
-          from = x.0;
-          settled = x.1;
-          stage = subst (RecoverBegun code given x.0 v d) (same_room (number_of said))
-              (container_recover_hears code law words_in kept_at put_in given x.0 v c d m said due goes (inl (inr x.2)));
+          from = from;
+          settled = settled;
+          stage = subst (RecoverBegun code given from v d) (same_room m (number_of said))
+              (container_recover_hears code law words_in kept_at put_in given from v c d m said due goes (inl (inr under)));
         })
 
     -- No answer of the closure ends a recovery: behind the last question it still loads the counter.
-    pub answer_last : {A : Type 0} (e : ReleaseState) (said : Bool) → recover_goes code given c (number_of said) ≡ Done e → A
-    answer_last e said goes = absurd ((recover_call code law words_in kept_at put_in given).lasts c e (number_of said) due goes)
+    pub answer_last : {A : Type 0} {e : ReleaseState} (said : Bool) → recover_goes code given c (number_of said) ≡ Done e → A
+    answer_last {e} said goes = absurd ((recover_call code law words_in kept_at put_in given).lasts c e (number_of said) due goes)
 
     -- the container was not locked when it began
-    module _ (at : RecoverAt code given base v c m) where
+    module _ {base v : View T} {m : Visiting T} (at : RecoverAt code given base v c m) where
       abbrev x : (from : View T) × SettledFrom code kinds.Container base from × IsUnderWay code kinds.Container (recovering code given) from v c m
       x = asked_from at
 
@@ -201,7 +216,7 @@ module _ {T : Type 0} (code : Coding T) (law : IsCoding code) (given : DeadOwner
           let begin : Event T = Begun p start in
           let others : List (Event T) = from.seen ++ under.since.others in
           let value : T = value_there code words_in m.0 in
-          let tells = under.tells (idle_from code base from settled) in
+          let tells = under.tells (idle_from settled) in
           -- The events of the recovery so far end with the copy of the value and the question.
           let last = subst (λ stage. VisitsAt stage value m.1) is tells.0 in
           let before : List (Event T) = wrote_visits p given.owner last.0 in
@@ -212,7 +227,7 @@ module _ {T : Type 0} (code : Coding T) (law : IsCoding code) (given : DeadOwner
           ∙ (ap (wrote_visits p given.owner) last.1 ∙ sym (append_assoc before (Copied p index value ∷ []) (question ∷ []))))) in
           let part = find_own p under.since.during (before ++ Copied p index value ∷ []) [] question (under.since.during_own ∙ told) in
           let whole : v.seen ≡ (others ++ begin ∷ part.0) ++ question ∷ (part.1 ++ []) =
-          seen_is code base from settled p start under.wrote [] v under.since
+          seen_is settled under.since
           ∙ (ap (λ ds. others ++ begin ∷ (ds ++ [])) part.2
           ∙ (ap (λ zs. others ++ begin ∷ zs) (append_assoc part.0 (question ∷ part.1) [])
           ∙ sym (append_assoc others (begin ∷ part.0) (question ∷ (part.1 ++ [])))))
@@ -222,21 +237,21 @@ module _ {T : Type 0} (code : Coding T) (law : IsCoding code) (given : DeadOwner
           let each : Each (AsksBy Word) v.seen = (sound_history code from.capacity v.seen under.history).asks in
           let once = (each (others ++ begin ∷ part.0) (part.1 ++ []) question whole).1 in
           let after = covers p start part.0 others once.part once.rest once.is once.within in
-          not_locked (from_since code base from settled (under.since.others ++ after.rest) once.part
+          not_locked (from_since settled (under.since.others ++ after.rest) once.part
           (after.is ∙ append_assoc from.seen under.since.others after.rest)) once.held
 
   -- ---- where it has ended
 
   -- base and w are what the pass knew before the recovery and after it, e is its answer, m its
   -- room then
-  module _ (base w : View T) (e : ReleaseState) (m : Visiting T) (ends : RecoverEnds code given base e m w) where
+  module _ {base w : View T} {e : ReleaseState} {m : Visiting T} (ends : RecoverEnds code given base e m w) where
     -- What the pass knows goes on from what it knew before the recovery.
     pub recovered_goes : Goes base w
-    recovered_goes = ended_goes code base ends.from ends.settled (recovering code given) w e m ends.over
+    recovered_goes = ended_goes ends.settled (recovering code given) ends.over
 
     -- The recovery leaves at most one operation aside, and one more where the last call rested.
     pub recovered_aside : FewAside base w
-    recovered_aside = ended_aside code base ends.from ends.settled (recovering code given) w e m ends.over
+    recovered_aside = ended_aside ends.settled (recovering code given) ends.over
 
     -- In the history, a recovery that has ended is one call, and its party wrote just the
     -- events of its visits.
@@ -247,13 +262,13 @@ module _ {T : Type 0} (code : Coding T) (law : IsCoding code) (given : DeadOwner
     -- A recovery answers right by what came before its end, in the words of the laws.
     recovered_by : AnsweredBy (starts.Recover given.owner given.mode) (State e) base w
     recovered_by =
-        ended_answered code base ends.from ends.settled (recovering code given) w e m ends.over (starts.Recover given.owner given.mode) refl (State e) refl
+        ended_answered ends.settled (recovering code given) ends.over (starts.Recover given.owner given.mode) refl (State e) refl
 
   -- The state that a recovery answers is right.
   pub recovered_answered : (base w : View T) (state : ReleaseState) (m : Visiting T) → RecoverEnds code given base state m w
       → IsRightRecovery given state base w
-  recovered_answered base w states.Locked m ends = recovered_by base w states.Locked m ends
-  recovered_answered base w states.Unlocked m ends = recovered_by base w states.Unlocked m ends
+  recovered_answered base w states.Locked m ends = recovered_by ends
+  recovered_answered base w states.Unlocked m ends = recovered_by ends
 
   -- a recovery that answers Locked has seen the lock, and one that answers Unlocked began before
   -- the lock was seen
@@ -263,9 +278,10 @@ module _ {T : Type 0} (code : Coding T) (law : IsCoding code) (given : DeadOwner
       let a = recovered_answered base w states.Locked m ends in
       lock_stays (record { rest = Finished a.by (Container (starts.Recover given.owner given.mode)) (State states.Locked) ∷ []; is = a.is }) a.right
   recovered_lock_so states.Unlocked base w m ends =
-      open_since code base ends.from ends.settled (recovering code given) w states.Unlocked m ends.over (starts.Recover given.owner given.mode) refl
-      (State states.Unlocked) refl _ (ended_answered code base ends.from ends.settled (recovering code given) w states.Unlocked m ends.over
-      (starts.Recover given.owner given.mode) refl (State states.Unlocked) refl).right.0
+      let call = recovering code given in
+      let start = starts.Recover given.owner given.mode in
+      let answer = State states.Unlocked in
+      open_since ends.settled call ends.over start refl answer refl (ended_answered ends.settled call ends.over start refl answer refl).right.0
 
   -- The state that a recovery answers tells of the lock what `FoundState` says.
   pub recovered_lock : (base w : View T) (state : ReleaseState) (m : Visiting T) → RecoverEnds code given base state m w → FoundState state base w

@@ -29,7 +29,8 @@ module _ {T : Type 0} (code : Coding T) where
   settles_by key words slots id word v below known (inl idle) = (
     below,
     λ s r long at small.
-        leaves code key slots id v word (λ n. n) (λ k. refl) (λ u n w. HasSettled code u w)
+        let leaves_words = leaves code key slots id v word (λ n. n) (λ k. refl) in
+        leaves_words (λ u n w. HasSettled code u w)
         (λ k. record { from = v; settled = inl (refl, idle); counted = counted_one v }) s r long at small,
   )
   settles_by key words slots id word v below known (inr h) = (
@@ -39,8 +40,9 @@ module _ {T : Type 0} (code : Coding T) where
         let rests : Rests (container_hears code) v key id = record { s = s; r = r; at = at; known = known; h = h } in
         let vh : View T = view_settled (container_hears code) rests in
         -- From it the load leaves each word as it was, and counts one operation.
+        let leaves_words = leaves code key slots id vh word (λ n. n) (λ k. refl) in
         let x =
-        leaves code key slots id vh word (λ n. n) (λ k. refl) (λ u n w. IsCounted u w) (λ k. counted_one vh)
+        leaves_words (λ u n w. IsCounted u w) (λ k. counted_one vh)
         (table_settled (container_hears code) rests) (machine_settled (container_hears code) rests)
         long (set_here s.views id vh (within s.views id v at)) small in (
           x.0,
@@ -67,9 +69,9 @@ module _ {T : Type 0} (code : Coding T) where
 
   -- A seat that rests or has no call under way may load any word of the table: this load settles the
   -- end of its last call.
-  pub owes_settling : (key words slots id word : ℕ) (v : View T) → word < words → v.capacity ≡ key → IsIdle v → v.other ≡ [] → 0 < v.share.part
+  pub owes_settling : {key words word : ℕ} (slots id : ℕ) (v : View T) → word < words → v.capacity ≡ key → IsIdle v → v.other ≡ [] → 0 < v.share.part
       → Owed key words slots id word v
-  owes_settling key words slots id word v below known idle alone any = settles_by key words slots id word v below known (rests code v alone any idle)
+  owes_settling {key} {words} {word} slots id v below known idle alone any = settles_by key words slots id word v below known (rests code v alone any idle)
 
   -- A pass that settles the end of its last call keeps its capacity.
   of_from : (v from : View T) → SettledFrom code kinds.Container v from → from.capacity ≡ v.capacity

@@ -21,7 +21,7 @@ abbrev pub TakesThen : {T : Type 0} → Guarantee → View T → View T → Type
 TakesThen (WaitFree most) old new = TakesFew most old new
 TakesThen (ObstructionFree alone retry) old new = ContainerTakes alone retry old new
 
-module _ {T : Type 0} (code : Coding T) (base from : View T) (settled : SettledFrom code kinds.Container base from) where
+module _ {T : Type 0} {code : Coding T} {base from : View T} (settled : SettledFrom code kinds.Container base from) where
   -- Settling asks for one operation at most, and for none where no call rested.
   settling : SettledFrom code kinds.Container base from → from.asked ≤ base.asked + to_settle base
   settling (inl h) = (let same = ap (λ (z : View T). z.asked) h.0 in omega arith)
@@ -42,23 +42,22 @@ module _ {T : Type 0} (code : Coding T) (base from : View T) (settled : SettledF
   takes_then capacity (ObstructionFree alone retry) w h =
       more_alone w.asked from.asked alone (w.others * retry) base.asked (to_settle base) h (settling settled)
 
-  -- w is what the pass knows after the call, e is its end, m its room then
-  module _ {C M E : Type 0} (call : Calling T C M E) (w : View T) (e : E) (m : M) where
-    -- a call that has ended took at most what the model says of it, and one operation more if the
-    -- last call of the pass rested
-    pub takes_so : AllowsOne (guarantee_of kinds.Container base.capacity code.size call.start) → Ends code kinds.Container call from e m w
-        → TakesThen (guarantee_of kinds.Container base.capacity code.size call.start) base w
-    takes_so least ends =
-        takes_then base.capacity (guarantee_of kinds.Container base.capacity code.size call.start) w
-        (subst (λ n. AllowsOne (guarantee_of kinds.Container n code.size call.start)
-        → TakesBy code kinds.Container n (guarantee_of kinds.Container n code.size call.start) from w) (capacity_from code base from settled)
-        (λ one. takes code kinds.Container call from w e m (idle_from code base from settled) (container_pays code from.capacity) one ends) least)
+  -- A call that has ended took at most what the model says of it, and one operation more if the last call of
+  -- the pass rested.
+  pub takes_so : {C M E : Type 0} (call : Calling T C M E) {w : View T} {e : E} {m : M}
+      → AllowsOne (guarantee_of kinds.Container base.capacity code.size call.start) → Ends code kinds.Container call from e m w
+      → TakesThen (guarantee_of kinds.Container base.capacity code.size call.start) base w
+  takes_so call {w} {e} {m} least ends =
+      takes_then base.capacity (guarantee_of kinds.Container base.capacity code.size call.start) w
+      (subst (λ n. AllowsOne (guarantee_of kinds.Container n code.size call.start)
+      → TakesBy code kinds.Container n (guarantee_of kinds.Container n code.size call.start) from w) (capacity_from settled)
+      (λ one. let took = takes code kinds.Container call from w e m (idle_from settled) in took (container_pays code from.capacity) one ends) least)
 
 module _ {T : Type 0} (code : Coding T) (base w : View T) where
   -- An add takes at most what the model says of it.
   pub add_takes : (given : Owned T) (answer : Added) → AddEnds code given base answer tt w
       → ContainerTakes (base.capacity + 7 + code.size) (base.capacity + 1) base w
-  add_takes given answer ends = takes_so code base ends.from ends.settled (adds_value code.size given) w answer tt (omega arith) ends.over
+  add_takes given answer ends = takes_so ends.settled (adds_value code.size given) (omega arith) ends.over
 
   -- how many operations a remove takes, by its mode
   pub remove_takes : (given : GiveBack) (answer : Removed) → RemoveEnds code given base answer tt w → RemoveTakes base.capacity given.mode base w
@@ -74,39 +73,39 @@ module _ {T : Type 0} (code : Coding T) (base w : View T) where
       by : (mode : ReleaseMode) → given.mode ≡ mode → of given.mode
       by Default is =
           subst of (sym is)
-          (takes_so code base ends.from ends.settled (removes_value (with_mode Default)) w answer tt (omega arith)
+          (takes_so ends.settled (removes_value (with_mode Default)) (omega arith)
           (subst (λ (z : GiveBack). Ends code kinds.Container (removes_value z) ends.from answer tt w) (ap with_mode is) ends.over))
       by LockIfLastIndex is =
           subst of (sym is)
-          (takes_so code base ends.from ends.settled (removes_value (with_mode LockIfLastIndex)) w answer tt (omega arith)
+          (takes_so ends.settled (removes_value (with_mode LockIfLastIndex)) (omega arith)
           (subst (λ (z : GiveBack). Ends code kinds.Container (removes_value z) ends.from answer tt w) (ap with_mode is) ends.over))
 
   -- A replace takes at most five operations and one for each word of the value.
   pub replace_takes : (given : Replacement T) (answer : Replaced) → ReplaceEnds code given base answer tt w → TakesFew (5 + code.size) base w
-  replace_takes given answer ends = takes_so code base ends.from ends.settled (replaces_value code.size given) w answer tt (omega arith) ends.over
+  replace_takes given answer ends = takes_so ends.settled (replaces_value code.size given) (omega arith) ends.over
 
   -- A count takes capacity + 2 operations alone, and as many more for each change of a word by others.
   pub count_takes : (which : CountOf) (n : ℕ) → CountEnds code which base n tt w
       → ContainerTakes (base.capacity + 2) (base.capacity + 2) base w
-  count_takes counts.Len n ends = takes_so code base ends.from ends.settled (counts_values counts.Len) w n tt (omega arith) ends.over
-  count_takes counts.IsEmpty n ends = takes_so code base ends.from ends.settled (counts_values counts.IsEmpty) w n tt (omega arith) ends.over
+  count_takes counts.Len n ends = takes_so ends.settled (counts_values counts.Len) (omega arith) ends.over
+  count_takes counts.IsEmpty n ends = takes_so ends.settled (counts_values counts.IsEmpty) (omega arith) ends.over
 
   -- A call of `is_locked` takes one operation.
   pub lock_takes : (b : Bool) → LockEnds code base b tt w → TakesFew 1 base w
-  lock_takes b ends = takes_so code base ends.from ends.settled sees_lock w b tt (omega arith) ends.over
+  lock_takes b ends = takes_so ends.settled sees_lock (omega arith) ends.over
 
   -- a recovery took at most what the model says of it
   pub recover_takes : (owner : ℕ) (mode : ReleaseMode) (state : ReleaseState) (m : Visiting T)
       → RecoverEnds code (record { owner = owner; mode = mode }) base state m w → RecoverTakes code.size base.capacity mode base w
   recover_takes owner Default state m ends =
-      takes_so code base ends.from ends.settled (recovering code (record { owner = owner; mode = Default })) w state m (omega arith) ends.over
+      takes_so ends.settled (recovering code (record { owner = owner; mode = Default })) (omega arith) ends.over
   recover_takes owner LockIfLastIndex state m ends =
-      takes_so code base ends.from ends.settled (recovering code (record { owner = owner; mode = LockIfLastIndex })) w state m (omega arith) ends.over
+      takes_so ends.settled (recovering code (record { owner = owner; mode = LockIfLastIndex })) (omega arith) ends.over
 
   -- a look of a state took at most what the model says of it
   pub look_takes : (which : LookOf) (seen : Numbers) (changed : Bool) (m : Showing T)
       → RestedLooked code which base.capacity seen base changed m w → LookTakes code.size base.capacity base w
   look_takes which_looks.GetState seen changed m ends =
-      takes_so code base ends.from ends.settled (looking code which_looks.GetState base.capacity seen) w changed m (omega arith) ends.over.0
+      takes_so ends.settled (looking code which_looks.GetState base.capacity seen) (omega arith) ends.over.0
   look_takes which_looks.UpdateState seen changed m ends =
-      takes_so code base ends.from ends.settled (looking code which_looks.UpdateState base.capacity seen) w changed m (omega arith) ends.over.0
+      takes_so ends.settled (looking code which_looks.UpdateState base.capacity seen) (omega arith) ends.over.0

@@ -133,10 +133,10 @@ module _ (mode : ReleaseMode) (base v : View ℕ) (idle : base.going ≡ None) w
       (knows_heard heard.asking heard.asking.stage heard.room (number_of heard.said) heard.asks (knows_under heard.asking heard.room heard.before)))
 
   -- A recovery that began where the lock had been seen has visited no index.
-  pub visits_none : (p : ℕ) (visits : List Visit) (wrote last : List (Event ℕ)) → Since p (Robust (Recover mode)) wrote last base v
+  pub visits_none : {p : ℕ} (visits : List Visit) {wrote last : List (Event ℕ)} → Since p (Robust (Recover mode)) wrote last base v
       → IsHistory one_word kinds.Robust base.capacity v.seen → wrote ≡ wrote_by p visits → shut ≡ true → visits ≡ []
-  visits_none p [] wrote last since h is lock = refl
-  visits_none p (z ∷ visits) wrote last since h is lock = absurd (true≢false (sym lock ∙ go z.came is))
+  visits_none [] since h is lock = refl
+  visits_none {p} (z ∷ visits) {wrote} {last} since h is lock = absurd (true≢false (sym lock ∙ go z.came is))
     where
       -- the cases are how far the recovery came at this visit
       go : (came : Came) → wrote ≡ wrote_to p z.index z.owner came ++ wrote_by p visits → shut ≡ false

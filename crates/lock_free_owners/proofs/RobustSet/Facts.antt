@@ -4,15 +4,14 @@ use Rattle.lock_free_owners.proofs.Names.{◌≡◌, ◌⊎◌, ⊎_elim, ℕ, �
 use Rattle.lock_free_owners.proofs.Names.{IfOk, IfErr, OnOk, List, [], ◌∷◌, ◌++◌, refl, sym, ap, ◌∙◌}
 use Rattle.lock_free_owners.proofs.Names.{append_assoc, arith, Acquired, Released, ReleaseMode, LockIfLastIndex}
 use Rattle.lock_free_owners.proofs.Names.{Default, ReleaseState, OutOfIndices, WasLocked, GiveBack, Answer, State}
-use Rattle.lock_free_owners.proofs.Names.{Number, Truth, Event, Begun, Filled, Granted, FreedOf, Finished, Robust}
+use Rattle.lock_free_owners.proofs.Names.{Event, Begun, Filled, Granted, FreedOf, Finished, Robust}
 use Rattle.lock_free_owners.proofs.Names.{Release, one_word, is_locked, count_most, View, IsHistory, Called}
 use Rattle.lock_free_owners.proofs.Names.{IsBeginning, Goes, takes_owned, gives_owned, recovers_owned, counts_owned}
 use Rattle.lock_free_owners.proofs.Names.{looks_owned, Visit, wrote_by, Calling, Ends, opened, Looks, called}
 use Rattle.steps.specs.declared.indices.enums.ReleaseState.TheVariants as states
 use Rattle.steps.specs.declared.indices.enums.UniqueIndexSetAcquireFailure.{UniqueIndexSetAcquireFailure}
 use Rattle.model.specs.declared.families.indices.robust.RobustStart.{RobustStart}
-use Rattle.model.specs.declared.families.indices.robust.RobustStart.TheVariants.{Acquire, Recover, BorrowedIndices}
-use Rattle.model.specs.declared.families.indices.robust.RobustStart.TheVariants.{IsLocked}
+use Rattle.model.specs.declared.families.indices.robust.RobustStart.TheVariants.{Acquire, Recover}
 use Rattle.model.specs.declared.turn.Kind.TheVariants as kinds
 use Rattle.model.specs.Families.Indices.Robust.Calls.{acquire_answer, release_answer}
 use Rattle.lock_free_owners.specs.Robust.Contracts.{HasTaken, HasGiven, HasRecovered, HasCounted, HasLooked, WroteAt}
@@ -47,7 +46,7 @@ module _ (base w : View ℕ) (h : IsHistory one_word kinds.Robust base.capacity 
   sound : IsSound base.capacity w.seen
   sound = sound_history base.capacity w.seen h
 
-  module _ (p : ℕ) (start : RobustStart) (answer : Answer ℕ) (wrote : List (Event ℕ)) (c : Called p (Robust start) answer wrote base w) where
+  module _ {p : ℕ} {start : RobustStart} {answer : Answer ℕ} {wrote : List (Event ℕ)} (c : Called p (Robust start) answer wrote base w) where
     -- The begin of the call.
     abbrev begin : Event ℕ
     begin = Begun p (Robust start)
@@ -57,9 +56,11 @@ module _ (base w : View ℕ) (h : IsHistory one_word kinds.Robust base.capacity 
     last = Finished p (Robust start) answer
 
     -- what was so when it wrote this event
-    pub wrote_at : (event : ℕ → Event ℕ) (first rest : List (Event ℕ)) → wrote ≡ first ++ event p ∷ rest → (Before : ℕ → List (Event ℕ) → Type 0)
-        → ((before after : List (Event ℕ)) → w.seen ≡ before ++ event p ∷ after → Before p before) → WroteAt event Before base w
-    wrote_at event first rest is Before held =
+    pub wrote_at : (event : ℕ → Event ℕ) (first rest : List (Event ℕ)) → wrote ≡ first ++ event p ∷ rest
+        → {Before : ℕ → List (Event ℕ) → Type 0}
+        → ((before after : List (Event ℕ)) → w.seen ≡ before ++ event p ∷ after → Before p before)
+        → WroteAt event Before base w
+    wrote_at event first rest is held =
         let part = find_own p c.during first rest (event p) (c.during_own ∙ is) in
         let others : List (Event ℕ) = base.seen ++ c.others in
         let whole : w.seen ≡ (others ++ begin ∷ part.0) ++ event p ∷ (part.1 ++ last ∷ []) =
@@ -127,23 +128,23 @@ module _ (base w : View ℕ) (m : Unit {0}) (idle : base.going ≡ None) where
     pub taken_answered : (answer : Acquired) → Ends one_word kinds.Robust (takes_owned owner) base answer m w
         → AnsweredBy (Acquire owner) (acquire_answer answer) base w
     taken_answered answer ends =
-        (let t = taken answer ends in answered_by base w ends.history t.by (Acquire owner) (acquire_answer answer) t.wrote t.called)
+        (let t = taken answer ends in answered_by base w ends.history t.called)
 
     -- an index that an acquire answers was filled for its owner by this call, where it had none
     pub filled : (answer : Acquired) → Ends one_word kinds.Robust (takes_owned owner) base answer m w → IfOk answer (λ index. WasFilled index owner base w)
     filled (Err e) ends = tt
     filled (Ok index) ends =
         let t = taken (Ok index) ends in
-        wrote_at base w ends.history t.by (Acquire owner) (acquire_answer (Ok index)) t.wrote t.called (λ by. Filled by index owner) []
-        (Granted t.by index owner ∷ []) t.tells.1 _
+        wrote_at base w ends.history t.called (λ by. Filled by index owner) []
+        (Granted t.by index owner ∷ []) t.tells.1
         (λ before after is. (let does_it = (sound base w ends.history).does before after (Filled t.by index owner) is in (does_it.0, does_it.1, does_it.3)))
 
     -- an index that an acquire answers was granted to its owner by this call
     granted_so : (index : ℕ) → Ends one_word kinds.Robust (takes_owned owner) base (Ok index) m w → WasGranted index owner base w
     granted_so index ends =
         let t = taken (Ok index) ends in
-        wrote_at base w ends.history t.by (Acquire owner) (acquire_answer (Ok index)) t.wrote t.called (λ by. Granted by index owner)
-        (Filled t.by index owner ∷ []) [] t.tells.1 _
+        wrote_at base w ends.history t.called (λ by. Granted by index owner)
+        (Filled t.by index owner ∷ []) [] t.tells.1
         (λ before after is. (
           ((sound base w ends.history).does before after (Granted t.by index owner) is).0,
           λ well_formed honest. (sound base w ends.history).holds well_formed honest before after (Granted t.by index owner) is,
@@ -197,7 +198,7 @@ module _ (base w : View ℕ) (m : Unit {0}) (idle : base.going ≡ None) where
     pub given_answered : (mode : ReleaseMode) (answer : Released) → Ends one_word kinds.Robust (gives_owned (given_of mode)) base answer m w
         → AnsweredBy (Release index owner mode) (release_answer answer) base w
     given_answered mode answer ends =
-        (let t = given mode answer ends in answered_by base w ends.history t.by (Release index owner mode) (release_answer answer) t.wrote t.called)
+        (let t = given mode answer ends in answered_by base w ends.history t.called)
 
     -- the answer of a release says what is right of a release
     pub given_right : (mode : ReleaseMode) (answer : Released) → Ends one_word kinds.Robust (gives_owned (given_of mode)) base answer m w
@@ -215,7 +216,7 @@ module _ (base w : View ℕ) (m : Unit {0}) (idle : base.going ≡ None) where
         → (given mode (Ok state) ends).wrote ≡ FreedOf (given mode (Ok state) ends).by index owner ∷ rest → WasFreed index owner base w
     freed_so mode state rest ends is =
         let t = given mode (Ok state) ends in
-        wrote_at base w ends.history t.by (Release index owner mode) (release_answer (Ok state)) t.wrote t.called (λ by. FreedOf by index owner) [] rest is _
+        wrote_at base w ends.history t.called (λ by. FreedOf by index owner) [] rest is
         (λ before after at. ((sound base w ends.history).does before after (FreedOf t.by index owner) at).0)
 
     -- a release that answers a state has freed its index
@@ -252,7 +253,7 @@ module _ (base w : View ℕ) (m : Unit {0}) (idle : base.going ≡ None) where
   module _ (n : ℕ) (ends : Ends one_word kinds.Robust counts_owned base n m w) where
     -- The count is right by what came before its end.
     pub counted_answered : IsRightCount n base w
-    counted_answered = (let t = counted n ends in answered_by base w ends.history t.by BorrowedIndices (Number n) t.wrote t.called)
+    counted_answered = (let t = counted n ends in answered_by base w ends.history t.called)
 
     -- The count is at most the capacity.
     pub counted_most : n ≤ base.capacity
@@ -268,7 +269,7 @@ module _ (base w : View ℕ) (m : Unit {0}) (idle : base.going ≡ None) where
 
   -- Its answer is right by what came before its end.
   pub looked_answered : (b : Bool) → Ends one_word kinds.Robust looks_owned base b m w → IsRightLook b base w
-  looked_answered b ends = (let t = looked b ends in answered_by base w ends.history t.by IsLocked (Truth b) t.wrote t.called)
+  looked_answered b ends = (let t = looked b ends in answered_by base w ends.history t.called)
 
   -- If it answers true the pass has seen the lock, and if it answers false it had not seen it before.
   pub looked_lock : (b : Bool) → Ends one_word kinds.Robust looks_owned base b m w → FoundLock b base w
@@ -277,7 +278,9 @@ module _ (base w : View ℕ) (m : Unit {0}) (idle : base.going ≡ None) where
 
 -- ---- recover
 
-module _ (base w : View ℕ) (idle : base.going ≡ None) (mode : ReleaseMode) (state : ReleaseState) (visits : List Visit)
+-- A recovery began in the view `base`, where the pass had no call under way, and has ended in w with this state and these
+-- visits.
+module _ {base w : View ℕ} (idle : base.going ≡ None) (mode : ReleaseMode) {state : ReleaseState} {visits : List Visit}
     (ends : Ends one_word kinds.Robust (recovers_owned mode) base state visits w) where
   -- In the history the recovery is one call, which wrote just the events of its visits.
   recover_called : Called ends.party (Robust (Recover mode)) (State state) (wrote_by ends.party visits) base w
@@ -285,9 +288,9 @@ module _ (base w : View ℕ) (idle : base.going ≡ None) (mode : ReleaseMode) (
 
   -- A recovery that has ended came to these visits, and wrote just what it did at them; its closures
   -- were called as the visits say.
-  pub recovered : {F S : Type 0} (step : F → ℕ → ℕ → Bool → F → Type 0) (tell : S → ℕ → ℕ → S → Type 0) (f q : F) (s y : S)
+  pub recovered : {F S : Type 0} (step : F → ℕ → ℕ → Bool → F → Type 0) (tell : S → ℕ → ℕ → S → Type 0) {f q : F} {s y : S}
       → HasVisited step tell f s visits q y → HasRecovered step tell mode state f s q y base w
-  recovered step tell f q s y visited =
+  recovered step tell visited =
       record {
         by = ends.party;
         mine = ends.mine;
@@ -295,18 +298,18 @@ module _ (base w : View ℕ) (idle : base.going ≡ None) (mode : ReleaseMode) (
         ascend = (ends.tells idle).0;
         called = recover_called;
         visited = visited;
-        nothing = visits_none mode base w idle ends.party visits ends.wrote _ ends.since ends.history (ends.tells idle).1;
+        nothing = visits_none mode base w idle visits ends.since ends.history (ends.tells idle).1;
       }
 
   -- A recovery answers right by what came before its end, in the words of the laws.
   recovered_by : AnsweredBy (Recover mode) (State state) base w
-  recovered_by = answered_by base w ends.history ends.party (Recover mode) (State state) (wrote_by ends.party visits) recover_called
+  recovered_by = answered_by base w ends.history recover_called
 
 -- The state that a recovery answers is right.
 pub recovered_answered : (base w : View ℕ) (idle : base.going ≡ None) (mode : ReleaseMode) (state : ReleaseState) (visits : List Visit)
     → Ends one_word kinds.Robust (recovers_owned mode) base state visits w → IsRightRecovery mode state base w
-recovered_answered base w idle mode states.Locked visits ends = recovered_by base w idle mode states.Locked visits ends
-recovered_answered base w idle mode states.Unlocked visits ends = recovered_by base w idle mode states.Unlocked visits ends
+recovered_answered base w idle mode states.Locked visits ends = recovered_by idle mode ends
+recovered_answered base w idle mode states.Unlocked visits ends = recovered_by idle mode ends
 
 -- a recovery that answers Locked has seen the lock, and one that answers Unlocked began before the
 -- lock was seen
@@ -365,7 +368,7 @@ module _ {C M E : Type 0} (call : Calling ℕ C M E) (base w : View ℕ) (e : E)
   -- A call that has ended took no more operations than the model says of it.
   takes_so : AllowsOne (guarantee_of kinds.Robust base.capacity one_word.size call.start) → Ends one_word kinds.Robust call base e m w
       → TakesBy one_word kinds.Robust base.capacity (guarantee_of kinds.Robust base.capacity one_word.size call.start) base w
-  takes_so least ends = takes one_word kinds.Robust call base w e m idle (robust_pays one_word base.capacity) least ends
+  takes_so least ends = (let took = takes one_word kinds.Robust call base w e m idle in took (robust_pays one_word base.capacity) least ends)
 
 module _ (base w : View ℕ) (idle : base.going ≡ None) where
   -- An acquire takes capacity + 3 operations alone, and capacity + 1 more for each change

@@ -17,7 +17,7 @@ use Rattle.history.proofs.Finds.{tells_owner, tells_other, owned_none, owned_lat
 use Rattle.history.proofs.Looking.{looks_then}
 use Rattle.lock_free_owners.specs.Robust.Callable.{HasFound}
 use Rattle.lock_free_owners.specs.Robust.Stages.{says}
-use Rattle.lock_free_owners.specs.Robust.Finding.{FindAsks, GoesDown, Searching, Onward}
+use Rattle.lock_free_owners.specs.Robust.Finding.{FindAsks, GoesDown, Searching, Onward, cells_loaded}
 use Rattle.lock_free_owners.specs.Robust.Finding as finding
 use Rattle.lock_free_owners.proofs.Rules.Robust.Finding.{ascend_push, below_push, below_more}
 
@@ -34,16 +34,29 @@ comes_down c cap left index found same_cap left_above = grind (arith, by_test, n
 module _ (c : Find) (cap : ℕ) (is : c.capacity ≡ cap) where
   -- The load of a cell leaves a find fewer steps than it had left when it came to that cell
   -- or to an earlier one.
-  pub load_down : (first so_many index found owner k : ℕ) → first ≤ index → index < cap
+  pub load_down : {first index : ℕ} (so_many found owner k : ℕ) → first ≤ index → index < cap
       → GoesDown cap (find_left cap (finds.LoadsCell first so_many)) (find_takes c (finds.LoadsCell index found) owner k)
-  load_down first so_many index found owner k first_up_to_index index_below_cap = grind (arith, by_eq, find_left, at_find, one_more, find_comes_to, comes_down)
+  load_down so_many found owner k first_up_to_index index_below_cap = grind (arith, by_eq, find_left, at_find, one_more, find_comes_to, comes_down)
 
   -- An answer of the closure leaves a find fewer steps than it had at its question.
   pub ask_down : (index found owner : ℕ) (answer : CallbackProgression) → index < cap
       → GoesDown cap (find_left cap (finds.Asks index found)) (find_takes c (finds.Asks index found) owner (says answer))
   ask_down index found owner answer index_below_cap = grind (arith, comes_down)
 
-module _ {F : Type 0} (step : F → ℕ → CallbackProgression → F → Type 0) (cap owner : ℕ) (base : View ℕ) (f : F) where
+-- A find of a robust set: its closure, the set and the owner, and the view in which it began.
+pub record FindCase (F : Type 0) : Type 1 where
+  -- how the closure answers when it is called with an index, and what becomes of it
+  pub step : F → ℕ → CallbackProgression → F → Type 0
+  -- how many indices the set has, and whose indices the find looks for
+  pub capacity : ℕ
+  pub owner : ℕ
+  -- the view in which the find began, and the closure as it was then
+  pub base : View ℕ
+  pub visit : F
+
+module _ {F : Type 0} (find : FindCase F) where
+  open find use {step, capacity as cap, owner, base, visit as f}
+
   -- `Came`, `Looked`, `SoFar`, `Search` and `On` are the relations of this find, which began in `base`
   -- with the closure f
   abbrev Came : ℕ → ℕ → List (Event ℕ) → F → Type 0
@@ -67,9 +80,8 @@ module _ {F : Type 0} (step : F → ℕ → CallbackProgression → F → Type 0
   came_none : Came 0 0 base.seen f
   came_none = grind (arith, owned_none)
 
-  -- the find has come past the indices below low with n calls of its closure, p after them, by the
-  -- history es
-  module _ (low n : ℕ) (es : List (Event ℕ)) (p : F) (h : Came low n es p) where
+  -- The find has come past the indices below low with n calls of its closure, p after them, by the history es.
+  module _ {low n : ℕ} {es : List (Event ℕ)} {p : F} (h : Came low n es p) where
     -- what a find has come past by one history, it has come past by each history that goes on from
     -- it
     came_later : (later : List (Event ℕ)) → IsBeginning es later → Came low n later p
@@ -137,14 +149,23 @@ module _ {F : Type 0} (step : F → ℕ → CallbackProgression → F → Type 0
   -- ---- a turn
 
   -- a find that is past the indices below `index` comes to its cell, or ends if there is none
-  comes : (w : View ℕ) (c : Find) (index found : ℕ) (q : F) → Looked w → w.capacity ≡ cap → 0 < w.share.part → c.capacity ≡ cap → index ≤ cap
+  comes : (c : Find) {w : View ℕ} {index found : ℕ} {q : F} → Looked w → w.capacity ≡ cap → 0 < w.share.part → c.capacity ≡ cap → index ≤ cap
       → TakesAtMost index base w → Came index found w.seen q → On (find_comes_to c index found) w q
-  comes w c index found q looked first_capacity_is_cap part_positive second_capacity_is_cap index_up_to_cap takes_at_most came =
+  comes c looked first_capacity_is_cap part_positive second_capacity_is_cap index_up_to_cap takes_at_most came =
       grind (arith, by_test, nat_lt, at_find, nat_tests, found_all)
 
-  module _ (small : cap < 2 ^ 32) (fits : owner < empty) (v w : View ℕ) (c : Find) (p : F) (h : Search v c p) where
-    module _ (index found k : ℕ) (at : SoFar (finds.LoadsCell index found) v p) (looks : LooksAt one_word kinds.Robust cap (cell_word index) v k w)
-        (few : TakesAtMost index base v) (counted : w.asked ≡ v.asked + 1) where
+  -- The find stands at c in the view v, and its closure has become p.
+  module _ {v : View ℕ} {c : Find} {p : F} (h : Search v c p) where
+    -- It stands at a cell, in which its load finds k, and w is what the pass knows then.
+    module _ (small : cap < 2 ^ 32) (fits : owner < empty) {index found : ℕ} (is : c.stage ≡ finds.LoadsCell index found) {k : ℕ} {w : View ℕ}
+        (looks : LooksAt one_word kinds.Robust cap (cell_word index) v k w) (counted : w.asked ≡ v.asked + 1) where
+      -- What is known of the find at this cell, and how many operations it has taken.
+      at : SoFar (finds.LoadsCell index found) v p
+      at = subst (λ stage. SoFar stage v p) is h.so_far
+
+      few : TakesAtMost index base v
+      few = subst (λ stage. TakesAtMost (cells_loaded stage) base v) is h.steps
+
       -- after the load of the cell the pass has looked at the set up to now
       looked_then : Looked w
       looked_then = go at.1
@@ -156,7 +177,7 @@ module _ {F : Type 0} (step : F → ℕ → CallbackProgression → F → Type 0
 
       -- The find has come to this index with what the pass knows now.
       came_there : Came index found w.seen p
-      came_there = came_later index found v.seen p at.2 w.seen looks.looks.mine
+      came_there = came_later at.2 w.seen looks.looks.mine
 
       -- It has taken one step for each cell.
       few_now : TakesAtMost (index + 1) base w
@@ -178,35 +199,42 @@ module _ {F : Type 0} (step : F → ℕ → CallbackProgression → F → Type 0
             steps = few_now;
             so_far = (at.0, looked_then, tells_owner one_word cap index k at.0 v w looks owner fits e, (found, omega arith, came_there));
           })
-          (λ ne. comes w c (index + 1) found p looked_then known some h.standing (omega arith) few_now
-          (came_past index found w.seen p came_there looked_then.mine (tells_other one_word cap index k at.0 v w looks owner ne)))
+          (λ ne. comes c looked_then known some h.standing (omega arith) few_now
+          (came_past came_there looked_then.mine (tells_other one_word cap index k at.0 v w looks owner ne)))
 
     -- with the closure's answer about an index the find comes past it, or ends with what it has
     -- found
-    pub heard : (index found : ℕ) (answer : CallbackProgression) (q : F) → SoFar (finds.Asks index found) v p → TakesAtMost (index + 1) base v
+    heard_at : (index found : ℕ) (answer : CallbackProgression) (q : F) → SoFar (finds.Asks index found) v p → TakesAtMost (index + 1) base v
         → step p index answer q → On (find_takes c (finds.Asks index found) owner (says answer)) v q
-    heard index found Continue q at few hit =
+    heard_at index found Continue q at few hit =
         let low = at.0 in
         let asked = at.3 in
-        comes v c (index + 1) found q at.1 h.known h.some h.standing (omega arith) few
-        (subst (λ n. Came (index + 1) n v.seen q) asked.1 (came_more index asked.0 v.seen p asked.2 at.1.mine q at.0 at.2 hit))
-    heard index found Stop q at few hit =
+        comes c at.1 h.known h.some h.standing (omega arith) few
+        (subst (λ n. Came (index + 1) n v.seen q) asked.1 (came_more asked.2 at.1.mine q at.0 at.2 hit))
+    heard_at index found Stop q at few hit =
         let low = at.0 in
         record {
           looked = at.1;
-          found = found_last index at.3.0 v.seen p at.3.2 at.1.mine found q at.0 at.3.1 at.2 hit;
+          found = found_last at.3.2 at.1.mine found q at.0 at.3.1 at.2 hit;
           steps = (let most = few in omega arith);
         }
 
+    -- At a stage that is a question the closure's answer brings the find past the index, or ends it.
+    pub heard : {index found : ℕ} → c.stage ≡ finds.Asks index found → (answer : CallbackProgression) (q : F) → step p index answer q
+        → On (find_takes c (finds.Asks index found) owner (says answer)) v q
+    heard {index} {found} is answer q hit =
+        heard_at index found answer q (subst (λ stage. SoFar stage v p) is h.so_far) (subst (λ stage. TakesAtMost (cells_loaded stage) base v) is h.steps) hit
+
   -- A find that is about to begin has called its closure with no index.
-  pub starts : (c : Find) → c ≡ first_find cap → base.capacity ≡ cap → 0 < base.share.part → 0 < cap → Search base c f
-  starts c c_is capacity_is_cap part_positive cap_positive = grind (arith, came_none)
+  pub starts : {c : Find} → c ≡ first_find cap → base.capacity ≡ cap → 0 < base.share.part → 0 < cap → Search base c f
+  starts c_is capacity_is_cap part_positive cap_positive = grind (arith, came_none)
 
   -- the closure may be called with the index that it has come to
-  pub may_go : {pre : F → ℕ → Type 0} (v : View ℕ) (c : Find) (p : F) → TakesPlaces pre (λ p x q. step p x Continue q) cap f → Search v c p
+  pub may_go : {pre : F → ℕ → Type 0} {v : View ℕ} {c : Find} {p : F} → TakesPlaces pre (λ p x q. step p x Continue q) cap f → Search v c p
       → FindAsks pre cap c.stage p
-  may_go {pre} v c p takes h = go c.stage h.so_far
+  may_go {pre} {v} {c} {p} takes h = go c.stage h.so_far
     where
       -- The cases are the find's stages. Only at a question is the closure called.
       go : (stage : FindStage) → SoFar stage v p → FindAsks pre cap stage p
-      go stage so_far = grind arith
+      go (finds.LoadsCell index found) so = so.0
+      go (finds.Asks index found) so = (let came = so.3.2 in (so.0, takes.at came.indices p index came.calls came.ascend came.below so.0))

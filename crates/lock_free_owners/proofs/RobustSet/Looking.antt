@@ -13,21 +13,22 @@ owes_word capacity words slots id word v below some = (
   below,
   λ s m long at small. (
       -- The load is a look at the whole history, and what it finds is the word in the machine of that moment.
-      let x = looks_at one_word kinds.Robust capacity slots id word v some (λ late h. h) s m long at small in (
-        x.0,
-        x.1,
-        x.2,
-        x.3,
+      let look = looks_at one_word kinds.Robust capacity slots id word v some (λ late h. h) in
+      let (after, act, valid, kept, (looks, same_slots), seen, counted) = look s m long at small in (
+        after,
+        act,
+        valid,
+        kept,
         (
           record {
-            looks = x.4.0;
+            looks = looks;
             trace = m.trace;
             run = m.run;
-            seen = x.5;
+            seen = seen;
             word_is = λ low. ap (λ ws. slice_index ws word) m.words ∙ get_left m.trace.world.words (0 ∷ []) word low;
           },
-          x.6,
-          x.4.1,
+          counted,
+          same_slots,
         ),
       )),
 )

@@ -18,12 +18,12 @@ use Rattle.lock_free_owners.specs.Robust.Turns.{Goes, StaysAtBoard}
 
 module _ {T C E : Type 0} (at : View T → View T → C → Unit {0} → Type 0) (ends : View T → E → Unit {0} → View T → Type 0) where
   -- Where a step has led to a next stage, the call is under way at it.
-  pub gone_on : (base v w : View T) (c d : C) (a : After C E) → Goes at ends v c a w → a ≡ GoOn d → at base v c tt → at base w d tt
-  gone_on base v w c d a goes a_is at_holds = grind arith
+  pub gone_on : {base v w : View T} {c d : C} {a : After C E} → Goes at ends v c a w → a ≡ GoOn d → at base v c tt → at base w d tt
+  gone_on goes a_is at_holds = grind arith
 
   -- Where a step has ended the call, it has ended with that answer.
-  pub has_ended : (base v w : View T) (c : C) (e : E) (a : After C E) → Goes at ends v c a w → a ≡ Done e → at base v c tt → ends base e tt w
-  has_ended base v w c e a goes a_is at_holds = grind arith
+  pub has_ended : {base v w : View T} {c : C} {e : E} {a : After C E} → Goes at ends v c a w → a ≡ Done e → at base v c tt → ends base e tt w
+  has_ended goes a_is at_holds = grind arith
 
 -- steps, and then further ones, leave a seat at its table
 pub stays_then : {Q : Type 0} {s t u : Seated (View ℕ) ℕ Q} → StaysAtBoard s t → StaysAtBoard t u → StaysAtBoard s u
@@ -42,8 +42,8 @@ module _ (capacity counter cell : ℕ) where
   FillsNext other index d = d.stage ≡ acquires.FillsCell other index → (d ≡ fills index) × (cell < index) × (index < capacity)
 
   -- An acquire that goes on to another cell stands at a later one.
-  pub fills_next : (k other index : ℕ) (d : Acquire) → acquire_after (fills cell) k ≡ GoOn d → FillsNext other index d
-  fills_next k other index d = grind (arith, by_test, empty, at_acquire, acquire_tries, nat_lt, nat_tests)
+  pub fills_next : (heard : ℕ) {other index : ℕ} {d : Acquire} → acquire_after (fills cell) heard ≡ GoOn d → FillsNext other index d
+  fills_next heard {other} {index} {d} = grind (arith, by_test, empty, at_acquire, acquire_tries, nat_lt, nat_tests)
 
 -- ---- ---- a load of a cell by a count goes on to the next cell, too
 
@@ -61,13 +61,14 @@ module _ (capacity counter cell filled : ℕ) where
   counted a = borrowed_counted (loads cell filled) a
 
   -- A count that comes to the next cell stands at the load of it.
-  comes_next : (seen other index found : ℕ) (d : BorrowedIndices) → counted (count_comes_to capacity counter (cell + 1) seen) ≡ GoOn d
+  comes_next : (seen : ℕ) {other index found : ℕ} {d : BorrowedIndices} → counted (count_comes_to capacity counter (cell + 1) seen) ≡ GoOn d
       → LoadsNext other index found d
-  comes_next seen other index found d = grind (arith, by_test, nat_lt, greatest, nat_tests)
+  comes_next seen {other} {index} {found} {d} = grind (arith, by_test, nat_lt, greatest, nat_tests)
 
   -- A count that goes on to another cell stands at a later one.
-  pub loads_next : (k other index found : ℕ) (d : BorrowedIndices) → borrowed_after (loads cell filled) k ≡ GoOn d → LoadsNext other index found d
-  loads_next k other index found d = comes_next (if k == empty then filled else one_more filled) other index found d
+  pub loads_next : (heard : ℕ) {other index found : ℕ} {d : BorrowedIndices} → borrowed_after (loads cell filled) heard ≡ GoOn d
+      → LoadsNext other index found d
+  loads_next heard = comes_next (if heard == empty then filled else one_more filled)
 
 -- ---- a recovery that has come to a cell
 

@@ -97,7 +97,8 @@ module _ {T : Type 0} (code : Coding T) (state : Option (ContainerState T)) wher
       omega arith
   -- a remove and a recovery may lock, so they may be late
   container_pays n new p cell (Remove run) stands is open_then =
-      let pays = remove_pays T run.call n new p cell run.given run.call.stage stands is open_then in
+      let remove = remove_pays T run.call n new p cell run.given in
+      let pays = remove run.call.stage stands is open_then in
       let same = remove_same T new run.given run.room (remove_after run.call run.given (remove_old run.call.stage n cell)) in
       let left = same.0 in
       let late = remove_late_in n run.given.mode run.call.stage stands in
@@ -115,7 +116,8 @@ module _ {T : Type 0} (code : Coding T) (state : Option (ContainerState T)) wher
       omega arith
   -- A recovery pays as it does by itself.
   container_pays n new p cell (Recover run) stands is open_then =
-      let pays = recover_pays run.call n new code.size p cell run.given (read_in code run.room) run.call.stage stands is open_then in
+      let recovery = recover_pays run.call n new code.size p cell run.given (read_in code run.room) in
+      let pays = recovery run.call.stage stands is open_then in
       let same =
       recover_same T new run.given (recover_kept kept_at run.call run.room (recover_old run.call.stage n cell))
       (recover_after code.size run.call run.given (recover_old run.call.stage n cell)) in

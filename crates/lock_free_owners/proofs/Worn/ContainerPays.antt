@@ -185,7 +185,8 @@ module _ (T : Type 0) (call : removing.Remove) (n new p cell : ℕ) (given : Giv
   remove_pays removes.Refuses stands is open_then = let still = counts_none (locks_in given.mode) n new is in omega arith
   remove_pays removes.LoadsCount stands is open_then = let still = counts_none (locks_in given.mode) n new is in omega arith
   remove_pays (removes.Releases count stage) stands is open_then =
-      let pays = release_pays (inner_release call.capacity stage) n new T p given cell stage stands is open_then in
+      let release = release_pays (inner_release call.capacity stage) n new T p given cell in
+      let pays = release stage stands is open_then in
       let same = released_same call given.mode new count (release_takes (inner_release call.capacity stage) stage given (release_old stage n cell)) in
       omega arith
   remove_pays (removes.Hides count state) stands is open_then = let still = counts_none (locks_in given.mode) n new is in omega arith

@@ -104,6 +104,8 @@ module _ {T : Type 0} (code : Coding T) where
   any_step p flight answer dead states =
       as_step flights.Container (λ kept. registries.Container kept.0 kept.1) (calls.step code p flight answer dead states)
 
+  -- The party p has a call at this stage, which is one that there is. Its next operation on these words leaves the counter
+  -- as the stage says.
   module _ (words : List ℕ) (p : ℕ) (ask : Option Ask) (dead : List ℕ) (states : List (ℕ × ContainerState T)) (flight : ContainerFlight T)
       (stands : ContainerStands flight) (leaves : counter_of (words_after words ask) ≡ container_then flight (counter_of words)) where
     -- the step of the call with this answer pays for what it adds

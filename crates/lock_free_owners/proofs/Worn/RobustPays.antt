@@ -315,7 +315,8 @@ module _ (T : Type 0) where
       let left = same.0 in
       omega arith
   robust_pays n new p cell (Release run) stands is open_then =
-      let pays = release_pays run.call n new T p run.given cell run.call.stage stands is open_then in
+      let release = release_pays run.call n new T p run.given cell in
+      let pays = release run.call.stage stands is open_then in
       let same = release_same new run.given run.room (release_takes run.call run.call.stage run.given (release_old run.call.stage n cell)) in
       let left = same.0 in
       let late = release_late_in n run.given.mode run.call.stage stands in
@@ -326,7 +327,8 @@ module _ (T : Type 0) where
       let left = same.0 in
       omega arith
   robust_pays n new p cell (Recover run) stands is open_then =
-      let pays = recover_pays run.call n new T p run.given cell run.call.stage stands is open_then in
+      let recovery = recover_pays run.call n new T p run.given cell in
+      let pays = recovery run.call.stage stands is open_then in
       let same = recover_same new run.given run.room (recover_takes run.call run.call.stage run.given (recover_old run.call.stage n cell)) in
       let left = same.0 in
       let late = recover_late_in n run.given run.call.stage stands in

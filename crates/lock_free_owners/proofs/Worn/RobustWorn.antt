@@ -75,6 +75,8 @@ module _ {T : Type 0} where
   set_step p flight answer dead = as_step flights.Robust registries.Owners (set.step p flight answer dead)
 
 module _ (T : Type 0) where
+  -- The party p has a call at this stage, which is one that there is. Its next operation on these words leaves the counter
+  -- as the stage says.
   module _ (words : List ℕ) (p : ℕ) (ask : Option Ask) (dead : List ℕ) (flight : RobustFlight) (stands : RobustStands flight)
       (leaves : counter_of (words_after words ask) ≡ robust_then flight (counter_of words)) where
     -- the step of the call with this answer pays for what it adds

@@ -281,6 +281,8 @@ module _ {T : Type 0} where
 
   -- ---- a run
 
+  -- `Sound` gives the facts by which each turn pays for what it adds to the counter, and each turn that is not refused
+  -- keeps it.
   module _ (Sound : Trace T → Type 0) (facts : (t : Trace T) → Sound t → Facts t)
       (on : (t : Trace T) (turn : Turn T) → open_refusal t.world turn ≡ None → Sound t → Sound (after_turn t turn)) where
     -- what each turn of an open run keeps: `Sound`, and the bound of the counter if no two calls that

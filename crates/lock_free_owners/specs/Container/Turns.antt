@@ -43,8 +43,8 @@ module _ {T Q : Type 0} (size : ℕ) where
     pub same : IsSame old new
     pub board : IsBoard size new
 
--- what holds of a call on a pass whose last call may rest: of `begins` at its first stage, counted from
--- the view in which that last call had ended
+-- a call on a pass whose last call may rest: `begins` holds of its first stage, and all is counted from the
+-- view in which that last call had ended
 module _ {T C E : Type 0} (code : Coding T) (begins : ℕ → C → Type 0)
     (call : Calling T C (Unit {0}) E) where
   -- the call is about to begin or under way

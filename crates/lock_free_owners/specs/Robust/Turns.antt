@@ -61,7 +61,7 @@ AcquireAt owner = At one_word kinds.Robust (takes_owned owner)
 abbrev pub AcquireEnds : ℕ → View ℕ → Acquired → Unit {0} → View ℕ → Type 0
 AcquireEnds owner = Ends one_word kinds.Robust (takes_owned owner)
 
--- the acquire is under way in this view, whatever the view with which it began
+-- the acquire is about to begin or under way in this view, whatever the view with which it began
 abbrev pub AcquireStands : ℕ → View ℕ → Acquire → Type 0
 AcquireStands owner = Stands (AcquireAt owner) (AcquireEnds owner)
 
@@ -79,7 +79,7 @@ CountAt = At one_word kinds.Robust counts_owned
 abbrev pub CountEnds : View ℕ → ℕ → Unit {0} → View ℕ → Type 0
 CountEnds = Ends one_word kinds.Robust counts_owned
 
--- the count is under way in this view, whatever the view with which it began
+-- the count is about to begin or under way in this view, whatever the view with which it began
 abbrev pub BorrowedStands : View ℕ → BorrowedIndices → Type 0
 BorrowedStands = Stands CountAt CountEnds
 

@@ -95,8 +95,7 @@ coded code law Overflow = is_coding
 coded code law Queue = law
 
 -- v is what the pass knew before it read the words, l says how they were read; kd is the kind of the queue
-module _ {T : Type 0} (code : Coding T) (law : IsCoding code) (kd : QueueKind) (capacity : ℕ) (v : View T)
-    (words : List ℕ)
+module _ {T : Type 0} {code : Coding T} (law : IsCoding code) (kd : QueueKind) {capacity : ℕ} {v : View T} {words : List ℕ}
     (l : LastWords code (machine_kind kd) (words_in_cells code.size kd capacity) capacity v words) where
   abbrev kind : Kind
   kind = machine_kind kd

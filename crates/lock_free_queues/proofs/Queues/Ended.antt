@@ -30,14 +30,13 @@ module _ {T : Type 0} where
     pub tells : (n p : ℕ) (from : Option (Start T × Flight T)) (e : Bool) (m : M) (es : List (Event T))
         → call.wrote_all n p from e m es → es ≡ pop_events p (option_map named (pop_answer (value m) e))
 
-module _ {T : Type 0} (code : Coding T) (kd : QueueKind) (base w : View T) where
+module _ {T : Type 0} {code : Coding T} {base w : View T} where
   -- a push that is left out finds the last position, by a load of the write position
-  pub was_at_end : {C M E : Type 0} (call : Calling T C M E)
+  pub was_at_end : {C M E : Type 0} (kd : QueueKind) {call : Calling T C M E} {e : E} {m : M} → LeftOut code (machine_kind kd) call base e m w
       → ((c : C) (m : M) (n : ℕ) (a : Ask) → call.skips c n ≡ true → want_of code (call.flight c m) ≡ wants.Ask a
       → (a.word ≡ 0) × (n ≡ 2 ^ 64 - 1))
-      → IsAlone kd Producer → base.other ≡ [] → 0 < base.share.part → HasRole Producer base.made → (e : E) (m : M)
-      → LeftOut code (machine_kind kd) call base e m w → WasAtEnd base w
-  was_at_end call at_end only alone some has e m left =
+      → IsAlone kd Producer → base.other ≡ [] → 0 < base.share.part → HasRole Producer base.made → WasAtEnd base w
+  was_at_end kd left at_end only alone some has =
       -- The push was left out at a load of the write position, which found 2^64 - 1.
       let queue = queue_goes_on code kd base left.trace left.run in
       let at = at_end left.from left.room left.word left.ask left.skipped left.asks in
@@ -46,45 +45,56 @@ module _ {T : Type 0} (code : Coding T) (kd : QueueKind) (base w : View T) where
         since = left.looked.mine;
         made = left.looked.made;
         end = ap (λ es. length (published es)) left.seen ∙ (sym queue.book.write ∙ word);
-        list = looked_alone code kd Producer only base w left.looked alone some has;
+        list = looked_alone code kd Producer only left.looked alone some has;
       }
 
-module _ {T : Type 0} (code : Coding T) (r : Ring) (base w : View T) (idle : base.going ≡ None) where
-  module _ {C : Type 0} (item : Item T) (call : Calling T C (Unit {0}) Bool) (is : IsPush code item call)
-      (alone : base.other ≡ []) (some : 0 < base.share.part) (has : HasRole Producer base.made) where
-    -- A push that has ended as a call of the history is one with the answer of its end.
-    pushed_so : (e : Bool) (m : Unit {0}) → Ends code (machine_kind (kind_of r)) call base e m w → HasPushed item e base w
-    pushed_so e m ends = grind (arith, called)
+  -- A push that has ended as a call of the history is one with the answer of its end.
+  pushed_so : {C : Type 0} (kd : QueueKind) {item : Item T} {call : Calling T C (Unit {0}) Bool} → base.going ≡ None → IsPush code item call
+      → {e : Bool} {m : Unit {0}} → Ends code (machine_kind kd) call base e m w → HasPushed item e base w
+  pushed_so kd idle is {e} {m} ends = grind (arith, called)
 
+-- The pass has the producer's role and knows one history alone, as it begins a push of the item in the view `base`.
+pub record Pushes {T C : Type 0} (code : Coding T) (r : Ring) (item : Item T) (call : Calling T C (Unit {0}) Bool) (base : View T) : Type 0 where
+  pub idle : base.going ≡ None
+  pub is : IsPush code item call
+  pub alone : base.other ≡ []
+  pub some : 0 < base.share.part
+  pub has : HasRole Producer base.made
+
+module _ {T C : Type 0} {code : Coding T} {r : Ring} {base w : View T} {item : Item T} {call : Calling T C (Unit {0}) Bool}
+    (push : Pushes code r item call base)
+  where
     -- A push that is left out has found the last position.
-    at_last : (e : Bool) (m : Unit {0}) → LeftOut code (machine_kind (kind_of r)) call base e m w → WasAtEnd base w
-    at_last e m left = was_at_end code (kind_of r) base w call is.at_end (role_alone r Producer) alone some has e m left
+    at_last : {e : Bool} {m : Unit {0}} → LeftOut code (machine_kind (kind_of r)) call base e m w → WasAtEnd base w
+    at_last left = was_at_end (kind_of r) left push.is.at_end (role_alone r Producer) push.alone push.some push.has
 
     -- A push that is over is a call of the history, or was left out at the last position and answers false.
-    pub pushed : (e : Bool) (m : Unit {0}) → Over code (machine_kind (kind_of r)) call base e m w → HasPushed item e base w ⊎ (e ≡ false) × WasAtEnd base w
-    pushed e m over = grind (arith, pushed_so, at_last)
+    pub pushed : {e : Bool} {m : Unit {0}} → Over code (machine_kind (kind_of r)) call base e m w → HasPushed item e base w ⊎ (e ≡ false) × WasAtEnd base w
+    pushed {e} {m} (inl ends) = inl (pushed_so (kind_of r) push.idle push.is ends)
+    pushed {e} {m} (inr left) = inr (push.is.left e left.left, at_last left)
 
     -- A push that answers true has published its item.
-    pub published_if : (e : Bool) (m : Unit {0}) → Over code (machine_kind (kind_of r)) call base e m w → e ≡ true → HasPublished item base w
-    published_if e m (inl ends) took =
-        has_published code r base.capacity base w ends.history item (subst (λ b. HasPushed item b base w) took (pushed_so e m ends))
-    published_if e m (inr left) took = (let never : false ≡ true = sym (is.left e left.left) ∙ took in absurd (cc))
+    pub published_if : {e : Bool} {m : Unit {0}} → Over code (machine_kind (kind_of r)) call base e m w → e ≡ true → HasPublished item base w
+    published_if {e} {m} (inl ends) took =
+        has_published code r base.capacity base w ends.history item
+        (subst (λ b. HasPushed item b base w) took (pushed_so (kind_of r) push.idle push.is ends))
+    published_if {e} {m} (inr left) took = (let never : false ≡ true = sym (push.is.left e left.left) ∙ took in absurd (cc))
 
     -- A push that answered false met a full queue, or was left out as the last position was reached.
-    pub full : (e : Bool) (m : Unit {0}) → Over code (machine_kind (kind_of r)) call base e m w → e ≡ false
+    pub full : {e : Bool} {m : Unit {0}} → Over code (machine_kind (kind_of r)) call base e m w → e ≡ false
         → WasFull base.capacity item base w ⊎ WasAtEnd base w
-    full e m (inl ends) refused =
-        inl (was_full code r base.capacity base w ends.history item (subst (λ b. HasPushed item b base w) refused (pushed_so e m ends)))
-    full e m (inr left) refused = inr (at_last e m left)
+    full {e} {m} (inl ends) refused =
+        inl (was_full code r base.capacity base w ends.history item
+        (subst (λ b. HasPushed item b base w) refused (pushed_so (kind_of r) push.idle push.is ends)))
+    full {e} {m} (inr left) refused = inr (at_last left)
 
 -- ---- pops
 
-module _ {T : Type 0} (code : Coding T) (kd : QueueKind) (base w : View T) (idle : base.going ≡ None) where
-  -- A pop that has ended is a call of the history with the value in its room, or with none.
-  pub has_popped : {C M V : Type 0} (named : V → Item T) (value : M → V) (call : Calling T C M Bool)
-      → IsPop named value call → (e : Bool) (m : M) → Ends code (machine_kind kd) call base e m w
-      → HasPopped (option_map named (pop_answer (value m) e)) base w
-  has_popped named value call pop e m ends = grind (arith, option_map, called)
+-- A pop that has ended is a call of the history with the value in its room, or with none.
+pub has_popped : {T C M V : Type 0} {code : Coding T} {base w : View T} {named : V → Item T} {value : M → V} {call : Calling T C M Bool} (kd : QueueKind)
+    → base.going ≡ None → IsPop named value call → {e : Bool} {m : M} → Ends code (machine_kind kd) call base e m w
+    → HasPopped (option_map named (pop_answer (value m) e)) base w
+has_popped kd idle pop {e} {m} ends = grind (arith, option_map, called)
 
 -- what its answer says of the list
 module _ {T V : Type 0} (code : Coding T) (r : Ring) (named : V → Item T) (capacity : ℕ) (base w : View T)

@@ -121,12 +121,12 @@ module _ {T : Type 0} where
   plain_end (Value v) p taken = (refl, refl)
 
 -- a push that published first, and then wrote what neither publishes nor moves a role
-pub published_by : {T : Type 0} (code : Coding T) (kd : QueueKind) (capacity : ℕ) (base w : View T) (item : Item T)
-    (p : ℕ) (answer : Answer T) (rest : List (Event T))
+pub published_by : {T : Type 0} (code : Coding T) (kd : QueueKind) (capacity : ℕ) {base w : View T} {item : Item T}
+    {p : ℕ} {answer : Answer T} {rest : List (Event T)}
     → IsSeen code kd capacity w.seen → IsAlone kd Producer
     → Called p (Queues (push_of item)) answer (Published p item ∷ rest) base w
     → ArePlain (queue_role Producer) p (rest ++ Finished p (Queues (push_of item)) answer ∷ []) → HasPublished item base w
-published_by code kd capacity base w item p answer rest is_seen alone call plain =
+published_by code kd capacity {base} {w} {item} {p} {answer} {rest} is_seen alone call plain =
     let wrote_first = first_wrote p (Queues (push_of item)) answer (Published p item) rest base w call in
     let all = by_its_holder code capacity w.seen kd Producer alone is_seen in
     let holds = all wrote_first.before wrote_first.after (Published p item) wrote_first.is in
@@ -197,8 +197,7 @@ module _ {T : Type 0} (code : Coding T) (r : Ring) (capacity : ℕ) (base w : Vi
     pub has_published : HasPushed item true base w → HasPublished item base w
     has_published pushing =
         (let party_there = pushing.by in
-        published_by code (kind_of r) capacity base w item party_there (Truth true)
-        (Acted party_there (Queues (push_of item)) (Truth true) ∷ []) h (role_alone r Producer) pushing.called
+        published_by code (kind_of r) capacity h (role_alone r Producer) pushing.called
         ((refl, refl), (plain_end item party_there true, tt)))
 
   -- ---- pops
@@ -247,10 +246,10 @@ module _ {T : Type 0} (code : Coding T) (r : Ring) (capacity : ℕ) (base w : Vi
 
 module _ {T : Type 0} (code : Coding T) (kd : QueueKind) where
   -- a look by who has a role: nobody else wrote what its holder writes
-  pub looked_alone : (role : Role) → IsAlone kd role → (base w : View T)
+  pub looked_alone : (role : Role) → IsAlone kd role → {base w : View T}
       → Looks code (machine_kind kd) base.capacity base w → base.other ≡ [] → 0 < base.share.part
       → HasRole role base.made → flat_map (marks role) w.seen ≡ flat_map (marks role) base.seen
-  looked_alone role only base w looks alone some has =
+  looked_alone role only {base} {w} looks alone some has =
       let q = looks.parties in
       let h = looks.history in
       let by_this_party =
@@ -348,23 +347,23 @@ module _ {T : Type 0} (code : Coding T) (kd : QueueKind) where
         no_mark Consumer p = refl
 
     -- a release that has ended leaves what the role's holder alone writes as it was
-    pub left_alone : (role : Role) → IsAlone kd role → (e m : Unit {0})
+    pub left_alone : (role : Role) → IsAlone kd role → {e m : Unit {0}}
         → Ends code (machine_kind kd) (gives_role role) base e m w
         → flat_map (marks role) w.seen ≡ flat_map (marks role) base.seen
-    left_alone role only e m ends = left_after role only ends.history (released role e m ends)
+    left_alone role only {e} {m} ends = left_after role only ends.history (released role e m ends)
 
 -- a producer's release; and a consumer's, where it says what was taken out
 module _ {T : Type 0} (code : Coding T) (base w : View T) (idle : base.going ≡ None) (e m : Unit {0}) where
   -- A consumer's release leaves what was taken out as it was, except of an overflowing queue, where
   -- pushes take out too.
   left_taken : (kd : QueueKind) → Ends code (machine_kind kd) (gives_role Consumer) base e m w → NoneTaken kd base w
-  left_taken IndexQueue ends = left_alone code IndexQueue base w idle Consumer tt e m ends
+  left_taken IndexQueue ends = left_alone code IndexQueue base w idle Consumer tt ends
   left_taken Overflow ends = tt
-  left_taken Queue ends = left_alone code Queue base w idle Consumer tt e m ends
+  left_taken Queue ends = left_alone code Queue base w idle Consumer tt ends
 
   -- A release of a role leaves what the holder of the role alone writes as it was.
   pub left_marked : (kd : QueueKind) (role : Role) → Ends code (machine_kind kd) (gives_role role) base e m w → NoneMarked role kd base w
-  left_marked kd Producer ends = left_alone code kd base w idle Producer (pushes_alone kd) e m ends
+  left_marked kd Producer ends = left_alone code kd base w idle Producer (pushes_alone kd) ends
   left_marked kd Consumer ends = left_taken kd ends
 
 -- ---- what each call leaves

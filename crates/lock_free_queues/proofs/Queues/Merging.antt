@@ -4,7 +4,7 @@ use Rattle.std.proofs.Common.{if◌then◌else◌, List, [], ◌∷◌, ◌++◌
 use Rattle.std.proofs.Common.{length-append, sum_by}
 use mathlib.Core.List.{map-append}
 use Rattle.lock_free_queues.proofs.Names.{sum_by-append, Event, HandedOut, Acted, events_by, View, IsBeginning, IsAll, Item}
-use Rattle.lock_free_queues.proofs.Names.{Index, Role, Queues, Pop, first_view, publishes, published, handed_out, MissesNothing}
+use Rattle.lock_free_queues.proofs.Names.{Index, Role, Queues, Pop, first_view, published, handed_out, MissesNothing}
 use Rattle.threaded.specs.declared.share.Share.{Share}
 use Rattle.threaded.specs.Shares.{all_shares, half_of, both_of}
 use Rattle.lock_free_queues.specs.Queues.Merges.{Merges, StandIn, by_pop, by_push, taken, HasPushedAll, HasPushedUpTo}
@@ -143,7 +143,7 @@ module _ (n : ℕ) (role : Role) (all back came new : List ℕ) (v left right a 
   -- What was published in the end are the numbers of the list.
   all_published : published u.seen ≡ map Index all
   all_published =
-      only_these publishes Index all (length all) (length back) left a u.seen (ap published fresh_left) pushed.added since
+      only_these pushed.added (ap published fresh_left) since
       (omega (arith, counted.0, puts_all, mine, pushed.added.done.puts_more))
 
   -- All that was published was handed out.

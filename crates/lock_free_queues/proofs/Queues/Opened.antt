@@ -126,12 +126,12 @@ module _ {T : Type 0} (code : Coding T) (law : IsCoding code) (r : Ring) (v : Va
       }
 
   -- a step of the call under way that does not end it leads party 0 to the words that it writes and the next flight
-  step : (words : List ℕ) (ts : List (Turn T)) (es : List (Event T)) (start : Start T) (flight next : Flight T) (a : Ask)
+  step : {words : List ℕ} {ts : List (Turn T)} {es : List (Event T)} {start : Start T} {flight : Flight T} (next : Flight T) (a : Ask)
       → Here words ts es (Some (start, flight)) → a.word < 4 + size * capacity → want_of code flight ≡ wants.Ask a
       → IsFreshCall (slice_index words a.word) flight → (words' : List ℕ)
       → slice_set words a.word (written a.op (slice_index words a.word)) ≡ words'
       → GoesOn code capacity flight next (slice_index words a.word) → Here words' (ts ++ Next 0 ∷ []) es (Some (start, next))
-  step words ts es start flight next a here low asks finds words' same goes =
+  step {words} {ts} {es} {start} {flight} next a here low asks finds words' same goes =
       alone.goes_on machine words ts es start flight here a low asks finds
       words' next same goes.comes goes.quiet
 
@@ -181,7 +181,7 @@ module _ {T : Type 0} (code : Coding T) (law : IsCoding code) (r : Ring) (v : Va
           let t = at_last k size (omega arith) in
           let same : suc k ≡ size = omega arith in
           subst (λ m. Here (now m) (us ++ Next 0 ∷ []) xs (Some (name, pushing r v capacity (pushes.StoresWrite n)))) same
-          (step (now k) us xs name (storing k) (pushing r v capacity (pushes.StoresWrite n))
+          (step (pushing r v capacity (pushes.StoresWrite n))
           (record { word = word_at cell k; op = Store (get_or ws k 0) }) here (word_low k (omega arith))
           (push_wants code capacity r v (pushes.StoresCell n cell k))
           (push_fresh code capacity r v (slice_index (now k) (word_at cell k)) (pushes.StoresCell n cell k) tt)
@@ -191,7 +191,7 @@ module _ {T : Type 0} (code : Coding T) (law : IsCoding code) (r : Ring) (v : Va
           let t = before_last k size (omega arith) in
           let same : k + 1 ≡ suc k = omega arith in
           fills (us ++ Next 0 ∷ []) xs rest (suc k) (omega arith) (subst (λ m. Here (now (suc k)) (us ++ Next 0 ∷ []) xs (Some (name, storing m))) same
-          (step (now k) us xs name (storing k) (storing (k + 1))
+          (step (storing (k + 1))
           (record { word = word_at cell k; op = Store (get_or ws k 0) }) here (word_low k (omega arith))
           (push_wants code capacity r v (pushes.StoresCell n cell k))
           (push_fresh code capacity r v (slice_index (now k) (word_at cell k)) (pushes.StoresCell n cell k) tt)
@@ -215,13 +215,12 @@ module _ {T : Type 0} (code : Coding T) (law : IsCoding code) (r : Ring) (v : Va
           (sums (now 0) ts es here)) in
           -- b, c: the turns that load both positions; d: those that store the words; e: the store of the write position
           let b =
-          step (now 0) ts1 xs name (pushing r v capacity pushes.LoadsWrite)
-          (pushing r v capacity (pushes.LoadsRead n)) (record { word = 0; op = Load }) begun_so (omega arith)
+          step (pushing r v capacity (pushes.LoadsRead n)) (record { word = 0; op = Load }) begun_so (omega arith)
           (push_wants code capacity r v pushes.LoadsWrite)
           (push_fresh code capacity r v n pushes.LoadsWrite below_end) (now 0) refl
           (push_loads_write code capacity r v n (not_last n below_end)) in
           let c =
-          step (now 0) ts2 xs name (pushing r v capacity (pushes.LoadsRead n)) (storing 0)
+          step (storing 0)
           (record { word = 1; op = Load }) b (omega arith)
           (push_wants code capacity r v (pushes.LoadsRead n))
           (push_fresh code capacity r v n (pushes.LoadsRead n) tt) (now 0) refl
@@ -301,8 +300,7 @@ module _ {T : Type 0} (code : Coding T) (law : IsCoding code) (r : Ring) (v : Va
           (subst (λ w. Here then (us ++ Next 0 ∷ []) xs
           (Some (Queues Pop, popping r capacity (pops.StoresRead n) (with_word r (room_at k) k w))))
           (found_is k below)
-          (step then us xs (Queues Pop) (loading k)
-          (popping r capacity (pops.StoresRead n) (with_word r (room_at k) k (slice_index then (word_at cell k))))
+          (step (popping r capacity (pops.StoresRead n) (with_word r (room_at k) k (slice_index then (word_at cell k))))
           (record { word = word_at cell k; op = Load }) here (then_low k below)
           (pop_wants code capacity r (pops.LoadsCell n cell k) (room_at k))
           (pop_fresh code capacity r (slice_index then (word_at cell k)) (pops.LoadsCell n cell k) (room_at k))
@@ -318,8 +316,7 @@ module _ {T : Type 0} (code : Coding T) (law : IsCoding code) (r : Ring) (v : Va
           (subst (λ w. Here then (us ++ Next 0 ∷ []) xs
           (Some (Queues Pop, popping r capacity (pops.LoadsCell n cell (k + 1)) (with_word r (room_at k) k w))))
           (found_is k below)
-          (step then us xs (Queues Pop) (loading k)
-          (popping r capacity (pops.LoadsCell n cell (k + 1))
+          (step (popping r capacity (pops.LoadsCell n cell (k + 1))
           (with_word r (room_at k) k (slice_index then (word_at cell k))))
           (record { word = word_at cell k; op = Load }) here (then_low k below)
           (pop_wants code capacity r (pops.LoadsCell n cell k) (room_at k))
@@ -343,13 +340,12 @@ module _ {T : Type 0} (code : Coding T) (law : IsCoding code) (r : Ring) (v : Va
           role here.u same_seat 0 here.between.run refl refl (sums then ts es here)) in
           -- b, c: the turns that load both positions; d: those that load the words; e: the store of the read position
           let b =
-          step then ts1 xs (Queues Pop) (popping r capacity pops.LoadsRead (room_at 0))
-          (popping r capacity (pops.LoadsWrite n) (room_at 0)) (record { word = 1; op = Load }) begun_so
+          step (popping r capacity (pops.LoadsWrite n) (room_at 0)) (record { word = 1; op = Load }) begun_so
           (omega arith) (pop_wants code capacity r pops.LoadsRead (room_at 0))
           (pop_fresh code capacity r n pops.LoadsRead (room_at 0)) then refl
           (pop_loads_read code capacity r n (room_at 0)) in
           let c =
-          step then ts2 xs (Queues Pop) (popping r capacity (pops.LoadsWrite n) (room_at 0)) (loading 0)
+          step (loading 0)
           (record { word = 0; op = Load }) b (omega arith)
           (pop_wants code capacity r (pops.LoadsWrite n) (room_at 0))
           (pop_fresh code capacity r (n + 1) (pops.LoadsWrite n) (room_at 0)) then refl

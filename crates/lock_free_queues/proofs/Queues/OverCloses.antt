@@ -25,7 +25,7 @@ use Rattle.lock_free_queues.proofs.Queues.Reads.{read_here}
 
 -- v is what the pass knew before it read the words, l says how they were read; the pass does not
 -- have the producer's role
-module _ (capacity : ℕ) (v : View ℕ) (words : List ℕ)
+module _ {capacity : ℕ} {v : View ℕ} {words : List ℕ}
     (l : LastWords one_word kinds.Overflow (capacity + 1) capacity v words) (lacks : LacksRole Producer v.made) where
   -- the read position that leaves at most the capacity
   abbrev first : ℕ
@@ -57,7 +57,7 @@ module _ (capacity : ℕ) (v : View ℕ) (words : List ℕ)
 
   -- The moved read position is at most the write position.
   to : slice_index later 1 ≤ slice_index words 0
-  to = omega (arith, first_is, closing.number one_word is_coding Overflow capacity v words l)
+  to = omega (arith, first_is, closing.number is_coding Overflow l)
 
   -- The write position stays.
   end : slice_index later 0 ≡ slice_index words 0
@@ -76,7 +76,7 @@ module _ (capacity : ℕ) (v : View ℕ) (words : List ℕ)
 
   -- The events at the moment when the read position was read.
   abbrev moment : List (Event ℕ)
-  moment = closing.moment one_word is_coding Overflow capacity v words l
+  moment = closing.moment is_coding Overflow l
 
   -- who has the whole share, and not the producer's role, knows that no push is under way
   exact : IsAll v.share → slice_index later 1 ≡ slice_index words 1
@@ -84,7 +84,7 @@ module _ (capacity : ℕ) (v : View ℕ) (words : List ℕ)
       let t = l.taken_read.trace in
       let same : t.events ≡ v.seen =
       read_here one_word Overflow capacity l.new 1 (slice_index words 1) l.taken_read
-      ∙ closing.whole_seen one_word is_coding Overflow capacity v words l all in
+      ∙ closing.whole_seen is_coding Overflow l all in
       let made : (f : Event ℕ → ℕ) → sum_by f t.events ≡ sum_by f v.made = λ f. ap (sum_by f) same ∙ seen_made all f in
       let history_now : IsHistory one_word kinds.Overflow capacity t.events = record { trace = t; run = l.taken_read.run; is = refl } in
       let few : length (waiting t.events) ≤ capacity =
@@ -92,38 +92,38 @@ module _ (capacity : ℕ) (v : View ℕ) (words : List ℕ)
       (is_free Producer t.events (grants one_word Overflow capacity t.events history_now) (made (takes Producer) ∙ (lacks ∙ sym (made (gives Producer))))) in
       let here : length (waiting t.events) ≡ length (waiting moment) =
       ap (λ es. length (waiting es)) (read_here one_word Overflow capacity l.new 1 (slice_index words 1) l.taken_read) in
-      omega (arith, closing.number one_word is_coding Overflow capacity v words l, first_is)
+      omega (arith, closing.number is_coding Overflow l, first_is)
     where
       -- A pass with the whole share made all that it has seen, so sums over both are equal.
       seen_made : IsAll v.share → (f : Event ℕ → ℕ) → sum_by f v.seen ≡ sum_by f v.made
       seen_made all f =
-          let here : l.new.seen ≡ v.seen = closing.whole_seen one_word is_coding Overflow capacity v words l all in
+          let here : l.new.seen ≡ v.seen = closing.whole_seen is_coding Overflow l all in
           let share : IsAll l.new.share = subst IsAll (sym (l.reading.share ∙ l.opening.share)) all in
           ap (sum_by f) (sym here) ∙ (l.reading.all share f ∙ ap (sum_by f) (l.reading.made ∙ l.opening.made))
 
   -- The list from the moved read position on says what a close promises of it.
   pub over_closes : Closes Index capacity v (list_in capacity later)
-  over_closes = closing.closes_later one_word is_coding Overflow capacity v words l later above end from to exact
+  over_closes = closing.closes_later is_coding Overflow l later above end from to exact
 
   -- the list has the newest of what waited as the pass stood, at most the capacity of them
   pub newest : {E : Type 0} {k : queues.Ghosts E} {ws : Ghosts ℕ} (pass at : Pass E ℕ k ws) → view pass ≡ v → queue_of at ≡ queue_of pass
       → view at ≡ l.new → IsNewestThatWaits capacity pass (list_in capacity later)
   newest pass at is queue there =
-      let are = closing.older_are one_word is_coding Overflow capacity v words l later above end from to in
-      let out = closing.taken_is one_word is_coding Overflow capacity v words l in
-      let number = closing.number one_word is_coding Overflow capacity v words l in
+      let are = closing.older_are is_coding Overflow l later above end from to in
+      let out = closing.taken_is is_coding Overflow l in
+      let number = closing.number is_coding Overflow l in
       let one = first_is in
       let low = from in
-      let since = closing.since one_word is_coding Overflow capacity v words l in
+      let since = closing.since is_coding Overflow l in
       let taken_out : length (handed_out (view at).seen) ≡ length (handed_out moment) = ap (λ (x : View ℕ). length (handed_out x.seen)) there in
       let left : length (waiting (view at).seen) ≡ length (waiting moment) = ap (λ (x : View ℕ). length (waiting x.seen)) there in
       record {
         at = at;
         queue = queue;
         since = subst (λ (x : View ℕ). IsBeginning x.seen (view at).seen) (sym is) (subst (λ (x : View ℕ). IsBeginning v.seen x.seen) (sym there) since);
-        older = closing.older one_word is_coding Overflow capacity v words l later above end from to;
+        older = closing.older is_coding Overflow l later above end from to;
         taken = omega arith;
-        waits = ap (λ (x : View ℕ). waiting x.seen) there ∙ closing.waiting_is one_word is_coding Overflow capacity v words l later above end from to;
+        waits = ap (λ (x : View ℕ). waiting x.seen) there ∙ closing.waiting_is is_coding Overflow l later above end from to;
         few = omega arith;
       }
 

@@ -3,7 +3,7 @@ use Rattle.std.proofs.Common.{arith}
 use Rattle.lock_free_queues.proofs.Names.{◌≡◌, ◌⊎◌, inl, inr, ℕ, Bool, true, false, Option, Some, None, IfSome}
 use Rattle.lock_free_queues.proofs.Names.{IfNone, List, [], ◌∷◌, ◌++◌, refl, sym, ap, subst, ◌∙◌, append_assoc, ◌-◌, ◌^◌, ◌<◌, nat_tests, Ask}
 use Rattle.lock_free_queues.proofs.Names.{option_map, OneWord, PushEnd, Producer, push_answer}
-use Rattle.lock_free_queues.proofs.Names.{PoppedNone, PoppedIndex, Event, Published, HandedOut, Acted, Finished, Item}
+use Rattle.lock_free_queues.proofs.Names.{PoppedIndex, Event, Published, HandedOut, Acted, Finished, Item}
 use Rattle.lock_free_queues.proofs.Names.{Index, Queues, Overflow, PushIndex, Pop, Coding, popped, waiting, View}
 use Rattle.lock_free_queues.proofs.Names.{IsHistory, over_push_skips, over_push_wrote, pushes_over, pops_over, pop_wrote, HasRole, Ends}
 use Rattle.lock_free_queues.proofs.Names.{Over, called, over_lists_kept}
@@ -36,15 +36,9 @@ module _ {T : Type 0} (code : Coding T) (base w : View T) (h : IsHistory code ki
   -- a push into an overflowing queue published its number right after all that was published
   -- before, whatever it handed back
   pub over_published : (value : ℕ) (back : Option ℕ) → HasOverflowed value back base w → HasPublished (Index value) base w
-  over_published value None push =
-      (let party_there = push.by in
-      published_by code Overflow base.capacity base w (Index value) party_there PoppedNone
-      (Acted party_there (Queues (PushIndex value)) PoppedNone ∷ []) h tt push.called ((refl, refl), ((refl, refl), tt)))
+  over_published value None push = published_by code Overflow base.capacity h tt push.called ((refl, refl), ((refl, refl), tt))
   over_published value (Some oldest) push =
-      (let party_there = push.by in
-      published_by code Overflow base.capacity base w (Index value) party_there (PoppedIndex oldest)
-      (HandedOut party_there (Index oldest) ∷ Acted party_there (Queues (PushIndex value)) (PoppedIndex oldest) ∷ []) h tt push.called
-      ((refl, refl), ((refl, refl), ((refl, refl), tt))))
+      published_by code Overflow base.capacity h tt push.called ((refl, refl), ((refl, refl), ((refl, refl), tt)))
 
   -- a push that handed back a number has taken it out as the oldest that waited
   pub over_took : (value oldest : ℕ) → HasOverflowed value (Some oldest) base w → HasTakenFirst (Index oldest) base w
@@ -127,13 +121,12 @@ module _ {T : Type 0} (code : Coding T) (base w : View T) (idle : base.going ≡
 
     -- a push that is over is a call of the history with what it handed back, or handed back its
     -- own number and was a look at a queue whose last position is reached
-    pub over_pushed : (e : PushEnd) (m : OneWord) → Over code kinds.Overflow (pushes_over value) base e m w → Pushed (push_answer value m.0 e)
-    over_pushed e m (inl ends) = inl (overflowed e m ends)
-    over_pushed e m (inr left) =
+    pub over_pushed : {e : PushEnd} {m : OneWord} → Over code kinds.Overflow (pushes_over value) base e m w → Pushed (push_answer value m.0 e)
+    over_pushed {e} {m} (inl ends) = inl (overflowed e m ends)
+    over_pushed {e} {m} (inr left) =
         inr (
           ap (push_answer value m.0) left.left,
-          was_at_end code Overflow base w (pushes_over value)
-              (λ c m n a skip asks. over_ends_at c.capacity value n a c.stage skip asks) tt alone some has e m left,
+          was_at_end Overflow left (λ c m n a skip asks. over_ends_at c.capacity value n a c.stage skip asks) tt alone some has,
         )
 
   -- What a push of `value` has done, by what it handed back: none, or an index.
@@ -185,7 +178,7 @@ module _ {T : Type 0} (code : Coding T) (base w : View T) (idle : base.going ≡
   pub over_popped : (e : Bool) (m : OneWord) → Ends code kinds.Overflow pops_over base e m w → HasPopped (option_map Index (pop_answer m.0 e)) base w
   over_popped e m ends =
       subst (λ o. HasPopped (option_map Index o) base w) (same m.0 e)
-      (has_popped code Overflow base w idle named in_room pops_over over_pop e m ends)
+      (has_popped Overflow idle over_pop ends)
     where
       -- Both ways to read the answer of a pop agree.
       same : (x : ℕ) (e : Bool) → rings.pop_answer x e ≡ pop_answer x e

@@ -178,17 +178,20 @@ module _ {T : Type 0} (code : Coding T) (law : IsCoding code) (capacity : ℕ) (
 
   -- ---- a step that goes on, and tells nothing
 
+  -- a call at this stage goes on at the next one where its step finds this word, and writes nothing by it
+  record GoesOn (flight next : Flight T) (found : ℕ) : Type 0 where
+    comes : after_of code flight found ≡ GoOn next
+    quiet : (w : World T) → over_effects w 0 flight found ≡ []
+
   -- a step of party 0 that goes on and writes no event leads from one such moment to the next (`Here`)
-  step : (words : List ℕ) (ts : List (Turn T)) (es : List (Event T)) (start : Start T) (flight next : Flight T) (a : Ask)
+  step : {words : List ℕ} {ts : List (Turn T)} {es : List (Event T)} {start : Start T} {flight : Flight T} (next : Flight T) (a : Ask)
       → Here words ts es (Some (start, flight)) → a.word < size → want_of code flight ≡ wants.Ask a
       → IsFreshCall (slice_index words a.word) flight → (words' : List ℕ)
       → slice_set words a.word (written a.op (slice_index words a.word)) ≡ words'
-      → after_of code flight (slice_index words a.word) ≡ GoOn next
-      → ((w : World T) → over_effects w 0 flight (slice_index words a.word) ≡ [])
-      → Here words' (ts ++ Next 0 ∷ []) es (Some (start, next))
-  step words ts es start flight next a here low asks finds words' same comes quiet =
+      → GoesOn flight next (slice_index words a.word) → Here words' (ts ++ Next 0 ∷ []) es (Some (start, next))
+  step {words} {ts} {es} {start} {flight} next a here low asks finds words' same goes =
       alone.goes_on machine words ts es start flight here
-      a low asks finds words' next same comes (quiet here.u.world)
+      a low asks finds words' next same goes.comes (goes.quiet here.u.world)
 
   -- Of one round of a push and a pop: n is the position of both, ts are the turns before it, and es the
   -- events before it.
@@ -250,17 +253,14 @@ module _ {T : Type 0} (code : Coding T) (law : IsCoding code) (capacity : ℕ) (
         -- b, c and d: the turns that load both positions and store the number; e: the one that stores
         -- the write position
         let b =
-        step (at n n 0 0) ts1 xs push_name (pushing capacity pushes.LoadsWrite)
-        (pushing capacity (pushes.LoadsRead n)) (record { word = 0; op = Load }) stands_here (omega arith) refl
-        below_end (at n n 0 0) refl (push_loads_write code capacity n last) (λ w. refl) in
+        step (pushing capacity (pushes.LoadsRead n)) (record { word = 0; op = Load }) stands_here (omega arith) refl
+        below_end (at n n 0 0) refl (record { comes = push_loads_write code capacity n last; quiet = λ w. refl }) in
         let c =
-        step (at n n 0 0) ts2 xs push_name (pushing capacity (pushes.LoadsRead n))
-        (pushing capacity (pushes.StoresCell n n)) (record { word = 1; op = Load }) b (omega arith) refl
-        tt (at n n 0 0) refl refl (λ w. refl) in
+        step (pushing capacity (pushes.StoresCell n n)) (record { word = 1; op = Load }) b (omega arith) refl
+        tt (at n n 0 0) refl (record { comes = refl; quiet = λ w. refl }) in
         let d =
-        step (at n n 0 0) ts3 xs push_name (pushing capacity (pushes.StoresCell n n))
-        (pushing capacity (pushes.StoresWrite n n)) (record { word = cell; op = Store 0 }) c cell_low
-        refl tt (at n n 0 0) (zero_stays n n) refl (λ w. refl) in
+        step (pushing capacity (pushes.StoresWrite n n)) (record { word = cell; op = Store 0 }) c cell_low
+        refl tt (at n n 0 0) (zero_stays n n) (record { comes = refl; quiet = λ w. refl }) in
         let e =
         alone.ends machine (at n n 0 0) ts4 xs
         push_name (pushing capacity (pushes.StoresWrite n n)) d
@@ -331,21 +331,18 @@ module _ {T : Type 0} (code : Coding T) (law : IsCoding code) (capacity : ℕ) (
         -- b, c and d: the turns that load both positions and the number; e: the exchange that
         -- moves the read position
         let b =
-        step then ts1 xs pop_name (popping capacity pops.LoadsRead)
-        (popping capacity (pops.LoadsWrite n)) (record { word = 1; op = Load }) stands_here (omega arith) refl tt
-        then refl refl (λ w. refl) in
+        step (popping capacity (pops.LoadsWrite n)) (record { word = 1; op = Load }) stands_here (omega arith) refl tt
+        then refl (record { comes = refl; quiet = λ w. refl }) in
         let c =
-        step then ts2 xs pop_name (popping capacity (pops.LoadsWrite n))
-        (popping capacity (pops.LoadsCell n)) (record { word = 0; op = Load }) b (omega arith) refl tt
-        then refl (pop_loads_write code capacity n (n + 1) apart) (pop_quiet code capacity n (n + 1) apart) in
+        step (popping capacity (pops.LoadsCell n)) (record { word = 0; op = Load }) b (omega arith) refl tt
+        then refl (record { comes = pop_loads_write code capacity n (n + 1) apart; quiet = pop_quiet code capacity n (n + 1) apart }) in
         -- The load of the cell finds 0, the number that was pushed.
         let d₀ =
-        step then ts3 xs pop_name (popping capacity (pops.LoadsCell n))
-        (flights.Queues (flying.Overflow (overflows.Pop (record {
+        step (flights.Queues (flying.Overflow (overflows.Pop (record {
           call = at_pop (first_pop capacity) (pops.MovesRead n);
           given = tt;
           room = record { 0 = slice_index then cell };
-        })))) (record { word = cell; op = Load }) c cell_low refl tt then (set_same then cell) refl (λ w. refl) in
+        })))) (record { word = cell; op = Load }) c cell_low refl tt then (set_same then cell) (record { comes = refl; quiet = λ w. refl }) in
         let d : Here then ts4 xs (Some (pop_name, popping capacity (pops.MovesRead n))) =
         subst (λ u. Here then ts4 xs (Some (
           pop_name,

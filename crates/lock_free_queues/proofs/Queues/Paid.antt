@@ -1,7 +1,7 @@
 -- How many atomic steps the calls on a queue take, from the bounds of the model.
-use Rattle.lock_free_queues.proofs.Names.{◌≡◌, inl, inr, ℕ, ◌+◌, Bool, None, List, arith, Role, Producer, Consumer}
+use Rattle.lock_free_queues.proofs.Names.{◌≡◌, ◌≤◌, inl, inr, ℕ, ◌+◌, Bool, None, List, arith, Role, Producer, Consumer}
 use Rattle.lock_free_queues.proofs.Names.{OneWord, PushEnd, QueueKind, IndexQueue, Overflow, Queue, LengthOf}
-use Rattle.lock_free_queues.proofs.Names.{Coding, machine_kind, View, Calling, Ends, Over, takes_role, gives_role}
+use Rattle.lock_free_queues.proofs.Names.{Coding, machine_kind, View, Calling, Ends, LeftOut, Over, Kind, takes_role, gives_role}
 use Rattle.lock_free_queues.proofs.Names.{looks_role, counts_waiting, pushes_index, pops_index, peeks_index}
 use Rattle.lock_free_queues.proofs.Names.{pushes_value, pops_value, peeks_value, pops_over}
 use Rattle.model.specs.declared.families.queues.calls.LengthOf.TheVariants as measures
@@ -12,42 +12,47 @@ use Rattle.history.proofs.Paid.{AllowsOne, TakesBy, takes, left_takes}
 use Rattle.history.proofs.Queues.{queue_pays}
 use Rattle.history.specs.Overflow.{pushes_over}
 
-module _ {T : Type 0} (code : Coding T) (kd : QueueKind) (base w : View T) (idle : base.going ≡ None) where
-  -- the call takes as many steps as the model says of it
-  takes_here : {C M E : Type 0} (call : Calling T C M E) (e : E) (m : M)
-      → AllowsOne (guarantee_of (machine_kind kd) base.capacity code.size call.start) → Ends code (machine_kind kd) call base e m w
-      → TakesBy code (machine_kind kd) base.capacity (guarantee_of (machine_kind kd) base.capacity code.size call.start) base w
-  takes_here call e m least ends = takes code (machine_kind kd) call base w e m idle (queue_pays code kd base) least ends
-
+-- a call had not begun in the view `base`, and has ended in the view `w`
 module _ {T : Type 0} (code : Coding T) (base w : View T) (idle : base.going ≡ None) where
+  -- the call takes as many steps as the model says of it
+  takes_here : {C M E : Type 0} (kd : QueueKind) {call : Calling T C M E} {e : E} {m : M} → Ends code (machine_kind kd) call base e m w
+      → AllowsOne (guarantee_of (machine_kind kd) base.capacity code.size call.start)
+      → TakesBy code (machine_kind kd) base.capacity (guarantee_of (machine_kind kd) base.capacity code.size call.start) base w
+  takes_here kd {call} {e} {m} ends least = takes code (machine_kind kd) call base w e m idle (queue_pays code kd base) least ends
+
+  -- a call that its history leaves out took one operation
+  left_here : {C M E : Type 0} {kind : Kind} {call : Calling T C M E} {e : E} {m : M} → LeftOut code kind call base e m w → (most : ℕ) → 1 ≤ most
+      → TakesAtMost most base w
+  left_here {C} {M} {E} {kind} {call} {e} {m} left most least = left_takes code kind call base w e m most least left
+
   -- ---- roles and lengths
 
   -- a call that takes a role takes one operation on a word at most
   pub acquire_takes : (kd : QueueKind) (role : Role) (e : Bool) (m : Unit {0}) → Ends code (machine_kind kd) (takes_role role) base e m w → TakesAtMost 1 base w
-  acquire_takes IndexQueue Producer e m ends = takes_here code IndexQueue base w idle (takes_role Producer) e m (omega arith) ends
-  acquire_takes IndexQueue Consumer e m ends = takes_here code IndexQueue base w idle (takes_role Consumer) e m (omega arith) ends
-  acquire_takes Overflow Producer e m ends = takes_here code Overflow base w idle (takes_role Producer) e m (omega arith) ends
-  acquire_takes Overflow Consumer e m ends = takes_here code Overflow base w idle (takes_role Consumer) e m (omega arith) ends
-  acquire_takes Queue Producer e m ends = takes_here code Queue base w idle (takes_role Producer) e m (omega arith) ends
-  acquire_takes Queue Consumer e m ends = takes_here code Queue base w idle (takes_role Consumer) e m (omega arith) ends
+  acquire_takes IndexQueue Producer e m ends = takes_here IndexQueue ends (omega arith)
+  acquire_takes IndexQueue Consumer e m ends = takes_here IndexQueue ends (omega arith)
+  acquire_takes Overflow Producer e m ends = takes_here Overflow ends (omega arith)
+  acquire_takes Overflow Consumer e m ends = takes_here Overflow ends (omega arith)
+  acquire_takes Queue Producer e m ends = takes_here Queue ends (omega arith)
+  acquire_takes Queue Consumer e m ends = takes_here Queue ends (omega arith)
 
   -- a call that gives a role back takes one operation on a word at most
   pub release_takes : (kd : QueueKind) (role : Role) (e m : Unit {0}) → Ends code (machine_kind kd) (gives_role role) base e m w → TakesAtMost 1 base w
-  release_takes IndexQueue Producer e m ends = takes_here code IndexQueue base w idle (gives_role Producer) e m (omega arith) ends
-  release_takes IndexQueue Consumer e m ends = takes_here code IndexQueue base w idle (gives_role Consumer) e m (omega arith) ends
-  release_takes Overflow Producer e m ends = takes_here code Overflow base w idle (gives_role Producer) e m (omega arith) ends
-  release_takes Overflow Consumer e m ends = takes_here code Overflow base w idle (gives_role Consumer) e m (omega arith) ends
-  release_takes Queue Producer e m ends = takes_here code Queue base w idle (gives_role Producer) e m (omega arith) ends
-  release_takes Queue Consumer e m ends = takes_here code Queue base w idle (gives_role Consumer) e m (omega arith) ends
+  release_takes IndexQueue Producer e m ends = takes_here IndexQueue ends (omega arith)
+  release_takes IndexQueue Consumer e m ends = takes_here IndexQueue ends (omega arith)
+  release_takes Overflow Producer e m ends = takes_here Overflow ends (omega arith)
+  release_takes Overflow Consumer e m ends = takes_here Overflow ends (omega arith)
+  release_takes Queue Producer e m ends = takes_here Queue ends (omega arith)
+  release_takes Queue Consumer e m ends = takes_here Queue ends (omega arith)
 
   -- a call that looks whether a role is taken takes one operation on a word at most
   pub look_takes : (kd : QueueKind) (role : Role) (e : Bool) (m : Unit {0}) → Ends code (machine_kind kd) (looks_role role) base e m w → TakesAtMost 1 base w
-  look_takes IndexQueue Producer e m ends = takes_here code IndexQueue base w idle (looks_role Producer) e m (omega arith) ends
-  look_takes IndexQueue Consumer e m ends = takes_here code IndexQueue base w idle (looks_role Consumer) e m (omega arith) ends
-  look_takes Overflow Producer e m ends = takes_here code Overflow base w idle (looks_role Producer) e m (omega arith) ends
-  look_takes Overflow Consumer e m ends = takes_here code Overflow base w idle (looks_role Consumer) e m (omega arith) ends
-  look_takes Queue Producer e m ends = takes_here code Queue base w idle (looks_role Producer) e m (omega arith) ends
-  look_takes Queue Consumer e m ends = takes_here code Queue base w idle (looks_role Consumer) e m (omega arith) ends
+  look_takes IndexQueue Producer e m ends = takes_here IndexQueue ends (omega arith)
+  look_takes IndexQueue Consumer e m ends = takes_here IndexQueue ends (omega arith)
+  look_takes Overflow Producer e m ends = takes_here Overflow ends (omega arith)
+  look_takes Overflow Consumer e m ends = takes_here Overflow ends (omega arith)
+  look_takes Queue Producer e m ends = takes_here Queue ends (omega arith)
+  look_takes Queue Consumer e m ends = takes_here Queue ends (omega arith)
 
   -- the call on the length has ended in the view w with the number n
   abbrev Counts : QueueKind → LengthOf → ℕ → Unit {0} → Type 0
@@ -56,54 +61,52 @@ module _ {T : Type 0} (code : Coding T) (base w : View T) (idle : base.going ≡
   -- a call on lengths takes at most four operations, and four more for each change of a word that others make meanwhile
   pub length_takes : (kd : QueueKind) (which : LengthOf) (n : ℕ) (m : Unit {0}) → Counts kd which n m
       → TakesAlone 4 4 base w
-  length_takes IndexQueue measures.Len n m ends = takes_here code IndexQueue base w idle (counts_waiting measures.Len base.capacity) n m (omega arith) ends
-  length_takes IndexQueue measures.IsEmpty n m ends =
-      takes_here code IndexQueue base w idle (counts_waiting measures.IsEmpty base.capacity) n m (omega arith) ends
-  length_takes IndexQueue measures.IsFull n m ends =
-      takes_here code IndexQueue base w idle (counts_waiting measures.IsFull base.capacity) n m (omega arith) ends
-  length_takes Overflow measures.Len n m ends = takes_here code Overflow base w idle (counts_waiting measures.Len base.capacity) n m (omega arith) ends
-  length_takes Overflow measures.IsEmpty n m ends = takes_here code Overflow base w idle (counts_waiting measures.IsEmpty base.capacity) n m (omega arith) ends
-  length_takes Overflow measures.IsFull n m ends = takes_here code Overflow base w idle (counts_waiting measures.IsFull base.capacity) n m (omega arith) ends
-  length_takes Queue measures.Len n m ends = takes_here code Queue base w idle (counts_waiting measures.Len base.capacity) n m (omega arith) ends
-  length_takes Queue measures.IsEmpty n m ends = takes_here code Queue base w idle (counts_waiting measures.IsEmpty base.capacity) n m (omega arith) ends
-  length_takes Queue measures.IsFull n m ends = takes_here code Queue base w idle (counts_waiting measures.IsFull base.capacity) n m (omega arith) ends
+  length_takes IndexQueue measures.Len n m ends = takes_here IndexQueue ends (omega arith)
+  length_takes IndexQueue measures.IsEmpty n m ends = takes_here IndexQueue ends (omega arith)
+  length_takes IndexQueue measures.IsFull n m ends = takes_here IndexQueue ends (omega arith)
+  length_takes Overflow measures.Len n m ends = takes_here Overflow ends (omega arith)
+  length_takes Overflow measures.IsEmpty n m ends = takes_here Overflow ends (omega arith)
+  length_takes Overflow measures.IsFull n m ends = takes_here Overflow ends (omega arith)
+  length_takes Queue measures.Len n m ends = takes_here Queue ends (omega arith)
+  length_takes Queue measures.IsEmpty n m ends = takes_here Queue ends (omega arith)
+  length_takes Queue measures.IsFull n m ends = takes_here Queue ends (omega arith)
 
   -- ---- pushes, pops and peeks
 
   -- A push of an index takes four operations at most.
   pub push_takes : (v : ℕ) (e : Bool) (m : Unit {0}) → Over code kinds.IndexQueue (pushes_index v) base e m w → TakesAtMost 4 base w
-  push_takes v e m (inl ends) = takes_here code IndexQueue base w idle (pushes_index v) e m (omega arith) ends
-  push_takes v e m (inr left) = left_takes code kinds.IndexQueue (pushes_index v) base w e m 4 (omega arith) left
+  push_takes v e m (inl ends) = takes_here IndexQueue ends (omega arith)
+  push_takes v e m (inr left) = left_here left 4 (omega arith)
 
   -- A pop of an index takes four operations at most.
   pub pop_takes : (e : Bool) (m : OneWord) → Ends code kinds.IndexQueue pops_index base e m w → TakesAtMost 4 base w
-  pop_takes e m ends = takes_here code IndexQueue base w idle pops_index e m (omega arith) ends
+  pop_takes e m ends = takes_here IndexQueue ends (omega arith)
 
   -- A peek at an index takes three operations at most.
   pub peek_takes : (e : Bool) (m : OneWord) → Ends code kinds.IndexQueue peeks_index base e m w → TakesAtMost 3 base w
-  peek_takes e m ends = takes_here code IndexQueue base w idle peeks_index e m (omega arith) ends
+  peek_takes e m ends = takes_here IndexQueue ends (omega arith)
 
   -- A push of a value takes at most three operations and one for each word of the value.
   pub value_push_takes : (x : T) (e : Bool) (m : Unit {0}) → Over code kinds.Queue (pushes_value code x) base e m w → TakesAtMost (3 + code.size) base w
-  value_push_takes x e m (inl ends) = takes_here code Queue base w idle (pushes_value code x) e m (omega arith) ends
-  value_push_takes x e m (inr left) = left_takes code kinds.Queue (pushes_value code x) base w e m (3 + code.size) (omega arith) left
+  value_push_takes x e m (inl ends) = takes_here Queue ends (omega arith)
+  value_push_takes x e m (inr left) = left_here left (3 + code.size) (omega arith)
 
   -- A pop of a value takes at most three operations and one for each word of the value.
   pub value_pop_takes : {R : Type 0} (words_in : R → List ℕ) (e : Bool) (m : R) → Ends code kinds.Queue (pops_value code words_in) base e m w
       → TakesAtMost (3 + code.size) base w
-  value_pop_takes words_in e m ends = takes_here code Queue base w idle (pops_value code words_in) e m (omega arith) ends
+  value_pop_takes words_in e m ends = takes_here Queue ends (omega arith)
 
   -- A peek at a value takes at most two operations and one for each word of the value.
   pub value_peek_takes : {R : Type 0} (words_in : R → List ℕ) (e : Bool) (m : R) → Ends code kinds.Queue (peeks_value code words_in) base e m w
       → TakesAtMost (2 + code.size) base w
-  value_peek_takes words_in e m ends = takes_here code Queue base w idle (peeks_value code words_in) e m (omega arith) ends
+  value_peek_takes words_in e m ends = takes_here Queue ends (omega arith)
 
   -- A push into an overflowing queue takes six operations at most.
   pub over_push_takes : (v : ℕ) (e : PushEnd) (m : OneWord) → Over code kinds.Overflow (pushes_over v) base e m w → TakesAtMost 6 base w
-  over_push_takes v e m (inl ends) = takes_here code Overflow base w idle (pushes_over v) e m (omega arith) ends
-  over_push_takes v e m (inr left) = left_takes code kinds.Overflow (pushes_over v) base w e m 6 (omega arith) left
+  over_push_takes v e m (inl ends) = takes_here Overflow ends (omega arith)
+  over_push_takes v e m (inr left) = left_here left 6 (omega arith)
 
   -- A pop from an overflowing queue takes four operations alone, and two more for each change
   -- of a word by others.
   pub over_pop_takes : (e : Bool) (m : OneWord) → Ends code kinds.Overflow pops_over base e m w → TakesAlone 4 2 base w
-  over_pop_takes e m ends = takes_here code Overflow base w idle pops_over e m (omega arith) ends
+  over_pop_takes e m ends = takes_here Overflow ends (omega arith)

@@ -57,11 +57,11 @@ module _ {T V : Type 0} (named : V → Item T) (tells : TellsApart named) where
 -- ---- two passes are joined
 
 -- of passes that began with nothing, one of which sent, and the other received
-pub both_passed : {T V : Type 0} (named : V → Item T) (sent received : List V) (left right a b z : View T) → IsAll z.share → MissesNothing z
+pub both_passed : {T V : Type 0} {named : V → Item T} {sent received : List V} {left right a b z : View T} → IsAll z.share → MissesNothing z
     → (left.seen ≡ []) × (left.made ≡ []) → (right.seen ≡ []) × (right.made ≡ []) → HasSent named sent left a → HasReceived named received right b
     → ((f : Event T → ℕ) → sum_by f z.made ≡ sum_by f a.made + sum_by f b.made) → IsBeginning a.seen z.seen → IsBeginning b.seen z.seen
     → HasPassed named sent received z
-both_passed {T} named sent received left right a b z whole all mine theirs has_sent has_received both ours others =
+both_passed {T} {V} {named} {sent} {received} {left} {right} {a} {b} {z} whole all mine theirs has_sent has_received both ours others =
     -- With the whole share, as many values were published and taken out as both passes made.
     let counted = whole_counted z whole all in
     let none : (f : Event T → ℕ) → (sum_by f left.made ≡ 0) × (sum_by f right.made ≡ 0) = λ f. (ap (sum_by f) mine.1, ap (sum_by f) theirs.1) in
@@ -74,10 +74,10 @@ both_passed {T} named sent received left right a b z whole all mine theirs has_s
       all = all;
       -- So nobody else published, and nobody else took out.
       published_these =
-          only_these publishes named sent (length sent) 0 left a z.seen (ap published mine.0) has_sent ours
+          only_these has_sent (ap published mine.0) ours
           (omega (arith, counted.0, put.0, put.1, has_sent.done.puts_more, has_received.done.puts_more));
       taken_these =
-          only_these hands_out named received 0 (length received) right b z.seen (ap handed_out theirs.0) has_received others
+          only_these has_received (ap handed_out theirs.0) others
           (omega (arith, counted.1, got.0, got.1, has_sent.done.gets_more, has_received.done.gets_more));
     }
 
@@ -86,7 +86,7 @@ pub passed : {T V : Type 0} {named : V → Item T} {sent received : List V} {n :
     → first ≡ first_view n → HasSplit first left right → HasSent named sent left a → HasReceived named received right b
     → HasJoined a b z → MissesNothing z → HasPassed named sent received z
 passed {T} {V} {named} {sent} {received} {n} {first} {left} {right} {a} {b} {z} opens cut has_sent has_received joined none =
-    both_passed named sent received left right a b z whole none
+    both_passed whole none
     (cut.seen ∙ ap (λ (t : View T). t.seen) opens, cut.made ∙ ap (λ (t : View T). t.made) opens)
     (cut.right_seen ∙ ap (λ (t : View T). t.seen) opens, cut.right_made) has_sent has_received
     (λ f. ap (sum_by f) joined.made ∙ sum_by-append f a.made b.made) joined.ours joined.others
@@ -166,7 +166,7 @@ module _ {T V : Type 0} {named : V → Item T} {sent received : List V} {v w : V
   pub all_passed : (code : Coding T) (kind : QueueKind) (capacity : ℕ) → TellsApart named → HasPassed named sent received v → Goes v w
       → IsHistory code (machine_kind kind) capacity w.seen → HasPopped None v w → received ≡ sent
   all_passed code kind capacity tells has_passed goes history popped =
-      let all_out = all_taken code kind capacity v w has_passed.whole has_passed.all goes history popped in
+      let all_out = all_taken code kind capacity has_passed.whole has_passed.all goes history popped in
       let still = nothing_more hands_out v w _ has_passed.whole has_passed.all goes popped.called.made refl in
       same_values named tells received sent (sym has_passed.taken_these ∙ (sym still ∙ (all_out.1 ∙ (all_out.0 ∙ has_passed.published_these))))
 

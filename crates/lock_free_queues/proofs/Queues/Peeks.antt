@@ -89,10 +89,10 @@ module _ {T : Type 0} (code : Coding T) (kd : QueueKind) (base w : View T) where
 
   module _ (idle : base.going ≡ None) where
     -- what a peek says once it has ended
-    pub has_peeked : {C M V : Type 0} → IsAlone kd Consumer → (named : V → Item T) (value : M → V) (call : Calling T C M Bool)
-        → IsPeek named value call → (e : Bool) (m : M) → Ends code (machine_kind kd) call base e m w
+    pub has_peeked : {C M V : Type 0} → IsAlone kd Consumer → {named : V → Item T} {value : M → V} {call : Calling T C M Bool}
+        → IsPeek named value call → {e : Bool} {m : M} → Ends code (machine_kind kd) call base e m w
         → HasPeeked (option_map named (pop_answer (value m) e)) base w
-    has_peeked alone named value call is e m ends =
+    has_peeked alone {named} {value} {call} is {e} {m} ends =
         let party_now = ends.party in
         let o = option_map named (pop_answer (value m) e) in
         let called_once = called code (machine_kind kd) call base w e m idle ends in

@@ -211,15 +211,15 @@ module _ {E T V : Type 0} {kind : kinds.Ghosts E} {words : Ghosts T} {named : V 
 -- what came is a beginning of what was sent, in order, and all of it just where the last pop finds
 -- nothing; no more is left than the queue has room for: of the views of the two halves of a first
 -- pass, joined, and of one pop
-pub views_relayed : {T V : Type 0} (named : V → Item T) (code : Coding T) (queue : QueueKind) (n most : ℕ) (role : Role)
-    (first left right mine theirs joined taking last : View T) (sent received : List V) (answer : Option V) (emptied : Bool)
+pub views_relayed : {T V : Type 0} {named : V → Item T} (code : Coding T) (queue : QueueKind) {n most : ℕ} {role : Role}
+    {first left right mine theirs joined taking last : View T} {sent received : List V} (answer : Option V) {emptied : Bool}
     → TellsApart named → IsBounded queue → first ≡ first_view n → HasSplit first left right → HasSent named sent left mine
     → HasReceived named received right theirs → HasJoined mine theirs joined → MissesNothing joined
     → IsHistory code (machine_kind queue) n joined.seen → Goes joined taking → HasAcquired role true joined taking
     → Goes taking last → IsHistory code (machine_kind queue) most last.seen
     → IfSome answer (λ x. PopDone (named x) taking last) → IfNone answer (PopEmpty taking last)
     → is_some answer ≡ not emptied → IsRelayed n sent received emptied
-views_relayed named code queue n most role first left right mine theirs joined taking last sent received answer emptied
+views_relayed {named = named} code queue {n} {most} {role} {first} {left} {right} {mine} {theirs} {joined} {taking} {last} {sent} {received} answer {emptied}
     tells bounded opens cut s r h none history goes acquired pops now popped empty is =
     let whole : HasPassed named sent received joined =
     passed {named = named} {n = n} {first = first} {left = left} {right = right} {a = mine} {b = theirs} {z = joined} opens cut s r h none in
@@ -247,8 +247,7 @@ module _ {E T V : Type 0} {kind : kinds.Ghosts E} {words : Ghosts T} {named : V 
   relayed first left right mine theirs joined taking last {capacity} {sent} {received} answer {emptied} {role}
       n tells bounded opens cut s r h none history sized to acquired same now popped empty is =
       let code : Coding T = coding_by words in
-      views_relayed named code kind.KIND n (consumer_queue last).capacity role (view first) (view left) (view right) (view mine) (view theirs) (view joined)
-      (consumer_view taking) (consumer_view last) sent received answer emptied tells bounded opens cut s.sent r.received h none
+      views_relayed code kind.KIND answer tells bounded opens cut s.sent r.received h none
       (subst (λ m. HasHistory code kind.KIND m (view joined)) sized history) to.goes acquired same.goes now
       popped empty is
 

@@ -37,55 +37,56 @@ module _ {T V : Type 0} (tells : Event T → List (Item T)) (named : V → Item 
         share = share;
       }
 
-  -- from v to w the pass has added xs, as k says; it goes on from w to u
-  module _ (xs : List V) (put got : ℕ) (v w u : View T) (k : HasAppended tells named xs put got v w) (share : u.share ≡ w.share) where
-    -- a call that ends the list with one value's item adds this value, and its own counts
-    pub appended_more : (x : V) (p g : ℕ) → HasDone p g w u → flat_map tells u.seen ≡ flat_map tells w.seen ++ named x ∷ []
-        → HasAppended tells named (xs ++ x ∷ []) (put + p) (got + g) v u
-    appended_more x p g done is =
-        record {
-          others = k.others;
-          list = is
-              ∙ (ap (λ ys. ys ++ named x ∷ []) k.list
-              ∙ (append_assoc (flat_map tells v.seen ++ k.others) (map named xs) (named x ∷ [])
-              ∙ ap (λ ys. (flat_map tells v.seen ++ k.others) ++ ys) (sym (map-append named xs (x ∷ [])))));
-          done = done_then put got p g v w u k.done done;
-          share = share ∙ k.share;
-        }
+-- from v to w the pass has added xs, as k says; in each lemma it goes on from w to a view u
+module _ {T V : Type 0} {tells : Event T → List (Item T)} {named : V → Item T} {xs : List V} {put got : ℕ} {v w : View T}
+    (k : HasAppended tells named xs put got v w) where
+  -- a call that ends the list with one value's item adds this value, and its own counts
+  pub appended_more : {u : View T} → u.share ≡ w.share → (x : V) {p g : ℕ} → HasDone p g w u → flat_map tells u.seen ≡ flat_map tells w.seen ++ named x ∷ []
+      → HasAppended tells named (xs ++ x ∷ []) (put + p) (got + g) v u
+  appended_more {u} share x {p} {g} done is =
+      record {
+        others = k.others;
+        list = is
+            ∙ (ap (λ ys. ys ++ named x ∷ []) k.list
+            ∙ (append_assoc (flat_map tells v.seen ++ k.others) (map named xs) (named x ∷ [])
+            ∙ ap (λ ys. (flat_map tells v.seen ++ k.others) ++ ys) (sym (map-append named xs (x ∷ [])))));
+        done = done_then put got p g v w u k.done done;
+        share = share ∙ k.share;
+      }
 
-    -- a call that leaves the list as it was, and publishes and takes out nothing itself, leaves what was added
-    pub appended_same : HasDone 0 0 w u → flat_map tells u.seen ≡ flat_map tells w.seen → HasAppended tells named xs put got v u
-    appended_same done is =
-        let a = k.done in
-        record {
-          others = k.others;
-          list = is ∙ k.list;
-          done =
-              record {
-                puts_more = omega (arith, a.puts_more, done.puts_more);
-                gets_more = omega (arith, a.gets_more, done.gets_more);
-              };
-          share = share ∙ k.share;
-        }
+  -- a call that leaves the list as it was, and publishes and takes out nothing itself, leaves what was added
+  pub appended_same : {u : View T} → u.share ≡ w.share → HasDone 0 0 w u → flat_map tells u.seen ≡ flat_map tells w.seen
+      → HasAppended tells named xs put got v u
+  appended_same share done is =
+      let a = k.done in
+      record {
+        others = k.others;
+        list = is ∙ k.list;
+        done =
+            record {
+              puts_more = omega (arith, a.puts_more, done.puts_more);
+              gets_more = omega (arith, a.gets_more, done.gets_more);
+            };
+        share = share ∙ k.share;
+      }
 
   -- nothing else was told where the list is no longer
-  pub only_these : (xs : List V) (put got : ℕ) (v w : View T) (seen : List (Event T)) → flat_map tells v.seen ≡ []
-      → HasAppended tells named xs put got v w → IsBeginning w.seen seen → length (flat_map tells seen) ≡ length xs
+  pub only_these : {seen : List (Event T)} → flat_map tells v.seen ≡ [] → IsBeginning w.seen seen → length (flat_map tells seen) ≡ length xs
       → flat_map tells seen ≡ map named xs
-  only_these xs put got v w seen fresh appended begins long =
+  only_these {seen} fresh begins long =
       let rest : List (Item T) = flat_map tells begins.rest in
-      let list : flat_map tells seen ≡ (appended.others ++ map named xs) ++ rest =
+      let list : flat_map tells seen ≡ (k.others ++ map named xs) ++ rest =
       ap (flat_map tells) begins.is
       ∙ (flat_map-append tells w.seen begins.rest
-      ∙ ap (λ ys. ys ++ rest) (appended.list ∙ ap (λ ys. (ys ++ appended.others) ++ map named xs) fresh)) in
+      ∙ ap (λ ys. ys ++ rest) (k.list ∙ ap (λ ys. (ys ++ k.others) ++ map named xs) fresh)) in
       let size = ap length list in
-      let one = length-append (appended.others ++ map named xs) rest in
-      let two = length-append appended.others (map named xs) in
+      let one = length-append (k.others ++ map named xs) rest in
+      let two = length-append k.others (map named xs) in
       let same = length_named named xs in
-      let no_others : appended.others ≡ [] = none_there appended.others (omega arith) in
+      let no_others : k.others ≡ [] = none_there k.others (omega arith) in
       let no_rest : rest ≡ [] = none_there rest (omega arith) in
-      list ∙ (ap (λ ys. (appended.others ++ map named xs) ++ ys) no_rest
-      ∙ (append-nil (appended.others ++ map named xs) ∙ ap (λ ys. ys ++ map named xs) no_others))
+      list ∙ (ap (λ ys. (k.others ++ map named xs) ++ ys) no_rest
+      ∙ (append-nil (k.others ++ map named xs) ∙ ap (λ ys. ys ++ map named xs) no_others))
 
 -- ---- who pushes
 
@@ -105,7 +106,7 @@ module _ {T V : Type 0} {named : V → Item T} where
       → Goes was new → PushDone (named value) was new → HasSent named (values ++ value ∷ []) old new
   sent_one {old} {was} {new} values value sent goes push_done =
       subst (λ n. HasAppended publishes named (values ++ value ∷ []) n 0 old new) (sym (length-append values (value ∷ [])))
-      (appended_more publishes named values (length values) 0 old was new sent goes.share value 1 0
+      (appended_more sent goes.share value
       (done_pushed was new (named value) push_done.0) push_done.1.list)
 
   -- A push of the next value of a list makes the values that were sent one longer, still a
@@ -121,14 +122,14 @@ module _ {T V : Type 0} {named : V → Item T} where
   pub sent_refused : {old was new : View T} {values : List V} {room : ℕ} {item : Item T} → HasSent named values old was
       → Goes was new → PushRefused room item was new → HasSent named values old new
   sent_refused {old} {was} {new} {values} {room} {item} sent goes push_refused =
-      appended_same publishes named values (length values) 0 old was new sent goes.share (done_refused was new item room push_refused)
+      appended_same sent goes.share (done_refused was new item room push_refused)
       (none_published room item was new push_refused)
 
   -- The release of the role leaves the values that were sent as they were.
   pub sent_done : {role : Role} {old was new : View T} {values : List V} → HasSent named values old was → Goes was new
       → HasReleased role was new → published new.seen ≡ published was.seen → HasSent named values old new
   sent_done {role} {old} {was} {new} {values} sent goes released is =
-      appended_same publishes named values (length values) 0 old was new sent goes.share (done_released was new role released) is
+      appended_same sent goes.share (done_released was new role released) is
 
   -- Once the role is given back behind the last value of a list, the pass has sent the whole list.
   pub sent_all : {role : Role} {old was new : View T} (all : List V) (n : ℕ) → HasSent named (take n all) old was → length all ≤ n
@@ -151,7 +152,7 @@ module _ {T V : Type 0} {named : V → Item T} where
       → PopDone (named value) was new → HasReceived named (values ++ value ∷ []) old new
   received_one {old} {was} {new} values value received goes pop_done =
       subst (λ n. HasAppended hands_out named (values ++ value ∷ []) 0 n old new) (sym (length-append values (value ∷ [])))
-      (appended_more hands_out named values 0 (length values) old was new received goes.share value 0 1
+      (appended_more received goes.share value
       (done_popped was new (named value) pop_done.0) pop_done.1.list)
 
   -- a list that has it at its end
@@ -166,16 +167,16 @@ module _ {T V : Type 0} {named : V → Item T} where
   pub received_still : {old was new : View T} {values : List V} → HasReceived named values old was → Goes was new
       → PopEmpty was new → HasReceived named values old new
   received_still {old} {was} {new} {values} received goes pop_empty =
-      appended_same hands_out named values 0 (length values) old was new received goes.share (done_none was new pop_empty.0) pop_empty.1.list
+      appended_same received goes.share (done_none was new pop_empty.0) pop_empty.1.list
 
   -- A peek leaves the values that were received as they were.
   pub received_peeked : {old was new : View T} {values : List V} (answer : Option (Item T)) → HasReceived named values old was → Goes was new
       → HasPeeked answer was new → HasReceived named values old new
   received_peeked {old} {was} {new} {values} answer received goes peeked =
-      appended_same hands_out named values 0 (length values) old was new received goes.share (done_peeked was new answer peeked) peeked.list
+      appended_same received goes.share (done_peeked was new answer peeked) peeked.list
 
   -- The release of the role leaves the values that were received as they were.
   pub received_done : {role : Role} {old was new : View T} {values : List V} → HasReceived named values old was → Goes was new
       → HasReleased role was new → handed_out new.seen ≡ handed_out was.seen → HasReceived named values old new
   received_done {role} {old} {was} {new} {values} received goes released is =
-      appended_same hands_out named values 0 (length values) old was new received goes.share (done_released was new role released) is
+      appended_same received goes.share (done_released was new role released) is

@@ -15,27 +15,27 @@ use Rattle.lock_free_queues.specs.Queues.Contracts.{HasReleased, HasSeenRole}
 module _ {T : Type 0} where
   -- ---- by the call
 
-  module _ (p : ℕ) (start : Start T) (answer : Answer T) (wrote : List (Event T)) (old new : View T) (c : Called p start answer wrote old new) where
-    module _ (f : Event T → ℕ) (none : f (Begun p start) ≡ 0) where
-      -- A sum over what the pass made grows by what the call wrote, and by its end.
-      made_more : (last : ℕ) → f (Finished p start answer) ≡ last → sum_by f new.made ≡ sum_by f old.made + (sum_by f wrote + last)
-      made_more last f_is = grind (arith, sum_by-append, sum_first)
+  module _ {p : ℕ} {start : Start T} {answer : Answer T} {wrote : List (Event T)} {old new : View T} (c : Called p start answer wrote old new) where
+    -- A sum over what the pass made grows by what the call wrote, and by its end.
+    made_more : (f : Event T → ℕ) → f (Begun p start) ≡ 0 → {last : ℕ} → f (Finished p start answer) ≡ last
+        → sum_by f new.made ≡ sum_by f old.made + (sum_by f wrote + last)
+    made_more f none {last} f_is = grind (arith, sum_by-append, sum_first)
 
     -- A call has done as many puts and gets as it wrote.
     pub done : HasDone (sum_by puts wrote + 0) (sum_by gets wrote + 0) old new
-    done = record { puts_more = made_more puts refl 0 refl; gets_more = made_more gets refl 0 refl }
+    done = record { puts_more = made_more puts refl refl; gets_more = made_more gets refl refl }
 
   module _ (old new : View T) where
     -- A push that answers true has published one item and taken out none.
     pub done_pushed : (item : Item T) → HasPushed item true old new → HasDone 1 0 old new
     done_pushed item pushed =
-        (let done_here = done pushed.by _ _ _ old new pushed.called in
+        (let done_here = done pushed.called in
         record { puts_more = done_here.puts_more; gets_more = done_here.gets_more })
 
     -- a push that was refused, or a look
     pub done_refused : (item : Item T) (capacity : ℕ) → PushRefused capacity item old new → HasDone 0 0 old new
     done_refused item capacity (inl h) =
-        (let done_here = done h.0.by _ _ _ old new h.0.called in record { puts_more = done_here.puts_more; gets_more = done_here.gets_more })
+        (let done_here = done h.0.called in record { puts_more = done_here.puts_more; gets_more = done_here.gets_more })
     done_refused item capacity (inr h) = same_made h.made
       where
         -- A pass that made nothing more has done nothing.
@@ -45,65 +45,67 @@ module _ {T : Type 0} where
     -- A push into an overflowing queue that handed nothing back has published one item and taken out none.
     pub done_added : (value : ℕ) → HasOverflowed value None old new → HasDone 1 0 old new
     done_added value overflowed =
-        (let done_here = done overflowed.by _ _ _ old new overflowed.called in
+        (let done_here = done overflowed.called in
         record { puts_more = done_here.puts_more; gets_more = done_here.gets_more })
 
     -- A push into an overflowing queue that handed the oldest number back has published one item and
     -- taken out one.
     pub done_replaced : (value oldest : ℕ) → HasOverflowed value (Some oldest) old new → HasDone 1 1 old new
     done_replaced value oldest overflowed =
-        (let done_here = done overflowed.by _ _ _ old new overflowed.called in record { puts_more = done_here.puts_more; gets_more = done_here.gets_more })
+        (let done_here = done overflowed.called in record { puts_more = done_here.puts_more; gets_more = done_here.gets_more })
 
     -- A pop that answers an item has taken out one.
     pub done_popped : (item : Item T) → HasPopped (Some item) old new → HasDone 0 1 old new
     done_popped item popped =
-        (let done_here = done popped.by _ _ _ old new popped.called in
+        (let done_here = done popped.called in
         record { puts_more = done_here.puts_more; gets_more = done_here.gets_more })
 
     -- A pop that found the queue empty has taken out none.
     pub done_none : HasPopped None old new → HasDone 0 0 old new
     done_none popped =
-        (let done_here = done popped.by _ _ _ old new popped.called in
+        (let done_here = done popped.called in
         record { puts_more = done_here.puts_more; gets_more = done_here.gets_more })
 
     -- A peek publishes and takes out nothing.
     pub done_peeked : (answer : Option (Item T)) → HasPeeked answer old new → HasDone 0 0 old new
     done_peeked answer peeked =
-        (let done_here = done peeked.by _ _ _ old new peeked.called in
+        (let done_here = done peeked.called in
         record { puts_more = done_here.puts_more; gets_more = done_here.gets_more })
 
     -- An acquire of a role publishes and takes out nothing.
     pub done_acquired : (role : Role) (taken : Bool) → HasAcquired role taken old new → HasDone 0 0 old new
     done_acquired role taken acquired =
-        (let done_here = done acquired.by _ _ _ old new acquired.called in
+        (let done_here = done acquired.called in
         record { puts_more = done_here.puts_more; gets_more = done_here.gets_more })
 
     -- A release of a role publishes and takes out nothing.
     pub done_released : (role : Role) → HasReleased role old new → HasDone 0 0 old new
     done_released role released =
-        (let done_here = done released.by _ _ _ old new released.called in
+        (let done_here = done released.called in
         record { puts_more = done_here.puts_more; gets_more = done_here.gets_more })
 
     -- A look at a role publishes and takes out nothing.
     pub done_seen : (role : Role) (taken : Bool) → HasSeenRole role taken old new → HasDone 0 0 old new
     done_seen role taken seen_role =
-        (let done_here = done seen_role.by _ _ _ old new seen_role.called in
+        (let done_here = done seen_role.called in
         record { puts_more = done_here.puts_more; gets_more = done_here.gets_more })
 
     -- A call on the length publishes and takes out nothing.
     pub done_measured : (which : LengthOf) (capacity : ℕ) (answer : Answer T) → HasMeasured which capacity answer old new → HasDone 0 0 old new
     done_measured which capacity answer measured =
-        (let done_here = done measured.by _ _ _ old new measured.called in record { puts_more = done_here.puts_more; gets_more = done_here.gets_more })
+        (let done_here = done measured.called in record { puts_more = done_here.puts_more; gets_more = done_here.gets_more })
 
     -- ---- what it moves of the roles
 
     -- a call that writes nothing but its begin and its end moves a role as often as its end does
-    moves : (p : ℕ) (start : Start T) (answer : Answer T) → Called p start answer [] old new → (q : Role) (n m : ℕ)
-        → takes q (Begun p start) ≡ 0 → gives q (Begun p start) ≡ 0
-        → takes q (Finished p start answer) ≡ n → gives q (Finished p start answer) ≡ m → Moved q n m old.made new.made
-    moves p start answer call q n m a b c d =
-        let t : sum_by (takes q) new.made ≡ sum_by (takes q) old.made + (0 + n) = made_more p start answer [] old new call (takes q) a n c in
-        let g : sum_by (gives q) new.made ≡ sum_by (gives q) old.made + (0 + m) = made_more p start answer [] old new call (gives q) b m d in
+    moves : {p : ℕ} {start : Start T} {answer : Answer T} → Called p start answer [] old new → (role : Role)
+        → takes role (Begun p start) ≡ 0 → gives role (Begun p start) ≡ 0
+        → Moved role (takes role (Finished p start answer)) (gives role (Finished p start answer)) old.made new.made
+    moves {p} {start} {answer} call role begin_takes_none begin_gives_none =
+        let t : sum_by (takes role) new.made ≡ sum_by (takes role) old.made + (0 + takes role (Finished p start answer)) =
+        made_more call (takes role) begin_takes_none refl in
+        let g : sum_by (gives role) new.made ≡ sum_by (gives role) old.made + (0 + gives role (Finished p start answer)) =
+        made_more call (gives role) begin_gives_none refl in
         record { takes = omega arith; gives = omega arith }
 
     -- a call that takes a role moves it once where it answers true, and else not, and never moves the other role
@@ -111,65 +113,67 @@ module _ {T : Type 0} where
         → (taken ≡ true → Moved role 1 0 old.made new.made) × (taken ≡ false → Moved role 0 0 old.made new.made)
         × Moved (other_role role) 0 0 old.made new.made
     acquired_moves Producer true acquired = (
-      λ is. moves acquired.by _ _ acquired.called Producer 1 0 refl refl refl refl,
+      λ is. moves acquired.called Producer refl refl,
       λ is. absurd (cc),
-      moves acquired.by _ _ acquired.called Consumer 0 0 refl refl refl refl,
+      moves acquired.called Consumer refl refl,
     )
     acquired_moves Producer false h = (
       λ is. absurd (cc),
-      λ is. moves h.by _ _ h.called Producer 0 0 refl refl refl refl,
-      moves h.by _ _ h.called Consumer 0 0 refl refl refl refl,
+      λ is. moves h.called Producer refl refl,
+      moves h.called Consumer refl refl,
     )
     acquired_moves Consumer true h = (
-      λ is. moves h.by _ _ h.called Consumer 1 0 refl refl refl refl,
+      λ is. moves h.called Consumer refl refl,
       λ is. absurd (cc),
-      moves h.by _ _ h.called Producer 0 0 refl refl refl refl,
+      moves h.called Producer refl refl,
     )
     acquired_moves Consumer false h = (
       λ is. absurd (cc),
-      λ is. moves h.by _ _ h.called Consumer 0 0 refl refl refl refl,
-      moves h.by _ _ h.called Producer 0 0 refl refl refl refl,
+      λ is. moves h.called Consumer refl refl,
+      moves h.called Producer refl refl,
     )
 
     -- a call that gives a role back moves it by one, and does not move the other role
     pub released_moves : (role : Role) → HasReleased role old new → Moved role 0 1 old.made new.made × Moved (other_role role) 0 0 old.made new.made
     released_moves Producer released = (
-      moves released.by _ _ released.called Producer 0 1 refl refl refl refl,
-      moves released.by _ _ released.called Consumer 0 0 refl refl refl refl,
+      moves released.called Producer refl refl,
+      moves released.called Consumer refl refl,
     )
     released_moves Consumer released = (
-      moves released.by _ _ released.called Consumer 0 1 refl refl refl refl,
-      moves released.by _ _ released.called Producer 0 0 refl refl refl refl,
+      moves released.called Consumer refl refl,
+      moves released.called Producer refl refl,
     )
 
     -- A peek takes and gives no role.
     pub peeked_moves : (answer : Option (Item T)) → HasPeeked answer old new → (q : Role) → Moved q 0 0 old.made new.made
-    peeked_moves answer peeked Producer = moves peeked.by _ _ peeked.called Producer 0 0 refl refl refl refl
-    peeked_moves answer peeked Consumer = moves peeked.by _ _ peeked.called Consumer 0 0 refl refl refl refl
+    peeked_moves answer peeked Producer = moves peeked.called Producer refl refl
+    peeked_moves answer peeked Consumer = moves peeked.called Consumer refl refl
 
     -- A look at a role moves no role: neither takes nor gives of the pass change.
     pub seen_moves : (role : Role) (taken : Bool) → HasSeenRole role taken old new → (q : Role) → Moved q 0 0 old.made new.made
-    seen_moves Producer taken seen_role Producer = moves seen_role.by _ _ seen_role.called Producer 0 0 refl refl refl refl
-    seen_moves Producer taken seen_role Consumer = moves seen_role.by _ _ seen_role.called Consumer 0 0 refl refl refl refl
-    seen_moves Consumer taken seen_role Producer = moves seen_role.by _ _ seen_role.called Producer 0 0 refl refl refl refl
-    seen_moves Consumer taken seen_role Consumer = moves seen_role.by _ _ seen_role.called Consumer 0 0 refl refl refl refl
+    seen_moves Producer taken seen_role Producer = moves seen_role.called Producer refl refl
+    seen_moves Producer taken seen_role Consumer = moves seen_role.called Consumer refl refl
+    seen_moves Consumer taken seen_role Producer = moves seen_role.called Producer refl refl
+    seen_moves Consumer taken seen_role Consumer = moves seen_role.called Consumer refl refl
 
-    -- a push into an overflowing queue moves none
-    none_moved : (p : ℕ) (start : Start T) (answer : Answer T) (wrote : List (Event T)) → Called p start answer wrote old new → (q : Role)
-        → takes q (Begun p start) ≡ 0 → gives q (Begun p start) ≡ 0 → sum_by (takes q) wrote ≡ 0 → sum_by (gives q) wrote ≡ 0
-        → takes q (Finished p start answer) ≡ 0 → gives q (Finished p start answer) ≡ 0 → Moved q 0 0 old.made new.made
-    none_moved p start answer wrote call q begin_takes_none begin_gives_none writes_take_none
-        writes_give_none end_takes_none end_gives_none =
-        let t = made_more p start answer wrote old new call (takes q) begin_takes_none 0 end_takes_none in
-        let g = made_more p start answer wrote old new call (gives q) begin_gives_none 0 end_gives_none in
+    -- a call moves no role if none of its events takes it or gives it back
+    none_moved : {p : ℕ} {start : Start T} {answer : Answer T} {wrote : List (Event T)} → Called p start answer wrote old new → (role : Role)
+        → takes role (Begun p start) + (sum_by (takes role) wrote + takes role (Finished p start answer)) ≡ 0
+        → gives role (Begun p start) + (sum_by (gives role) wrote + gives role (Finished p start answer)) ≡ 0
+        → Moved role 0 0 old.made new.made
+    none_moved {p} {start} {answer} {wrote} call role none_takes none_gives =
+        let t : sum_by (takes role) new.made ≡ sum_by (takes role) old.made + (sum_by (takes role) wrote + takes role (Finished p start answer)) =
+        made_more call (takes role) (omega arith) refl in
+        let g : sum_by (gives role) new.made ≡ sum_by (gives role) old.made + (sum_by (gives role) wrote + gives role (Finished p start answer)) =
+        made_more call (gives role) (omega arith) refl in
         record { takes = omega arith; gives = omega arith }
 
     -- A push into an overflowing queue that is a call of the history takes and gives no role.
     overflowed_moves : (value : ℕ) (back : Option ℕ) → HasOverflowed value back old new → (q : Role) → Moved q 0 0 old.made new.made
-    overflowed_moves value None overflowed Producer = none_moved overflowed.by _ _ _ overflowed.called Producer refl refl refl refl refl refl
-    overflowed_moves value None overflowed Consumer = none_moved overflowed.by _ _ _ overflowed.called Consumer refl refl refl refl refl refl
-    overflowed_moves value (Some oldest) overflowed Producer = none_moved overflowed.by _ _ _ overflowed.called Producer refl refl refl refl refl refl
-    overflowed_moves value (Some oldest) overflowed Consumer = none_moved overflowed.by _ _ _ overflowed.called Consumer refl refl refl refl refl refl
+    overflowed_moves value None overflowed Producer = none_moved overflowed.called Producer refl refl
+    overflowed_moves value None overflowed Consumer = none_moved overflowed.called Consumer refl refl
+    overflowed_moves value (Some oldest) overflowed Producer = none_moved overflowed.called Producer refl refl
+    overflowed_moves value (Some oldest) overflowed Consumer = none_moved overflowed.called Consumer refl refl
 
     -- a push into an overflowing queue, or a look in its place, moves no role
     pub over_push_moves : (value : ℕ) (back : Option ℕ) → HasOverflowed value back old new ⊎ (back ≡ Some value) × WasAtEnd old new

@@ -57,6 +57,13 @@ module _ {A : Type 0} where
 
 -- ---- what was taken out, as the history grows
 
+-- Between the views w and u the events hand out the number x, by party p, behind all that had been seen in w.
+record HandsOut (x p : ℕ) (w u : View ℕ) : Type 0 where
+  before : List (Event ℕ)
+  after : List (Event ℕ)
+  since : IsBeginning w.seen before
+  is : u.seen ≡ before ++ HandedOut p (Index x) ∷ after
+
 -- `by` reads from a party's next events of which sort the call is that has handed an item out (a pop or
 -- a push). By `lasts`, a yes stays as more events follow.
 module _ (by : List (Event ℕ) → Bool) (lasts : (xs ys : List (Event ℕ)) → by xs ≡ true → by (xs ++ ys) ≡ true) where
@@ -133,10 +140,12 @@ module _ (by : List (Event ℕ) → Bool) (lasts : (xs ys : List (Event ℕ)) �
       (grows (earlier ++ map Index xs) w.seen begins.rest (k earlier h))
 
   -- one further number that is taken out by a call of this sort stands behind the numbers that were taken out
-  took_more : (xs : List ℕ) (x p : ℕ) (v w u : View ℕ) (before after : List (Event ℕ)) → TookOut by xs v w
-      → IsBeginning w.seen before → u.seen ≡ before ++ HandedOut p (Index x) ∷ after → by (events_by p after) ≡ true
+  took_more : (xs : List ℕ) (v : View ℕ) {x p : ℕ} {w u : View ℕ} → TookOut by xs v w → (out : HandsOut x p w u) → by (events_by p out.after) ≡ true
       → TookOut by (xs ++ x ∷ []) v u
-  took_more xs x p v w u before after k begins is t earlier h =
+  took_more xs v {x} {p} {w} {u} k out t earlier h =
+      let before = out.before in
+      let after = out.after in
+      let begins = out.since in
       let there : StandIn (earlier ++ map Index xs) (taken by before) =
       subst (λ es. StandIn (earlier ++ map Index xs) (taken by es)) (sym begins.is)
       (grows (earlier ++ map Index xs) w.seen begins.rest (k earlier h)) in
@@ -144,7 +153,7 @@ module _ (by : List (Event ℕ) → Bool) (lasts : (xs ys : List (Event ℕ)) �
       one_more (earlier ++ map Index xs) p (item x) before after t there in
       let list : (earlier ++ map Index xs) ++ item x ∷ [] ≡ earlier ++ map Index (xs ++ x ∷ []) =
       append_assoc earlier (map Index xs) (item x ∷ []) ∙ ap (λ zs. earlier ++ zs) (sym (map-append Index xs (x ∷ []))) in
-      subst (λ es. StandIn (earlier ++ map Index (xs ++ x ∷ [])) (taken by es)) (sym is)
+      subst (λ es. StandIn (earlier ++ map Index (xs ++ x ∷ [])) (taken by es)) (sym out.is)
       (subst (λ zs. StandIn zs (taken by (before ++ HandedOut p (Index x) ∷ after))) list more)
 
 -- Events that were those of a pop are so with more events behind them.
@@ -168,8 +177,9 @@ pop_wrote xs x v w u took_out popped =
     let wrote_first =
     first_wrote party_there (Queues Pop) (PoppedIndex x) (HandedOut party_there (Index x))
     (Acted party_there (Queues Pop) (PoppedIndex x) ∷ []) w u popped.called in
-    took_more by_pop pop_lasts xs x party_there v w u wrote_first.before wrote_first.after took_out
-    wrote_first.since wrote_first.is (ap by_pop wrote_first.mine)
+    let out : HandsOut x party_there w u =
+    record { before = wrote_first.before; after = wrote_first.after; since = wrote_first.since; is = wrote_first.is } in
+    took_more by_pop pop_lasts xs v took_out out (ap by_pop wrote_first.mine)
 
 -- who takes a role has popped nothing by that
 pub takes_none : (role : Role) (v w : View ℕ) → Goes v w → HasAcquired role true v w → HasTaken [] v w
@@ -244,7 +254,7 @@ drained c old new more v w u is has_taken goes history has_popped =
       popped = takes_nothing more v w u has_taken goes has_popped;
       emptied =
           λ whole none.
-          (let all_out = all_taken one_word kinds.Overflow c w u (subst IsAll (sym has_taken.share) whole) (has_taken.all none) goes history has_popped in
+          (let all_out = all_taken one_word kinds.Overflow c (subst IsAll (sym has_taken.share) whole) (has_taken.all none) goes history has_popped in
           all_out.1);
     }
 
@@ -274,7 +284,8 @@ push_wrote back value oldest v w u took_out overflowed =
           ap (λ es. es ++ Published party_there (Index value) ∷ part.0) wrote_first.since.is
           ∙ append_assoc w.seen wrote_first.since.rest (Published party_there (Index value) ∷ part.0);
     } in
-    took_more by_push push_lasts back oldest party_there v w u before part.1 took_out since is (ap by_push part.4)
+    let out : HandsOut oldest party_there w u = record { before = before; after = part.1; since = since; is = is } in
+    took_more by_push push_lasts back v took_out out (ap by_push part.4)
 
 -- what was published stays so
 pub seen_later : (v w : View ℕ) → IsBeginning v.seen w.seen → length (published v.seen) ≤ length (published w.seen)
@@ -283,9 +294,9 @@ seen_later v w begins =
     omega (arith, all_puts v.seen, all_puts w.seen, sum_by-append puts v.seen begins.rest)
 
 -- `HasAppended` holds of equal counts too.
-counted_as : (xs : List ℕ) (put got put' got' : ℕ) (v w : View ℕ) → put ≡ put' → got ≡ got'
-    → HasAppended publishes Index xs put got v w → HasAppended publishes Index xs put' got' v w
-counted_as xs put got put' got' v w p q appended = subst (λ (t : ℕ × ℕ). HasAppended publishes Index xs t.0 t.1 v w) (λ i. (p i, q i)) appended
+counted_as : {xs : List ℕ} {put got put' got' : ℕ} {v w : View ℕ} → HasAppended publishes Index xs put got v w → put ≡ put' → got ≡ got'
+    → HasAppended publishes Index xs put' got' v w
+counted_as {xs} {v = v} {w = w} appended p q = subst (λ (t : ℕ × ℕ). HasAppended publishes Index xs t.0 t.1 v w) (λ i. (p i, q i)) appended
 
 -- who takes a role has pushed nothing by that
 pub pushed_none : (all : List ℕ) (role : Role) (v w : View ℕ) → Goes v w → HasAcquired role true v w → HasPushedUpTo (take 0 all) [] v w
@@ -317,9 +328,8 @@ module _ (c : ℕ) (some : 0 < c) (xs back : List ℕ) (x : ℕ) (v w u : View �
         all = λ under. (let was = earlier under in
             record {
               added =
-                  counted_as (xs ++ x ∷ []) (length xs + 1) (length back + 0) (length (xs ++ x ∷ [])) (length back) v u
-                  (sym long) (omega arith)
-                  (appended_more publishes Index xs (length xs) (length back) v w u was.added goes.share x 1 0 done has_published.list);
+                  counted_as
+                  (appended_more was.added goes.share x done has_published.list) (sym long) (omega arith);
               returned = took_same by_push push_lasts back v w u was.returned goes.since;
             });
       }
@@ -335,9 +345,8 @@ module _ (c : ℕ) (some : 0 < c) (xs back : List ℕ) (x : ℕ) (v w u : View �
         all = λ under. (let was = earlier under in
             record {
               added =
-                  counted_as (xs ++ x ∷ []) (length xs + 1) (length back + 1) (length (xs ++ x ∷ []))
-                  (length (back ++ oldest ∷ [])) v u (sym long) (sym (length-append back (oldest ∷ [])))
-                  (appended_more publishes Index xs (length xs) (length back) v w u was.added goes.share x 1 1 done has_published.list);
+                  counted_as
+                  (appended_more was.added goes.share x done has_published.list) (sym long) (sym (length-append back (oldest ∷ [])));
               returned = push_wrote back x oldest v w u was.returned overflowed;
             });
       }
@@ -392,7 +401,7 @@ pushed_all all n back role v w u past k goes released is =
       share = goes.share ∙ k.share;
       all = λ under. (let was = k.all (omega (arith, ap length is)) in
           record {
-            added = appended_same publishes Index (take n all) (length (take n all)) (length back) v w u was.added goes.share done is;
+            added = appended_same was.added goes.share done is;
             returned = took_same by_push push_lasts back v w u was.returned goes.since;
           });
     })

@@ -41,10 +41,10 @@ module _ {T : Type 0} (m : Event T → List (Item T)) where
     nothing_more writes_none = grind (arith, length, as_many, none_more, flat_map-append)
 
 -- where a pop finds nothing, all that was published was taken
-pub all_taken : {T : Type 0} (code : Coding T) (kd : QueueKind) (capacity : ℕ) (old new : View T) → IsAll old.share
+pub all_taken : {T : Type 0} (code : Coding T) (kd : QueueKind) (capacity : ℕ) {old new : View T} → IsAll old.share
     → MissesNothing old → Goes old new → IsHistory code (machine_kind kd) capacity new.seen → HasPopped None old new
     → (published new.seen ≡ published old.seen) × (handed_out new.seen ≡ published new.seen)
-all_taken {T} code kd capacity old new all before goes history popping =
+all_taken {T} code kd capacity {old} {new} all before goes history popping =
     let party_there = popping.by in
     let events_then : List (Event T) =
     Begun party_there (Queues Pop) ∷ Acted party_there (Queues Pop) PoppedNone ∷ Finished party_there (Queues Pop) PoppedNone ∷ [] in

@@ -60,7 +60,7 @@ pub record HasPushedAll (xs back : List ℕ) (v w : View ℕ) : Type 0 where
   pub added : HasAppended publishes Index xs (length xs) (length back) v w
   pub returned : TookOut by_push back v w
 
--- From `v` to `w` the pass has pushed at most as many numbers as `xs` has. If the last position is not
+-- From `v` to `w` the pass has pushed at most as many numbers as `xs` has, and kept its share. If the last position is not
 -- reached, it has pushed just these, and got the numbers `back` handed back.
 pub record HasPushedUpTo (xs back : List ℕ) (v w : View ℕ) : Type 0 where
   pub few : sum_by puts w.made ≤ sum_by puts v.made + length xs

@@ -3,12 +3,12 @@ use Rattle.lock_free_sets.proofs.Names.{◌≡◌, ⊎_elim, true≢false, ◌==
 use Rattle.lock_free_sets.proofs.Names.{List, [], ◌∷◌, ◌++◌, map, refl, sym, ap, subst, ◌∙◌, arith, append_assoc, append-nil}
 use Rattle.lock_free_sets.proofs.Names.{map-append, FoldsTo, All, range_with_len, cases_lt, sum_by-cons, FoldsTo-push}
 use Rattle.lock_free_sets.proofs.Names.{All-nil, All-cons, All-push, All-weaker, all_pairs_push, element_of, elements, has_flag, After}
-use Rattle.lock_free_sets.proofs.Names.{Emptying, OneWord, Event, Finished, one_word, IsBitSet, fresh, SinceBegin}
-use Rattle.lock_free_sets.proofs.Names.{bits_go_on, View, events_by, At}
+use Rattle.lock_free_sets.proofs.Names.{Emptying, OneWord, Event, Finished, IsBitSet, fresh, SinceBegin}
+use Rattle.lock_free_sets.proofs.Names.{bits_go_on, View, events_by}
 use Rattle.std.specs.List.{filter, count_by}
 use Rattle.std.proofs.lemmas.List.Elements.{All-append, All-head, All-tail, filter-append}
 use Rattle.steps.specs.Bits.Places.{first_place, places_in}
-use Rattle.steps.specs.Bits.ResetAll.{all_bits, reset_all_after, reset_all_kept}
+use Rattle.steps.specs.Bits.ResetAll.{all_bits}
 use Rattle.steps.proofs.Flags.Places.{place_named}
 use Rattle.steps.specs.declared.ask.After.TheVariants.{GoOn, Done}
 use Rattle.model.specs.declared.event.Answer.TheVariants as answers
@@ -24,10 +24,9 @@ use Rattle.history.specs.Steps.{TakesAtMost}
 use Rattle.lock_free_sets.specs.Bits.Callable.{Ascends, Visited, TakesPlaces}
 use Rattle.lock_free_sets.specs.Driven.{HasMade, HasDone, IsIdle}
 use Rattle.lock_free_sets.specs.Sets.Kinds.{Flags}
-use Rattle.lock_free_sets.specs.Sets.Stages.{empties}
 use Rattle.lock_free_sets.specs.Bits.Contracts.{cleared_by, HasCleanedOut, MissedNoPlace, ResetAllDone}
 use Rattle.lock_free_sets.proofs.Ends.{before_end, to_end}
-use Rattle.lock_free_sets.proofs.Sets.Emptied.{emptying, Goes, Stepped, stepped, same_capacity, WroteSoFar}
+use Rattle.lock_free_sets.proofs.Sets.Emptied.{emptying, Stepped, TookStep, stepped, same_capacity, WroteSoFar}
 use Rattle.lock_free_sets.proofs.Sets.Emptied.{first_wrote, words_left, ends_all, wrote_on, wrote_all}
 use Rattle.lock_free_sets.proofs.Sets.Emptying.{goes_next}
 use Rattle.lock_free_sets.proofs.Steps.{bits_take}
@@ -143,10 +142,10 @@ clears_of_party b p [] = omega arith
 clears_of_party b p (e ∷ es) = clears_cons b e (events_by p es) es (is_party p (whose e)) (clears_of_party b p es)
 
 -- the word that a step cleared had no flag of a place past the capacity
-pub found_clear : (cap word : ℕ) (v w : View ℕ) (room : OneWord) → 1 ≤ word
+pub found_clear : {cap word : ℕ} {v w : View ℕ} {room : OneWord} → 1 ≤ word
     → (s : Stepped Flags v w word room) → v.capacity ≡ cap → (place : ℕ) → element_of place ≡ word
     → cap ≤ place → has_flag room.0 place ≡ false
-found_clear cap word v w room low s size place here past = go (has_flag room.0 place) refl
+found_clear {cap} {word} {v} {w} {room} low s size place here past = go (has_flag room.0 place) refl
   where
     h : IsBitSet s.history.trace
     h = bits_go_on s.history.trace s.history.run.of_kind s.history.run.reached
@@ -210,26 +209,25 @@ module _ {F : Type 0} (R : F → ℕ → F → Type 0) (cap : ℕ) (visit : F) w
         folds = refl;
       }
 
-  -- the call began at base and stands at c at v with room m, f is the closure; n is the word that
-  -- its step found, a how it goes on, w what the pass knows then
-  module _ (base v w : View ℕ) (c : Emptying) (m room : OneWord) (n : ℕ) (f : F)
-      (h : SoFar base v c m f) (kept : room ≡ reset_all_kept m n) (a : After Emptying (Unit {0}))
-      (goes_so : reset_all_after c n ≡ a)
-      (told : (b : View ℕ) → At one_word kinds.Bits (empties Flags) b v c m → Goes Flags b a room w) where
+-- The call began at base and stands at c at v with room m, f is the closure; its step came to `a` with this room, and w is
+-- what the pass knows then.
+module _ {F : Type 0} {R : F → ℕ → F → Type 0} {cap : ℕ} {visit : F} {base v w : View ℕ} {c : Emptying} {m room : OneWord} {f : F}
+    {a : After Emptying (Unit {0})} (h : SoFar R cap visit base v c m f) (step : TookStep Flags v w c m room a)
+  where
     -- The step emptied its word, in a machine of a bit set.
     its_step : Stepped Flags v w c.word room
-    its_step = stepped Flags base v w c m room n h.call.at a goes_so told
+    its_step = stepped Flags step.n h.call.at a step.goes_so step.told
 
     -- The first word has no flags, so the step was at a later one.
     low : 1 ≤ c.word
-    low = (words_left Flags cap (λ p. map (cleared_by p) h.places) base v c m h.call).1
+    low = (words_left Flags h.call).1
 
     -- a flag that was found is of a place below the capacity
     place_within : (place : ℕ) → first_place c.word ≤ place → place < first_place c.word + 64 → has_flag room.0 place ≡ true → place < cap
     place_within place from to stood =
         ⊎_elim (λ l. l)
         (λ past. absurd
-        (true≢false (sym stood ∙ found_clear cap c.word v w room low its_step (same_capacity Flags base v c m h.call.at ∙ h.call.size) place
+        (true≢false (sym stood ∙ found_clear low its_step (same_capacity Flags base v c m h.call.at ∙ h.call.size) place
         (let above = low in let is : element_of place ≡ c.word = omega arith in is) past)))
         (cases_lt place cap)
 
@@ -250,15 +248,12 @@ module _ {F : Type 0} (R : F → ℕ → F → Type 0) (cap : ℕ) (visit : F) w
     -- A reset that has ended took at most one step for each word of the set.
     pub cleared_steps : a ≡ Done tt → TakesAtMost (elements cap) base w
     cleared_steps is =
-        let wrote : ℕ → List (Event ℕ) = λ p. map (cleared_by p) h.places in
-        let left = words_left Flags cap wrote base v c m h.call in
+        let left = words_left Flags h.call in
         let most = left.0 in
         let above = left.1 in
         let below = left.2 in
-        let all =
-        ends_all Flags base v w c m room n wrote h.call.idle h.call.made h.call.at kept (goes_so ∙ is)
-        (λ b at. subst (λ z. Goes Flags b z room w) is (told b at)) in
-        bits_take (empties Flags) base w tt room h.call.idle cap h.call.size (omega arith) all.0
+        let all = ends_all Flags h.call step is in
+        bits_take h.call.idle h.call.size all.0 (omega arith)
 
     module _ (g : F) (visited : Visited R room.0 (first_place c.word) f 64 g) where
       -- The places that were cleared, with those of this word.
@@ -280,14 +275,14 @@ module _ {F : Type 0} (R : F → ℕ → F → Type 0) (cap : ℕ) (visit : F) w
       same_events p = sym (map-append (cleared_by p) h.places (places_in c.word room.0))
 
       -- where the call goes on to its next word, `SoFar` holds with the places that it has just cleared
-      pub so_far_on : (next : Emptying) → a ≡ GoOn next → SoFar base w next room g
-      so_far_on next is =
-          let word : next.word ≡ c.word + 1 = ap (λ (z : Emptying). z.word) (goes_next c n next (goes_so ∙ is)).0 in
+      pub so_far_on : {next : Emptying} → a ≡ GoOn next → SoFar R cap visit base w next room g
+      so_far_on {next} is =
+          let word : next.word ≡ c.word + 1 = ap (λ (z : Emptying). z.word) (goes_next c step.n next (step.goes_so ∙ is)).0 in
           record {
             places = all_places;
             call =
                 subst (λ z. WroteSoFar Flags cap z base w next room) (λ i p. same_events p i)
-                (wrote_on Flags cap (λ p. map (cleared_by p) h.places) base v c m h.call w room n kept a goes_so told next is);
+                (wrote_on Flags h.call step is);
             ascend = up;
             below = (
                 let above = low in
@@ -302,7 +297,7 @@ module _ {F : Type 0} (R : F → ℕ → F → Type 0) (cap : ℕ) (visit : F) w
       -- ascending order
       pub cleared_all : a ≡ Done tt → HasCleanedOut R cap visit g base w × HasDone kinds.Bits base w
       cleared_all is =
-          let all = wrote_all Flags cap (λ p. map (cleared_by p) h.places) base v c m h.call w room n kept a goes_so told is in (
+          let all = wrote_all Flags h.call step is in (
             record {
               places = all_places;
               ascend = up;

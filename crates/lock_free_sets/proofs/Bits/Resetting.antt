@@ -22,7 +22,7 @@ use Rattle.history.proofs.Sets.{bits_starts, set_effects, bits_owe}
 use Rattle.lock_free_sets.specs.Driven.{IsIdle}
 use Rattle.lock_free_sets.specs.Bits.Stages.{ResetStands, reset_so_far, reset_wrote, IsPlace, resets_next}
 use Rattle.lock_free_sets.specs.Bits.Contracts.{HasReset, AllClearOnce, CameFromPosition, ResetDone, ResetNothing}
-use Rattle.lock_free_sets.proofs.Ends.{has_made, before_end, to_end}
+use Rattle.lock_free_sets.proofs.Ends.{made_by, before_end, to_end}
 
 -- A place that the scan comes to is below the capacity.
 place_below : (cap start passed : ℕ) → start ≤ cap → passed < cap → place_after cap start passed < cap
@@ -152,7 +152,7 @@ module _ (base w : View ℕ) (o : Option ℕ) (m : Unit {0}) (idle : base.going 
   -- The reset is a call of the history, which cleared the place that it answers.
   cleared : HasReset o base w
   cleared =
-      has_made kinds.Bits resets_next base w o m ends idle (λ by. reset_wrote by o) (ends.tells.1 idle)
+      made_by ends idle (λ by. reset_wrote by o) (ends.tells.1 idle)
 
   -- A place that `reset_next` answers is below the capacity.
   place_in : IfSome o (λ place. place < base.capacity)

@@ -16,7 +16,7 @@ use Rattle.history.proofs.Sets.{bits_starts, set_effects, bits_owe}
 use Rattle.lock_free_sets.specs.Driven.{IsIdle}
 use Rattle.lock_free_sets.specs.Bits.Stages.{set_wrote, sets_place}
 use Rattle.lock_free_sets.specs.Bits.Contracts.{HasSet, StoodOnce, SetDone}
-use Rattle.lock_free_sets.proofs.Ends.{has_made, before_end, to_end}
+use Rattle.lock_free_sets.proofs.Ends.{made_by, before_end, to_end}
 
 module _ (place : ℕ) where
   -- The model's call goes on after each number that a step finds just as that of `steps`.
@@ -132,7 +132,7 @@ module _ (place : ℕ) where
     -- The set is a call of the history with its answer.
     added : HasSet place b base w
     added =
-        has_made kinds.Bits (sets_place place) base w b m ends idle (λ by. set_wrote by place b) ends.tells
+        made_by ends idle (λ by. set_wrote by place b) ends.tells
 
     -- a set that answers false met a moment at which the place stood
     stood : b ≡ false → StoodOnce place w

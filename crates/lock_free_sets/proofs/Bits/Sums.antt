@@ -14,7 +14,7 @@ use Rattle.laws_bits.proofs.Bits.Core.{sets_more, clears_more}
 use Rattle.lock_free_sets.specs.Bits.Contracts.{HasSet, StoodOnce, HasReset, AllClearOnce}
 use Rattle.lock_free_sets.proofs.Sums.{sum_made, sum_seen, same_last, reaches}
 
--- each place was set as often as it was cleared, or once more
+-- no place was cleared more often than it was set
 pub clears_within : (capacity : ℕ) (events : List (Event ℕ)) → IsHistory one_word kinds.Bits capacity events → (b : ℕ) → clears b events ≤ sets b events
 clears_within capacity events history b =
     let set : IsBitSet history.trace = bits_go_on history.trace history.run.of_kind history.run.reached in

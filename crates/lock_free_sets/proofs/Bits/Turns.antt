@@ -7,20 +7,19 @@ use Rattle.steps.specs.declared.bits.bit_set.ResetNextStage.TheVariants as stage
 use Rattle.threaded.specs.Driver.{Next}
 use Rattle.lock_free_sets.specs.Bits.Resetting.{ResetAt, ResetEnds, ResetMay, ResetGoes}
 
-module _ (v w : View ℕ) (call : ResetNext) (a : After ResetNext (Option ℕ)) (goes : ResetGoes v call a w) where
+-- the reset has taken a step, from `call` in the view `v`, behind which the view is `w`
+module _ (v w : View ℕ) (call : ResetNext) {a : After ResetNext (Option ℕ)} where
   -- Where a step has led to a next stage, the reset is under way at that stage.
-  pub gone_on : (base : View ℕ) (next : ResetNext) → a ≡ GoOn next → ResetAt base v call tt → ResetAt base w next tt
-  gone_on base next is at =
-      subst (λ z. Next (λ (x : View ℕ). x.capacity) ResetAt ResetEnds base z tt w) is (goes base at)
+  pub gone_on : {next : ResetNext} → a ≡ GoOn next → ResetGoes v call a w → {base : View ℕ} → ResetAt base v call tt → ResetAt base w next tt
+  gone_on is goes {base} at = subst (λ z. Next (λ (x : View ℕ). x.capacity) ResetAt ResetEnds base z tt w) is (goes base at)
 
   -- Where a step has ended the reset, it has ended with that answer.
-  pub has_ended : (base : View ℕ) (end : Option ℕ) → a ≡ Done end → ResetAt base v call tt → ResetEnds base end tt w
-  has_ended base end is at =
-      subst (λ z. Next (λ (x : View ℕ). x.capacity) ResetAt ResetEnds base z tt w) is (goes base at)
+  pub has_ended : {end : Option ℕ} → a ≡ Done end → ResetGoes v call a w → {base : View ℕ} → ResetAt base v call tt → ResetEnds base end tt w
+  has_ended is goes {base} at = subst (λ z. Next (λ (x : View ℕ). x.capacity) ResetAt ResetEnds base z tt w) is (goes base at)
 
   -- Where a step has led to a next stage, the reset may take a further step.
-  pub may_go_on : (next : ResetNext) → a ≡ GoOn next → ResetMay v call → ResetMay w next
-  may_go_on next is may = (may.0, gone_on may.0 next is may.1)
+  pub may_go_on : {next : ResetNext} → a ≡ GoOn next → ResetGoes v call a w → ResetMay v call → ResetMay w next
+  may_go_on is goes may = (may.0, gone_on is goes may.1)
 
 -- ---- a load of an element that is clear leads to the next place, or to no place
 

@@ -1,8 +1,8 @@
 -- Taking all counts out: the closure is called with just what the call takes.
 use Rattle.lock_free_sets.proofs.Names.{◌≡◌, ℕ, List, ◌+◌, ◌^◌, ◌<◌, [], ◌++◌, map, refl, sym, ap, subst, ◌∙◌, arith, map-append}
-use Rattle.lock_free_sets.proofs.Names.{All-nil, After, BitState, Emptying, OneWord, Event, Finished, one_word, IsCountingOn}
-use Rattle.lock_free_sets.proofs.Names.{fresh, SinceBegin, counts_go_on, View, At}
-use Rattle.steps.specs.Bits.ResetAll.{all_counts, reset_all_after, reset_all_kept}
+use Rattle.lock_free_sets.proofs.Names.{All-nil, After, BitState, Emptying, OneWord, Event, Finished, IsCountingOn}
+use Rattle.lock_free_sets.proofs.Names.{fresh, SinceBegin, counts_go_on, View}
+use Rattle.steps.specs.Bits.ResetAll.{all_counts}
 use Rattle.steps.specs.declared.ask.After.TheVariants.{GoOn, Done}
 use Rattle.model.specs.declared.event.Answer.TheVariants as answers
 use Rattle.model.specs.declared.turn.Kind.TheVariants as kinds
@@ -11,12 +11,11 @@ use Rattle.model.specs.Families.Bits.Steps.{take_events}
 use Rattle.history.specs.Steps.{TakesAtMost}
 use Rattle.lock_free_sets.specs.Driven.{HasMade, HasDone, IsIdle}
 use Rattle.lock_free_sets.specs.Sets.Kinds.{Counts}
-use Rattle.lock_free_sets.specs.Sets.Stages.{empties}
 use Rattle.lock_free_sets.specs.Counts.Contracts.{taken_by, HasTakenOut, MissedNoCount, ResetAllDone}
 use Rattle.lock_free_sets.proofs.Ends.{before_end, to_end}
 use Rattle.lock_free_sets.proofs.Sets.Emptying.{goes_next}
 use Rattle.lock_free_sets.proofs.Steps.{counts_take}
-use Rattle.lock_free_sets.proofs.Sets.Emptied.{emptying, Goes, WroteSoFar, first_wrote, words_left, ends_all, wrote_on, wrote_all}
+use Rattle.lock_free_sets.proofs.Sets.Emptied.{emptying, TookStep, WroteSoFar, first_wrote, words_left, ends_all, wrote_on, wrote_all}
 use Rattle.lock_free_sets.proofs.Counts.Handed.{Counted, none_counted, none_states, counted_found, found, found_events}
 
 module _ {F : Type 0} (R : F → BitState → F → Type 0) (cap : ℕ) (visit : F) where
@@ -36,27 +35,27 @@ module _ {F : Type 0} (R : F → BitState → F → Type 0) (cap : ℕ) (visit :
             (λ i p. sym (ap (map (taken_by p)) (none_states R cap visit 0)) i) (first_wrote Counts cap v idle some);
       }
 
-  -- the call began at base and stands at c at v with room m, f is the closure; n is the word that
-  -- its step found, a how it goes on, w what the pass knows then
-  module _ (base v w : View ℕ) (c : Emptying) (m room : OneWord) (n : ℕ) (f : F)
-      (h : SoFar base v c m f) (kept : room ≡ reset_all_kept m n) (a : After Emptying (Unit {0}))
-      (goes_so : reset_all_after c n ≡ a)
-      (told : (b : View ℕ) → At one_word kinds.Counts (empties Counts) b v c m → Goes Counts b a room w) where
+-- The call began at base and stands at c at v with room m, f is the closure; its step came to `a` with this room, and w is
+-- what the pass knows then.
+module _ {F : Type 0} {R : F → BitState → F → Type 0} {cap : ℕ} {visit : F} {base v w : View ℕ} {c : Emptying} {m room : OneWord} {f : F}
+    {a : After Emptying (Unit {0})} (h : SoFar R cap visit base v c m f) (step : TookStep Counts v w c m room a)
+  where
     -- The word of the step is one of a place.
     pub within : c.word < cap
-    within = grind (arith, words_left, map, taken_by)
+    within =
+        let left = words_left Counts h.call in
+        let end = left.0 in
+        let below = left.2 in
+        omega arith
 
     -- A call that has emptied the set took at most one step for each place.
     pub taken_steps : a ≡ Done tt → TakesAtMost cap base w
     taken_steps is =
-        let wrote : ℕ → List (Event ℕ) = λ p. map (taken_by p) h.handed.states in
-        let left = words_left Counts cap wrote base v c m h.call in
+        let left = words_left Counts h.call in
         let most = left.0 in
         let below = left.2 in
-        let all =
-        ends_all Counts base v w c m room n wrote h.call.idle h.call.made h.call.at kept (goes_so ∙ is)
-        (λ b at. subst (λ z. Goes Counts b z room w) is (told b at)) in
-        counts_take (empties Counts) base w tt room h.call.idle cap h.call.size (omega arith) all.0
+        let all = ends_all Counts h.call step is in
+        counts_take h.call.idle h.call.size all.0 (omega arith)
 
     module _ (small : room.0 < 2 ^ 64) (g : F) (hit : 0 < room.0 → R f (record { bit = c.word; count = room.0 }) g) (miss : room.0 ≡ 0 → g ≡ f) where
       -- With the count of this word, if there is one, the closure was called with all counts
@@ -69,26 +68,26 @@ module _ {F : Type 0} (R : F → BitState → F → Type 0) (cap : ℕ) (visit :
       same_events p = grind (arith, map, taken_by, found_events, map-append, found, next_handed)
 
       -- where the call goes on to its next word, `SoFar` holds with the count that it has just taken out
-      pub so_far_on : (next : Emptying) → a ≡ GoOn next → SoFar base w next room g
-      so_far_on next is =
+      pub so_far_on : {next : Emptying} → a ≡ GoOn next → SoFar R cap visit base w next room g
+      so_far_on {next} is =
           record {
             handed = moved.0;
             call =
                 subst (λ z. WroteSoFar Counts cap z base w next room) (λ i p. (same_events p ∙ ap (map (taken_by p)) (sym moved.1)) i)
-                (wrote_on Counts cap (λ p. map (taken_by p) h.handed.states) base v c m h.call w room n kept a goes_so told next is);
+                (wrote_on Counts h.call step is);
           }
         where
           -- The counts that were handed out, read as those below the next word.
           moved : (x : Counted R cap next.word visit g) × (x.states ≡ next_handed.0.states)
           moved =
               subst (λ k. (x : Counted R cap k visit g) × (x.states ≡ next_handed.0.states))
-              (sym (ap (λ (z : Emptying). z.word) (goes_next c n next (goes_so ∙ is)).0)) (next_handed.0, refl)
+              (sym (ap (λ (z : Emptying). z.word) (goes_next c step.n next (step.goes_so ∙ is)).0)) (next_handed.0, refl)
 
       -- where the call ends, it has taken out just the counts that the closure was called with, in
       -- ascending order
       pub taken_all : a ≡ Done tt → HasTakenOut R cap visit g base w × HasDone kinds.Counts base w
       taken_all is =
-          let all = wrote_all Counts cap (λ p. map (taken_by p) h.handed.states) base v c m h.call w room n kept a goes_so told is in (
+          let all = wrote_all Counts h.call step is in (
             record {
               states = next_handed.0.states;
               ascend = next_handed.0.ascend;

@@ -3,7 +3,7 @@ use Rattle.lock_free_sets.proofs.Names.{◌≡◌, inl, ℕ, ◌+◌, ◌<◌, �
 use Rattle.lock_free_sets.proofs.Names.{◌∙◌, arith, After, Emptying, OneWord, Event, Begun, Finished, Start, Bits, ResetAll}
 use Rattle.lock_free_sets.proofs.Names.{one_word, opening_of, first_of, fresh, View, IsHistory, At, Ends, called}
 use Rattle.std.proofs.Common.{inr}
-use Rattle.steps.specs.Bits.ResetAll.{reset_all_after, reset_all_kept}
+use Rattle.steps.specs.Bits.ResetAll.{reset_all_after}
 use Rattle.steps.specs.declared.ask.After.TheVariants.{GoOn, Done}
 use Rattle.model.specs.declared.event.Answer.TheVariants as answers
 use Rattle.threaded.specs.Driver.{Next}
@@ -13,7 +13,7 @@ use Rattle.history.proofs.Made.{MadeSoFar, made_with, made_more, same_between}
 use Rattle.lock_free_sets.specs.Driven.{HasMade, HasDone, IsIdle}
 use Rattle.lock_free_sets.specs.Sets.Kinds.{SetKind, Flags, Counts, machine_kind, first_word, words_of}
 use Rattle.lock_free_sets.specs.Sets.Stages.{all_words, flight_word, word_of, flight_at, emptied, empties}
-use Rattle.lock_free_sets.proofs.Ends.{done, has_made}
+use Rattle.lock_free_sets.proofs.Ends.{done, made_by}
 use Rattle.lock_free_sets.proofs.Sets.Emptying.{goes_next, ends_last, begins, first_at}
 
 -- The begin of a call that empties a set.
@@ -82,73 +82,19 @@ module _ (kind : SetKind) where
   pub same_capacity : (base v : View ℕ) (c : Emptying) (m : OneWord) → AtWord base v c m → v.capacity ≡ base.capacity
   same_capacity base v c m at_word = grind arith
 
-  -- Of one step of the call: it began in the view base and stands at c in v with room m; n is the word
-  -- that the step found, w what the pass knows after it, and f what was written before.
-  module _ (base v w : View ℕ) (c : Emptying) (m room : OneWord) (n : ℕ) (f : ℕ → List (Event ℕ))
-      (idle : base.going ≡ None) (so_far : MadeSoFar emptying base v f) (at : AtWord base v c m)
-      (kept : room ≡ reset_all_kept m n) where
-    -- What emptying this word writes.
-    abbrev more : ℕ → List (Event ℕ)
-    more p = emptied kind p c.word room.0
-
-    -- The flight in the view stands at the word of the call.
-    from : word_of (first_word kind) v.going ≡ c.word
-    from = word_now v v c m refl (itself base v c m at)
-
-    -- A step that leads to the next word has made what was made before it, and what the
-    -- emptying of its word wrote.
-    pub goes_on : (next : Emptying) → reset_all_after c n ≡ GoOn next
-        → ((b : View ℕ) → AtWord b v c m → AtWord b w next room)
-        → MadeSoFar emptying base w (λ p. f p ++ emptied kind p c.word room.0) × AtWord base w next room
-    goes_on next e told = (go (told v (itself base v c m at)), told base at)
-      where
-        -- The next word is one further.
-        word : next.word ≡ c.word + 1
-        word = ap (λ (z : Emptying). z.word) (goes_next c n next e).0
-
-        -- the pass has made what it had made, and what emptying this word wrote
-        go : AtWord v w next room → MadeSoFar emptying base w (λ p. f p ++ emptied kind p c.word room.0)
-        go (inl now) =
-            let none = begins_at kind v.capacity next room now.first in
-            let low = (stands base v c m at).1 in
-            let further = word in
-            absurd (omega arith)
-        go (inr under) =
-            let is : under.wrote ≡ more under.party = under.tells.2 (word ∙ ap (λ z. z + 1) (sym from)) ∙ ap (λ z. emptied kind under.party z room.0) from in
-            made_more emptying base v w f more under.wrote under.party (flight_at kind next room) idle so_far under.same under.mine under.going under.since is
-
-    -- The step at the last word ends the call, which wrote what was written before, and what the
-    -- emptying of that word wrote.
-    pub ends_all : reset_all_after c n ≡ Done tt → ((b : View ℕ) → AtWord b v c m → EndsAll b tt room w)
-        → (ends : EndsAll base tt room w) × (ends.wrote ≡ f ends.party ++ emptied kind ends.party c.word room.0)
-    ends_all e told =
-        let here = told v (itself base v c m at) in
-        let all = told base at in
-        let far = ends_last c n tt e in
-        let mine = stands v v c m (itself base v c m at) in
-        -- The call stands at the last word, so its step writes what emptying this word writes.
-        let last : word_of (first_word kind) v.going + 1 ≡ words_of kind v.capacity = (let w = from in let i = mine.2 in let e = mine.0 in omega arith) in
-        let is : here.wrote ≡ more here.party = here.tells last ∙ ap (λ z. emptied kind here.party z room.0) from in
-        let same : here.party ≡ all.party = (let both : Some here.party ≡ Some all.party = sym here.mine ∙ all.mine in cc) in
-        -- What the pass made is its begin, what was written before, what this step wrote, and its end.
-        let one : w.made ≡ base.made ++ Begun here.party emptying ∷ ((f here.party ++ more here.party) ++ Finished here.party emptying answers.Done ∷ []) =
-        made_with emptying base v w f more (Finished here.party emptying answers.Done ∷ []) here.wrote here.party idle so_far here.same here.since is
-        in
-        let mine_all = called one_word (machine_kind kind) (empties kind) base w tt room idle all in
-        let two : w.made ≡ base.made ++ Begun all.party emptying ∷ ((f all.party ++ more all.party) ++ Finished all.party emptying answers.Done ∷ []) =
-        subst (λ p. w.made ≡ base.made ++ Begun p emptying ∷ ((f p ++ more p) ++ Finished p emptying answers.Done ∷ [])) same one
-        in (
-          all,
-          same_between base.made all.wrote (f all.party ++ more all.party) (Begun all.party emptying)
-              (Finished all.party emptying answers.Done) (sym mine_all.made ∙ two),
-        )
+  -- One step of the call, which stood at c in the view v with room m: it found the word n, came to `a` with
+  -- this room, and w is what the pass knows after it.
+  pub record TookStep (v w : View ℕ) (c : Emptying) (m room : OneWord) (a : After Emptying (Unit {0})) : Type 0 where
+    pub n : ℕ
+    pub goes_so : reset_all_after c n ≡ a
+    pub told : (b : View ℕ) → AtWord b v c m → Goes b a room w
 
   -- a step of the call on a word has written what emptying this word writes, and the pass knows the
   -- history up to it
-  pub stepped : (base v w : View ℕ) (c : Emptying) (m room : OneWord) (n : ℕ)
+  pub stepped : {base v w : View ℕ} {c : Emptying} {m room : OneWord} (n : ℕ)
       → AtWord base v c m → (a : After Emptying (Unit {0})) → reset_all_after c n ≡ a
       → ((b : View ℕ) → AtWord b v c m → Goes b a room w) → Stepped kind v w c.word room
-  stepped base v w c m room n at (GoOn next) e told = go (told v mine)
+  stepped {base} {v} {w} {c} {m} {room} n at (GoOn next) e told = go (told v mine)
     where
       mine : AtWord v v c m
       mine = itself base v c m at
@@ -176,7 +122,7 @@ module _ (kind : SetKind) where
             history = under.history;
           }
   -- the case that the step was the last one: the call has ended, too
-  stepped base v w c m room n at (Done end) e told =
+  stepped {base} {v} {w} {c} {m} {room} n at (Done end) e told =
       let mine = itself base v c m at in
       let here = told v mine in
       let from = word_now v v c m refl mine in
@@ -197,30 +143,76 @@ module _ (kind : SetKind) where
   first_wrote cap v is_idle cap_positive = grind (arith, all_words, fresh, first_at)
 
   -- the call began at base and stands at c at v with room m
-  module _ (cap : ℕ) (wrote : ℕ → List (Event ℕ)) (base v : View ℕ) (c : Emptying) (m : OneWord) (h : WroteSoFar kind cap wrote base v c m) where
+  module _ {cap : ℕ} {wrote : ℕ → List (Event ℕ)} {base v : View ℕ} {c : Emptying} {m : OneWord} (h : WroteSoFar kind cap wrote base v c m) where
     -- The call stands at a word that has places, and ends behind the last word.
     pub words_left : (c.end ≡ words_of kind cap) × (first_word kind ≤ c.word) × (c.word < c.end)
     words_left = grind (arith, words_of, first_word, stands)
 
-    -- n is the word that its step found, a how it goes on, w what the pass knows then
-    module _ (w : View ℕ) (room : OneWord) (n : ℕ) (kept : room ≡ reset_all_kept m n) (a : After Emptying (Unit {0}))
-        (goes_so : reset_all_after c n ≡ a) (told : (b : View ℕ) → AtWord b v c m → Goes b a room w) where
+    -- its step came to `a`, with this room, and w is what the pass knows then
+    module _ {w : View ℕ} {room : OneWord} {a : After Emptying (Unit {0})} (step : TookStep v w c m room a) where
+      -- What emptying this word writes.
+      abbrev more : ℕ → List (Event ℕ)
+      more p = emptied kind p c.word room.0
+
+      -- The flight in the view stands at the word of the call.
+      from : word_of (first_word kind) v.going ≡ c.word
+      from = word_now v v c m refl (itself base v c m h.at)
+
       -- where the call goes on to the next word, it has written what it had, and what emptying
       -- this word wrote
-      pub wrote_on : (next : Emptying) → a ≡ GoOn next → WroteSoFar kind cap (λ p. wrote p ++ emptied kind p c.word room.0) base w next room
-      wrote_on next is =
-          let on =
-          goes_on base v w c m room n wrote h.idle h.made h.at kept next (goes_so ∙ is)
-          (λ b at. subst (λ z. Goes b z room w) is (told b at)) in
-          record { at = on.1; size = h.size; idle = h.idle; made = on.0 }
+      pub wrote_on : {next : Emptying} → a ≡ GoOn next → WroteSoFar kind cap (λ p. wrote p ++ emptied kind p c.word room.0) base w next room
+      wrote_on {next} is =
+          let told : (b : View ℕ) → AtWord b v c m → AtWord b w next room = λ b at. subst (λ z. Goes b z room w) is (step.told b at) in
+          record { at = told base h.at; size = h.size; idle = h.idle; made = go (told v (itself base v c m h.at)) }
+        where
+          -- The next word is one further.
+          word : next.word ≡ c.word + 1
+          word = ap (λ (z : Emptying). z.word) (goes_next c step.n next (step.goes_so ∙ is)).0
+
+          -- the pass has made what it had made, and what emptying this word wrote
+          go : AtWord v w next room → MadeSoFar emptying base w (λ p. wrote p ++ emptied kind p c.word room.0)
+          go (inl now) =
+              let none = begins_at kind v.capacity next room now.first in
+              let low = (stands base v c m h.at).1 in
+              let further = word in
+              absurd (omega arith)
+          go (inr under) =
+              let is : under.wrote ≡ more under.party = under.tells.2 (word ∙ ap (λ z. z + 1) (sym from)) ∙ ap (λ z. emptied kind under.party z room.0) from in
+              made_more emptying base v w wrote more under.wrote under.party (flight_at kind next room) h.idle h.made under.same under.mine under.going
+              under.since is
+
+      -- The step at the last word ends the call, which wrote what was written before, and what the
+      -- emptying of that word wrote.
+      pub ends_all : a ≡ Done tt → (ends : EndsAll base tt room w) × (ends.wrote ≡ wrote ends.party ++ emptied kind ends.party c.word room.0)
+      ends_all is =
+          let told : (b : View ℕ) → AtWord b v c m → EndsAll b tt room w = λ b at. subst (λ z. Goes b z room w) is (step.told b at) in
+          let here = told v (itself base v c m h.at) in
+          let all = told base h.at in
+          let far = ends_last c step.n tt (step.goes_so ∙ is) in
+          let mine = stands v v c m (itself base v c m h.at) in
+          -- The call stands at the last word, so its step writes what emptying this word writes.
+          let last : word_of (first_word kind) v.going + 1 ≡ words_of kind v.capacity = (let w = from in let i = mine.2 in let e = mine.0 in omega arith) in
+          let is : here.wrote ≡ more here.party = here.tells last ∙ ap (λ z. emptied kind here.party z room.0) from in
+          let same : here.party ≡ all.party = (let both : Some here.party ≡ Some all.party = sym here.mine ∙ all.mine in cc) in
+          -- What the pass made is its begin, what was written before, what this step wrote, and its end.
+          let one : w.made ≡ base.made ++ Begun here.party emptying ∷ ((wrote here.party ++ more here.party) ++ Finished here.party emptying answers.Done ∷ [])
+          =
+          made_with emptying base v w wrote more (Finished here.party emptying answers.Done ∷ []) here.wrote here.party h.idle h.made here.same here.since is
+          in
+          let mine_all = called one_word (machine_kind kind) (empties kind) base w tt room h.idle all in
+          let two : w.made ≡ base.made ++ Begun all.party emptying ∷ ((wrote all.party ++ more all.party) ++ Finished all.party emptying answers.Done ∷ []) =
+          subst (λ p. w.made ≡ base.made ++ Begun p emptying ∷ ((wrote p ++ more p) ++ Finished p emptying answers.Done ∷ [])) same one
+          in (
+            all,
+            same_between base.made all.wrote (wrote all.party ++ more all.party) (Begun all.party emptying)
+                (Finished all.party emptying answers.Done) (sym mine_all.made ∙ two),
+          )
 
       -- where the call ends, it wrote what it had, and what emptying the last word wrote
       pub wrote_all : a ≡ Done tt
           → HasMade emptying answers.Done (λ p. wrote p ++ emptied kind p c.word room.0) base w × HasDone (machine_kind kind) base w
       wrote_all is =
-          let all =
-          ends_all base v w c m room n wrote h.idle h.made h.at kept (goes_so ∙ is)
-          (λ b at. subst (λ z. Goes b z room w) is (told b at)) in (
-            has_made (machine_kind kind) (empties kind) base w tt room all.0 h.idle (λ p. wrote p ++ emptied kind p c.word room.0) all.1,
+          let all = ends_all is in (
+            made_by all.0 h.idle (λ p. wrote p ++ emptied kind p c.word room.0) all.1,
             done (machine_kind kind) (empties kind) (λ o p h. h) base w tt room all.0,
           )

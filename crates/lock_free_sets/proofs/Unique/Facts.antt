@@ -27,14 +27,14 @@ use Rattle.history.proofs.Indices.{is_index_set}
 use Rattle.history.proofs.Locks.{not_locked}
 use Rattle.history.proofs.OneHolder.{first_wrote}
 use Rattle.lock_free_sets.specs.Unique.Held.{HoldsNothing, IsSound}
-use Rattle.lock_free_sets.proofs.Ends.{has_made, aside_most}
+use Rattle.lock_free_sets.proofs.Ends.{has_made, made_by, aside_most}
 use Rattle.lock_free_sets.proofs.Unique.Machine.{holds_right, none_held, held_within}
 use Rattle.lock_free_sets.specs.UniqueIndexSet.{SetId, capacity_of, set_of, view, IsPassOf, SamePass}
 use Rattle.lock_free_sets.specs.declared.mpmc.unique_index_set.Pass.{Pass}
 use Rattle.lock_free_sets.specs.declared.mpmc.unique_index_set.UniqueIndexSet.{UniqueIndexSet}
 use Rattle.lock_free_sets.specs.Unique.Contracts.{HasTaken, HasGiven, HasGivenOrLocked, HasCounted, HasLooked, WasFree, Answered}
 
--- what a pass freed it had claimed, it holds each index once, and none once it has seen the lock
+-- what a pass freed it had claimed, it holds each index once, each below the capacity, and none once it has seen the lock
 pub sound : (capacity : ℕ) (v : View ℕ) → v.capacity ≡ capacity → IsHistory one_word kinds.Indices capacity v.seen → IsOfParties v → IsSound v
 sound capacity v same history parties =
     let once = λ (i : ℕ). holds_once history.trace.world.capacity i v (holds_right capacity v.seen history) parties in
@@ -156,7 +156,7 @@ module _ (base w : View ℕ) (m : Unit {0}) (idle : base.going ≡ None) where
   -- An acquire that has ended is a call of the history with its answer.
   pub taken : (answer : Acquired) → Ends one_word kinds.Indices takes_index base answer m w → HasTaken answer base w
   taken answer ends =
-      has_made kinds.Indices takes_index base w answer m ends idle (λ by. claimed_by by answer) ends.tells
+      made_by ends idle (λ by. claimed_by by answer) ends.tells
 
   module _ (i : ℕ) (ends : Ends one_word kinds.Indices takes_index base (Ok i) m w) where
     -- an index that was acquired had no holder at its claim, it lies below the capacity, and the
@@ -214,12 +214,12 @@ module _ (base w : View ℕ) (m : Unit {0}) (idle : base.going ≡ None) where
   -- A count of the borrowed indices that has ended is a call of the history.
   pub counted : (n : ℕ) → Ends one_word kinds.Indices counts_out base n m w → HasCounted n base w
   counted n ends =
-      has_made kinds.Indices counts_out base w n m ends idle (λ by. []) ends.tells
+      made_by ends idle (λ by. []) ends.tells
 
   -- A call of `is_locked` that has ended is a call of the history.
   pub looked : (b : Bool) → Ends one_word kinds.Indices looks_locked base b m w → HasLooked b base w
   looked b ends =
-      has_made kinds.Indices looks_locked base w b m ends idle (λ by. []) ends.tells
+      made_by ends idle (λ by. []) ends.tells
 
   -- A release that may not lock answers Unlocked.
   pub unlocked : (index : ℕ) (state : ReleaseState) → Ends one_word kinds.Indices (gives_index index) base state m w → state ≡ Unlocked

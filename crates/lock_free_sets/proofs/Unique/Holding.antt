@@ -198,24 +198,22 @@ held_apart is v sound held = go is (λ i. (let was = held i in let most = sound.
 pub lock_apart : (v other w : View ℕ) → IsSound v → IsSound other → IsSound w → w.made ≡ v.made ++ other.made
     → (seen : List (Event ℕ)) → IsBeginning seen w.seen → is_locked seen ≡ true
     → HoldsNothing v.made × HoldsNothing other.made
-lock_apart v other w low low' sound is seen since shut = (
-  λ i. (let both_none = none i in
-      let a = low.least i in
-      let b = low'.least i in
-      let c = sum_by-append (claims i) v.made other.made in
-      let d = sum_by-append (frees i) v.made other.made in
-      omega arith),
-  λ i. (let both_none = none i in
-      let a = low.least i in
-      let b = low'.least i in
-      let c = sum_by-append (claims i) v.made other.made in
-      let d = sum_by-append (frees i) v.made other.made in
-      omega arith),
-)
+lock_apart v other w mine theirs sound is seen since shut = (λ i. (neither i).0, λ i. (neither i).1)
   where
     -- Both passes together hold nothing.
     none : HoldsNothing (v.made ++ other.made)
     none = subst HoldsNothing is (sound.lock (lock_stays since shut))
+
+    -- No pass has given an index back more often than it took it, and both together hold none: so neither holds one.
+    neither : (i : ℕ) → (times i [] + sum_by (frees i) v.made ≡ sum_by (claims i) v.made)
+        × (times i [] + sum_by (frees i) other.made ≡ sum_by (claims i) other.made)
+    neither i =
+        let both_none = none i in
+        let a = mine.least i in
+        let b = theirs.least i in
+        let c = sum_by-append (claims i) v.made other.made in
+        let d = sum_by-append (frees i) v.made other.made in
+        (omega arith, omega arith)
 
 -- who took an index had not seen the lock
 pub free_unlocked : (i : ℕ) (v w : View ℕ) → WasFree i v w → is_locked v.seen ≡ false

@@ -55,7 +55,7 @@ impl<T: Words> Drop for UnrestrictedAtomic<T> {
 }
 
 /// A seat at a value's table, with no call under way. Its facts say how many words the table has, that the
-/// seat has a share, and that what it has seen is a history that begins with a store. The rule Q is a
+/// seat has a share, and that what it has seen is a history with at least one store. The rule Q is a
 /// parameter, since else `sized` could not name `T::WORDS`.
 pub struct Held<T: Words, Q: TableRule<(), View<T>, Origin<T>>> {
     pub seated: Seated<View<T>, Origin<T>, Q>,

@@ -19,9 +19,10 @@ module _ {T : Type 0} where
   abbrev pub entry_at : ℕ → ℕ → Start T → Option (Response T) → Answer T → Call T × Answer T
   entry_at place p start response answer = (call_at place p start response, answer)
 
-  pub same_entry : (m n p q : ℕ) (s t : Start T) (x y : Option (Response T)) (a b : Answer T) → m ≡ n → p ≡ q
+  -- Entries are equal whose places, parties, starts, responses and answers are.
+  pub same_entry : {m n p q : ℕ} {s t : Start T} {x y : Option (Response T)} {a b : Answer T} → m ≡ n → p ≡ q
       → s ≡ t → x ≡ y → a ≡ b → entry_at m p s x a ≡ entry_at n q t y b
-  same_entry m n p q s t x y a b same_place same_party same_start same_reply i = rw (same_place, same_party, same_start, same_reply, i) refl
+  same_entry same_place same_party same_start same_reply same_answer = rw (same_place, same_party, same_start, same_reply, same_answer) refl
 
   -- the parts of what is known, at None these
   abbrev pub name_in : Start T → Standing T → Start T
@@ -142,100 +143,99 @@ module _ {T : Type 0} (is_call : Start T → Bool) where
       → x ≡ Some (call, acted) → is_call call ≡ true → Ends start answer x → acted ≡ Some answer
   ends_as = grind arith
 
-  -- a call that has acted ends with that answer
-  pub told : (p : ℕ) (start : Start T) (answer : Answer T) (r : Response T) (es : List (Event T)) (place : ℕ) (going : ℕ → Standing T)
-      → is_call start ≡ true → going p ≡ Some (start, Some answer) → ActsOnce es going → response_in p es place ≡ Some r
-      → answer ≡ r.answer
-  told p start answer r [] place going of_object is once e = absurd (cc)
-  told p start answer r (Begun q s ∷ es) place going of_object is once e =
-      ⊎_elim (λ (same : p ≡ q). let clash : None ≡ Some (start, Some answer) = sym once.0 ∙ (sym (ap going same) ∙ is) in absurd (cc))
-      (λ (ne : p ≢ q). told p start answer r es (place + 1) (put q (Some (s, None)) going) of_object (put_other q p (Some (s, None)) going ne ∙ is) once.1 e)
-      (cases_eq p q)
-  told p start answer r (Acted q s a ∷ es) place going of_object is once e =
-      ⊎_elim (λ (same : p ≡ q). absurd (acted_clash start s answer (sym is ∙ (ap going same ∙ once.0))))
-      (λ (ne : p ≢ q). told p start answer r es (place + 1) (put q (Some (s, Some a)) going) of_object
-      (put_other q p (Some (s, Some a)) going ne ∙ is) once.1 e)
-      (cases_eq p q)
-  told p start answer r (Finished q s a ∷ es) place going of_object is once e =
-      ⊎_elim mine
-      (λ (ne : q ≢ p). told p start answer r es (place + 1) (put q None going) of_object
-      (put_other q p None going (λ h. ne (sym h)) ∙ is) once.1 (sym (passed p q s a es place ne) ∙ e))
-      (cases_eq q p)
-    where
-      -- the end of the call is here: it has the answer that the call acted with
-      mine : q ≡ p → answer ≡ r.answer
-      mine same =
-          let here : Some answer ≡ Some a = ends_as s a (going q) start (Some answer) (ap going same ∙ is) of_object once.0 in
-          let its : response_at place a ≡ r = same_response (response_at place a) r (sym (responded p q s a es place same) ∙ e) in
-          let last : a ≡ r.answer = ap (λ (r : Response T). r.answer) its in
-          cc
-  told p start answer r (e ∷ es) place going of_object is once responds = told p start answer r es (place + 1) going of_object is once responds
+  -- ---- the call `start` of the object, of party `p`, whose response is `r`: it acts before it ends, with the answer of `r`
 
-  -- a call that has not acted yet acts before it ends
-  pub acts_before : (p : ℕ) (start : Start T) (r : Response T) (es : List (Event T)) (place : ℕ)
-      (going : ℕ → Standing T) (begun : ℕ → ℕ)
-      → is_call start ≡ true → going p ≡ Some (start, None) → ActsOnce es going → response_in p es place ≡ Some r
-      → Contains (order_in es place begun) (entry_at (begun p) p start (Some r) r.answer)
-  acts_before p start r [] place going begun of_object going_is once e = absurd (cc)
-  acts_before p start r (Begun q s ∷ es) place going begun of_object going_is once e =
-      ⊎_elim (λ (same : p ≡ q). let clash : None ≡ Some (start, None) = sym once.0 ∙ (sym (ap going same) ∙ going_is) in absurd (cc))
-      (λ (ne : p ≢ q).
-      subst (λ n. Contains (order_in es (place + 1) (put q place begun)) (entry_at n p start (Some r) r.answer)) (put_other q p place begun ne)
-      (acts_before p start r es (place + 1) (put q (Some (s, None)) going) (put q place begun) of_object
-      (put_other q p (Some (s, None)) going ne ∙ going_is) once.1 e))
-      (cases_eq p q)
-  acts_before p start r (Acted q s a ∷ es) place going begun of_object going_is once e =
-      ⊎_elim mine
-      (λ (ne : p ≢ q).
-      later (is_call s) (entry_at (begun q) q s (response_in q es (place + 1)) a) (entry_at (begun p) p start (Some r) r.answer) (order_in es (place + 1) begun)
-      (acts_before p start r es (place + 1) (put q (Some (s, Some a)) going) begun of_object (put_other q p (Some (s, Some a)) going ne ∙ going_is) once.1 e))
-      (cases_eq p q)
-    where
-      -- The case that the act is of the call's own party.
-      mine : p ≡ q → Contains (order_in (Acted q s a ∷ es) place begun) (entry_at (begun p) p start (Some r) r.answer)
-      mine same =
-          let whole : Some (s, None) ≡ Some (start, None) = sym once.0 ∙ (sym (ap going same) ∙ going_is) in
-          let name : s ≡ start = ap (name_in s) whole in
-          let now : put q (Some (s, Some a)) going p ≡ Some (start, Some a) =
-          ap (put q (Some (s, Some a)) going) same ∙ (put_same q (Some (s, Some a)) going ∙ ap (λ (n : Start T). Some (n, Some a)) name)
-          in
-          let its : a ≡ r.answer = told p start a r es (place + 1) (put q (Some (s, Some a)) going) of_object now once.1 e in
-          first (is_call s) (entry_at (begun q) q s (response_in q es (place + 1)) a)
-          (entry_at (begun p) p start (Some r) r.answer) (order_in es (place + 1) begun)
-          (ap is_call name ∙ of_object)
-          (same_entry (begun q) (begun p) q p s start (response_in q es (place + 1)) (Some r) a r.answer
-          (sym (ap begun same)) (sym same) name (ap (λ n. response_in n es (place + 1)) (sym same) ∙ e) its)
-  acts_before p start r (Finished q s a ∷ es) place going begun of_object going_is once e =
-      ⊎_elim (λ (same : q ≡ p). let clash : None ≡ Some a = ends_as s a (going q) start None (ap going same ∙ going_is) of_object once.0 in absurd (cc))
-      (λ (ne : q ≢ p). acts_before p start r es (place + 1) (put q None going) begun of_object
-      (put_other q p None going (λ h. ne (sym h)) ∙ going_is) once.1 (sym (passed p q s a es place ne) ∙ e))
-      (cases_eq q p)
-  acts_before p start r (e ∷ es) place going begun of_object going_is once h = acts_before p start r es (place + 1) going begun of_object going_is once h
+  module _ (p : ℕ) (start : Start T) (r : Response T) (of_object : is_call start ≡ true) where
+    -- Where the call has acted with `answer`, its response has that answer.
+    pub told : (answer : Answer T) (es : List (Event T)) (place : ℕ) (going : ℕ → Standing T)
+        → going p ≡ Some (start, Some answer) → ActsOnce es going → response_in p es place ≡ Some r → answer ≡ r.answer
+    told answer [] place going has_acted once responds = absurd (cc)
+    told answer (Begun q s ∷ es) place going has_acted once responds =
+        ⊎_elim (λ (same : p ≡ q). let clash : None ≡ Some (start, Some answer) = sym once.0 ∙ (sym (ap going same) ∙ has_acted) in absurd (cc))
+        (λ (other : p ≢ q). told answer es (place + 1) (put q (Some (s, None)) going) (put_other q p (Some (s, None)) going other ∙ has_acted) once.1 responds)
+        (cases_eq p q)
+    told answer (Acted q s a ∷ es) place going has_acted once responds =
+        ⊎_elim (λ (same : p ≡ q). absurd (acted_clash start s answer (sym has_acted ∙ (ap going same ∙ once.0))))
+        (λ (other : p ≢ q).
+        told answer es (place + 1) (put q (Some (s, Some a)) going) (put_other q p (Some (s, Some a)) going other ∙ has_acted) once.1 responds)
+        (cases_eq p q)
+    told answer (Finished q s a ∷ es) place going has_acted once responds =
+        ⊎_elim mine
+        (λ (other : q ≢ p). told answer es (place + 1) (put q None going)
+        (put_other q p None going (λ h. other (sym h)) ∙ has_acted) once.1 (sym (passed p q s a es place other) ∙ responds))
+        (cases_eq q p)
+      where
+        -- the end of the call is here: it has the answer that the call acted with
+        mine : q ≡ p → answer ≡ r.answer
+        mine same =
+            let here : Some answer ≡ Some a = ends_as s a (going q) start (Some answer) (ap going same ∙ has_acted) of_object once.0 in
+            let its : response_at place a ≡ r = same_response (response_at place a) r (sym (responded p q s a es place same) ∙ responds) in
+            let last : a ≡ r.answer = ap (λ (r : Response T). r.answer) its in
+            cc
+    told answer (e ∷ es) place going has_acted once responds = told answer es (place + 1) going has_acted once responds
 
-  -- each call that begins in these events and ends has its entry among those that act
-  pub completed_act : (es : List (Event T)) (place : ℕ) (going : ℕ → Standing T) (begun : ℕ → ℕ) → ActsOnce es going
-      → (c : Call T) (r : Response T) → Contains (calls_from es place) c → c.response ≡ Some r → is_call c.start ≡ true
-      → Contains (order_in es place begun) (c, r.answer)
-  completed_act [] place going begun once c r member responds of_object = absurd (none_there c member)
-  completed_act (Begun p start ∷ es) place going begun once c r member responds of_object =
-      ⊎_elim mine (λ more. completed_act es (place + 1) (put p (Some (start, None)) going) (put p place begun) once.1 c r more responds of_object)
-      (split (call_at place p start (response_in p es (place + 1))) c (calls_from es (place + 1)) member)
-    where
-      -- the call that begins here is the one: it acts before it ends
-      mine : call_at place p start (response_in p es (place + 1)) ≡ c → Contains (order_in es (place + 1) (put p place begun)) (c, r.answer)
-      mine same_call =
-          let name : start ≡ c.start = ap (λ (c : Call T). c.start) same_call in
-          let its : response_in p es (place + 1) ≡ Some r = ap (λ (c : Call T). c.response) same_call ∙ responds in
-          let whole : entry_at (put p place begun p) p start (Some r) r.answer ≡ entry_at c.place c.party c.start c.response r.answer =
-          same_entry (put p place begun p) c.place p c.party start c.start (Some r) c.response r.answer r.answer
-          (put_same p place begun ∙ ap (λ (c : Call T). c.place) same_call) (ap (λ (c : Call T). c.party) same_call) name (sym responds) refl
-          in
-          subst (Contains (order_in es (place + 1) (put p place begun))) whole
-          (acts_before p start r es (place + 1) (put p (Some (start, None)) going) (put p place begun)
-          (ap is_call name ∙ of_object) (put_same p (Some (start, None)) going) once.1 its)
-  completed_act (Acted p start answer ∷ es) place going begun once c r member responds of_object =
-      later (is_call start) (entry_at (begun p) p start (response_in p es (place + 1)) answer) (c, r.answer) (order_in es (place + 1) begun)
-      (completed_act es (place + 1) (put p (Some (start, Some answer)) going) begun once.1 c r member responds of_object)
-  completed_act (Finished p start answer ∷ es) place going begun once c r member responds of_object =
-      completed_act es (place + 1) (put p None going) begun once.1 c r member responds of_object
-  completed_act (x ∷ es) place going begun once c r member responds of_object = completed_act es (place + 1) going begun once c r member responds of_object
+    -- Where the call has not acted yet, its entry stands in the order of those that act from here on.
+    pub acts_before : (es : List (Event T)) (place : ℕ) (going : ℕ → Standing T) (begun : ℕ → ℕ)
+        → going p ≡ Some (start, None) → ActsOnce es going → response_in p es place ≡ Some r
+        → Contains (order_in es place begun) (entry_at (begun p) p start (Some r) r.answer)
+    acts_before [] place going begun waits once responds = absurd (cc)
+    acts_before (Begun q s ∷ es) place going begun waits once responds =
+        ⊎_elim (λ (same : p ≡ q). let clash : None ≡ Some (start, None) = sym once.0 ∙ (sym (ap going same) ∙ waits) in absurd (cc))
+        (λ (other : p ≢ q).
+        subst (λ n. Contains (order_in es (place + 1) (put q place begun)) (entry_at n p start (Some r) r.answer)) (put_other q p place begun other)
+        (acts_before es (place + 1) (put q (Some (s, None)) going) (put q place begun) (put_other q p (Some (s, None)) going other ∙ waits) once.1 responds))
+        (cases_eq p q)
+    acts_before (Acted q s a ∷ es) place going begun waits once responds =
+        ⊎_elim mine
+        (λ (other : p ≢ q).
+        later (is_call s) (entry_at (begun q) q s (response_in q es (place + 1)) a) (entry_at (begun p) p start (Some r) r.answer)
+        (order_in es (place + 1) begun)
+        (acts_before es (place + 1) (put q (Some (s, Some a)) going) begun (put_other q p (Some (s, Some a)) going other ∙ waits) once.1 responds))
+        (cases_eq p q)
+      where
+        -- The case that the act is of the call's own party: it is this call's act, whose entry stands first.
+        mine : p ≡ q → Contains (order_in (Acted q s a ∷ es) place begun) (entry_at (begun p) p start (Some r) r.answer)
+        mine same =
+            let whole : Some (s, None) ≡ Some (start, None) = sym once.0 ∙ (sym (ap going same) ∙ waits) in
+            let name : s ≡ start = ap (name_in s) whole in
+            let now : put q (Some (s, Some a)) going p ≡ Some (start, Some a) =
+            ap (put q (Some (s, Some a)) going) same ∙ (put_same q (Some (s, Some a)) going ∙ ap (λ (n : Start T). Some (n, Some a)) name)
+            in
+            let its : a ≡ r.answer = told a es (place + 1) (put q (Some (s, Some a)) going) now once.1 responds in
+            first (is_call s) (entry_at (begun q) q s (response_in q es (place + 1)) a)
+            (entry_at (begun p) p start (Some r) r.answer) (order_in es (place + 1) begun)
+            (ap is_call name ∙ of_object)
+            (same_entry (sym (ap begun same)) (sym same) name (ap (λ n. response_in n es (place + 1)) (sym same) ∙ responds) its)
+    acts_before (Finished q s a ∷ es) place going begun waits once responds =
+        ⊎_elim (λ (same : q ≡ p). let clash : None ≡ Some a = ends_as s a (going q) start None (ap going same ∙ waits) of_object once.0 in absurd (cc))
+        (λ (other : q ≢ p). acts_before es (place + 1) (put q None going) begun
+        (put_other q p None going (λ h. other (sym h)) ∙ waits) once.1 (sym (passed p q s a es place other) ∙ responds))
+        (cases_eq q p)
+    acts_before (e ∷ es) place going begun waits once responds = acts_before es (place + 1) going begun waits once responds
+
+  -- Each completed call of the object that begins in these events has its entry among those that act.
+  module _ (c : Call T) (r : Response T) (responds : c.response ≡ Some r) (of_object : is_call c.start ≡ true) where
+    pub completed_act : (es : List (Event T)) (place : ℕ) (going : ℕ → Standing T) (begun : ℕ → ℕ) → ActsOnce es going
+        → Contains (calls_from es place) c → Contains (order_in es place begun) (c, r.answer)
+    completed_act [] place going begun once member = absurd (none_there c member)
+    completed_act (Begun p start ∷ es) place going begun once member =
+        ⊎_elim mine (completed_act es (place + 1) (put p (Some (start, None)) going) (put p place begun) once.1)
+        (split (call_at place p start (response_in p es (place + 1))) c (calls_from es (place + 1)) member)
+      where
+        -- the call that begins here is the one: it acts before it ends
+        mine : call_at place p start (response_in p es (place + 1)) ≡ c → Contains (order_in es (place + 1) (put p place begun)) (c, r.answer)
+        mine same_call =
+            let name : start ≡ c.start = ap (λ (c : Call T). c.start) same_call in
+            let its : response_in p es (place + 1) ≡ Some r = ap (λ (c : Call T). c.response) same_call ∙ responds in
+            let whole : entry_at (put p place begun p) p start (Some r) r.answer ≡ entry_at c.place c.party c.start c.response r.answer =
+            same_entry (put_same p place begun ∙ ap (λ (c : Call T). c.place) same_call) (ap (λ (c : Call T). c.party) same_call) name (sym responds) refl
+            in
+            subst (Contains (order_in es (place + 1) (put p place begun))) whole
+            (acts_before p start r (ap is_call name ∙ of_object) es (place + 1) (put p (Some (start, None)) going) (put p place begun)
+            (put_same p (Some (start, None)) going) once.1 its)
+    completed_act (Acted p start answer ∷ es) place going begun once member =
+        later (is_call start) (entry_at (begun p) p start (response_in p es (place + 1)) answer) (c, r.answer) (order_in es (place + 1) begun)
+        (completed_act es (place + 1) (put p (Some (start, Some answer)) going) begun once.1 member)
+    completed_act (Finished p start answer ∷ es) place going begun once member =
+        completed_act es (place + 1) (put p None going) begun once.1 member
+    completed_act (x ∷ es) place going begun once member = completed_act es (place + 1) going begun once member

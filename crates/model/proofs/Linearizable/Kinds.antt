@@ -53,9 +53,9 @@ module _ {T : Type 0} where
       bounded other neither = refl
 
   -- A run of a queue that keeps its promise is linearizable.
-  queue_linearizable : (kind : QueueKind) (t : Trace T) → IsKeptBy (queue_promises.promise kind) t → IsLinearizable (as_list kind t.world.capacity) t.events
-  queue_linearizable kind t kept =
-      linearizable (as_list kind t.world.capacity) (others_of_list kind t.world.capacity) t.events
+  queue_linearizable : (kind : QueueKind) {t : Trace T} → IsKeptBy (queue_promises.promise kind) t → IsLinearizable (as_list kind t.world.capacity) t.events
+  queue_linearizable kind {t} kept =
+      linearizable (as_list kind t.world.capacity) (others_of_list kind t.world.capacity)
       (acts_once (queue_promises.promise kind) t.world.capacity is_push_or_pop (one_of_list kind t.world.capacity) t.events kept.spans) kept.promised.moments
 
   -- ---- the single value
@@ -71,19 +71,19 @@ module _ {T : Type 0} where
   others_of_value = grind arith
 
   -- A run of the single value that keeps its promise is linearizable.
-  value_linearizable : (t : Trace T) → IsKeptBy value_promises.promise t → IsLinearizable (as_value t.world.coding) t.events
-  value_linearizable t kept =
-      linearizable (as_value t.world.coding) (others_of_value t.world.coding) t.events
+  value_linearizable : {t : Trace T} → IsKeptBy value_promises.promise t → IsLinearizable (as_value t.world.coding) t.events
+  value_linearizable {t} kept =
+      linearizable (as_value t.world.coding) (others_of_value t.world.coding)
       (acts_once value_promises.promise t.world.capacity is_store_or_load (one_of_value t.world.capacity) t.events kept.spans) kept.promised.moments
 
   -- ---- every kind
 
   -- the history of each queue and value that keeps its promises is linearizable; of other kinds nothing is said
   by_kind : (kind : Kind) (t : Trace T) → IsKeptBy (promise_of kind) t → IsLinearized kind t
-  by_kind IndexQueue t kept = queue_linearizable queue_kinds.IndexQueue t kept
-  by_kind Overflow t kept = queue_linearizable queue_kinds.Overflow t kept
-  by_kind Queue t kept = queue_linearizable queue_kinds.Queue t kept
-  by_kind Atomic t kept = value_linearizable t kept
+  by_kind IndexQueue t kept = queue_linearizable queue_kinds.IndexQueue kept
+  by_kind Overflow t kept = queue_linearizable queue_kinds.Overflow kept
+  by_kind Queue t kept = queue_linearizable queue_kinds.Queue kept
+  by_kind Atomic t kept = value_linearizable kept
   by_kind kind t kept = tt
 
   pub run_linearizable : (t : Trace T) → IsKept t → IsLinearizableRun t

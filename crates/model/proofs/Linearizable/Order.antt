@@ -20,17 +20,17 @@ module _ {T : Type 0} (is_call : Start T → Bool) where
 
   -- The response of a call that is under way at this place, or begins after it, comes no earlier
   -- than the place.
-  late : (c : Call T) (r : Response T) (es : List (Event T)) (place : ℕ) (going : ℕ → Standing T) (begun : ℕ → ℕ)
+  late : (c : Call T) (r : Response T) (es : List (Event T)) (place : ℕ) {going : ℕ → Standing T} {begun : ℕ → ℕ}
       → Source c es place going begun → c.response ≡ Some r → place ≤ r.place
-  late c r es place going begun (Pending p start is under) responds = response_late p es place r (sym (ap (λ (c : Call T). c.response) is) ∙ responds)
-  late c r es place going begun (Later h) responds = (calls_late es place c h).1 r responds
+  late c r es place (Pending p start is under) responds = response_late p es place r (sym (ap (λ (c : Call T). c.response) is) ∙ responds)
+  late c r es place (Later h) responds = (calls_late es place c h).1 r responds
 
   -- a call of the later events is one of all of them, and the call that begins first begins here
-  source_begun : (p : ℕ) (s : Start T) (es : List (Event T)) (place : ℕ) (going : ℕ → Standing T) (begun : ℕ → ℕ) (c : Call T)
+  source_begun : (p : ℕ) (s : Start T) (es : List (Event T)) (place : ℕ) {going : ℕ → Standing T} {begun : ℕ → ℕ} (c : Call T)
       → Source c es (place + 1) (put p (Some (s, None)) going) (put p place begun)
       → Source c (Begun p s ∷ es) place going begun
-  source_begun p s es place going begun c (Later h) = Later (there (call_at place p s (response_in p es (place + 1))) c (calls_from es (place + 1)) h)
-  source_begun p s es place going begun c (Pending q start is under) = ⊎_elim mine theirs (cases_eq q p)
+  source_begun p s es place c (Later h) = Later (there (call_at place p s (response_in p es (place + 1))) c (calls_from es (place + 1)) h)
+  source_begun p s es place {going} {begun} c (Pending q start is under) = ⊎_elim mine theirs (cases_eq q p)
     where
       -- the call under way is the one that begins here
       mine : q ≡ p → Source c (Begun p s ∷ es) place going begun
@@ -49,11 +49,11 @@ module _ {T : Type 0} (is_call : Start T → Bool) where
           (sym (put_other p q (Some (s, None)) going ne) ∙ under)
 
   -- a call of the later events is one of all of them where the first event is an act
-  source_acted : (p : ℕ) (s : Start T) (a : Answer T) (es : List (Event T)) (place : ℕ) (going : ℕ → Standing T)
-      (begun : ℕ → ℕ) (c : Call T)
+  source_acted : (p : ℕ) (s : Start T) (a : Answer T) {es : List (Event T)} {place : ℕ} {going : ℕ → Standing T}
+      {begun : ℕ → ℕ} {c : Call T}
       → Source c es (place + 1) (put p (Some (s, Some a)) going) begun → Source c (Acted p s a ∷ es) place going begun
-  source_acted p s a es place going begun c (Later h) = Later h
-  source_acted p s a es place going begun c (Pending q start is under) = ⊎_elim mine theirs (cases_eq q p)
+  source_acted p s a (Later h) = Later h
+  source_acted p s a {es} {place} {going} {begun} {c} (Pending q start is under) = ⊎_elim mine theirs (cases_eq q p)
     where
       -- The case that q is the party that acts cannot be: after the act its call has acted.
       mine : q ≡ p → Source c (Acted p s a ∷ es) place going begun
@@ -64,11 +64,11 @@ module _ {T : Type 0} (is_call : Start T → Bool) where
       theirs ne = Pending q start is (sym (put_other p q (Some (s, Some a)) going ne) ∙ under)
 
   -- a call of the later events is one of all of them where the first event is an end
-  source_finished : (p : ℕ) (s : Start T) (a : Answer T) (es : List (Event T)) (place : ℕ) (going : ℕ → Standing T)
-      (begun : ℕ → ℕ) (c : Call T)
+  source_finished : (p : ℕ) (s : Start T) (a : Answer T) {es : List (Event T)} {place : ℕ} {going : ℕ → Standing T}
+      {begun : ℕ → ℕ} {c : Call T}
       → Source c es (place + 1) (put p None going) begun → Source c (Finished p s a ∷ es) place going begun
-  source_finished p s a es place going begun c (Later h) = Later h
-  source_finished p s a es place going begun c (Pending q start is under) = ⊎_elim mine theirs (cases_eq q p)
+  source_finished p s a (Later h) = Later h
+  source_finished p s a {es} {place} {going} {begun} {c} (Pending q start is under) = ⊎_elim mine theirs (cases_eq q p)
     where
       -- The case that q is the party whose call ends cannot be: after the end it has none under way.
       mine : q ≡ p → Source c (Finished p s a ∷ es) place going begun
@@ -82,12 +82,12 @@ module _ {T : Type 0} (is_call : Start T → Bool) where
           (sym (put_other p q None going ne) ∙ under)
 
   -- A call of the later events is one of all events, if the first event neither begins nor ends a call.
-  source_quiet : (e : Event T) (es : List (Event T)) (place : ℕ) (going : ℕ → Standing T) (begun : ℕ → ℕ) (c : Call T)
+  source_quiet : (e : Event T) {es : List (Event T)} {place : ℕ} {going : ℕ → Standing T} {begun : ℕ → ℕ} {c : Call T}
       → calls_from (e ∷ es) place ≡ calls_from es (place + 1)
       → ((p : ℕ) → response_in p (e ∷ es) place ≡ response_in p es (place + 1)) → Source c es (place + 1) going begun
       → Source c (e ∷ es) place going begun
-  source_quiet e es place going begun c calls responses (Later h) = Later (subst (λ cs. Contains cs c) (sym calls) h)
-  source_quiet e es place going begun c calls responses (Pending q start is under) =
+  source_quiet e {c = c} calls responses (Later h) = Later (subst (λ cs. Contains cs c) (sym calls) h)
+  source_quiet e {begun = begun} calls responses (Pending q start is under) =
       Pending q start (is ∙ ap (λ (o : Option (Response T)). call_at (begun q) q start o) (sym (responses q))) under
 
   -- the source of an entry, whose name is a call of the object
@@ -101,7 +101,7 @@ module _ {T : Type 0} (is_call : Start T → Bool) where
   comes [] place going begun once x h = absurd (none_there x h)
   comes (Begun p s ∷ es) place going begun once x h =
       let more = comes es (place + 1) (put p (Some (s, None)) going) (put p place begun) once.1 x h in
-      record { source = source_begun p s es place going begun x.0 more.source; call = more.call }
+      record { source = source_begun p s es place {going = going} {begun = begun} x.0 more.source; call = more.call }
   comes (Acted p s a ∷ es) place going begun once x h =
       ⊎_elim mine (theirs (comes es (place + 1) (put p (Some (s, Some a)) going) begun once.1 x))
       (split_if (is_call s) (entry_at (begun p) p s (response_in p es (place + 1)) a) x (order_in is_call es (place + 1) begun) h)
@@ -115,13 +115,13 @@ module _ {T : Type 0} (is_call : Start T → Bool) where
       -- an entry that comes after this act has its source in the later events
       theirs : (Contains (order_in is_call es (place + 1) begun) x → Comes x es (place + 1) (put p (Some (s, Some a)) going) begun)
           → Contains (order_in is_call es (place + 1) begun) x → Comes x (Acted p s a ∷ es) place going begun
-      theirs more member = record { source = source_acted p s a es place going begun x.0 (more member).source; call = (more member).call }
+      theirs more member = record { source = source_acted p s a (more member).source; call = (more member).call }
   comes (Finished p s a ∷ es) place going begun once x h =
       let more = comes es (place + 1) (put p None going) begun once.1 x h in
-      record { source = source_finished p s a es place going begun x.0 more.source; call = more.call }
+      record { source = source_finished p s a {es = es} {place = place} {going = going} {begun = begun} {c = x.0} more.source; call = more.call }
   comes (e ∷ es) place going begun once x h =
       let more = comes es (place + 1) going begun once x h in
-      record { source = source_quiet e es place going begun x.0 refl (λ p. refl) more.source; call = more.call }
+      record { source = source_quiet e {es = es} {place = place} {going = going} {begun = begun} {c = x.0} refl (λ p. refl) more.source; call = more.call }
 
   -- ---- each stands there once, and none behind a call that it precedes
 
@@ -169,11 +169,11 @@ module _ {T : Type 0} (is_call : Start T → Bool) where
       theirs ne = omega (arith, all q x (sym (put_other p q None going ne) ∙ under))
 
   -- a call that acts now and one that acts later
-  now_and_later : (p : ℕ) (s : Start T) (a : Answer T) (es : List (Event T)) (place : ℕ) (going : ℕ → Standing T)
-      (begun : ℕ → ℕ) (o : Option (Response T)) (c : Call T)
+  now_and_later : (p : ℕ) (s : Start T) (a : Answer T) {es : List (Event T)} (place : ℕ) (going : ℕ → Standing T)
+      {begun : ℕ → ℕ} (o : Option (Response T)) {c : Call T}
       → begun p < place → Source c es (place + 1) (put p (Some (s, Some a)) going) begun
       → (call_at (begun p) p s o ≢ c) × ¬ Precedes c (call_at (begun p) p s o)
-  now_and_later p s a es place going begun o c lt source = (differ source, before c.response refl)
+  now_and_later p s a {es} place going {begun} o {c} lt source = (differ source, before c.response refl)
     where
       -- the call that acts now is none of those that act later
       differ : Source c es (place + 1) (put p (Some (s, Some a)) going) begun → call_at (begun p) p s o ≢ c
@@ -186,7 +186,7 @@ module _ {T : Type 0} (is_call : Start T → Bool) where
 
       before : (response : Option (Response T)) → c.response ≡ response → ¬ StandsBefore response (begun p)
       before None responds h = h
-      before (Some r) responds h = omega (arith, late c r es (place + 1) (put p (Some (s, Some a)) going) begun source responds)
+      before (Some r) responds h = omega (arith, late c r es (place + 1) source responds)
 
   -- any two entries are of two calls, and the later one had not ended before the earlier one began
   in_order : (es : List (Event T)) (place : ℕ) (going : ℕ → Standing T) (begun : ℕ → ℕ) → ActsOnce is_call es going
@@ -196,7 +196,7 @@ module _ {T : Type 0} (is_call : Start T → Bool) where
       in_order es (place + 1) (put p (Some (s, None)) going) (put p place begun) once.1 (begun_begun p s place going begun all)
   in_order (Acted p s a ∷ es) place going begun once all =
       later_if MayPrecede (is_call s) (entry_at (begun p) p s (response_in p es (place + 1)) a) (order_in is_call es (place + 1) begun)
-      (λ t y h. now_and_later p s a es place going begun (response_in p es (place + 1)) y.0 (all p (s, None) once.0)
+      (λ t y h. now_and_later p s a place going (response_in p es (place + 1)) (all p (s, None) once.0)
       (comes es (place + 1) (put p (Some (s, Some a)) going) begun once.1 y h).source)
       (in_order es (place + 1) (put p (Some (s, Some a)) going) begun once.1 (begun_acted p s a place going begun once.0 all))
   in_order (Finished p s a ∷ es) place going begun once all = in_order es (place + 1) (put p None going) begun once.1 (begun_finished p place going begun all)
@@ -243,10 +243,10 @@ module _ {T State : Type 0} (spec : Specification T State) where
 
   -- the calls in the order in which they act are the sequential history that is asked for
   pub linearizable : (others : (s : State) (start : Start T) → spec.is_call start ≡ false → spec.object.after s start ≡ s)
-      (history : List (Event T))
+      {history : List (Event T)}
       → ActsOnce spec.is_call history (λ p. None) → IsLegal spec.object (moments history)
       → IsLinearizable spec history
-  linearizable others history once legal =
+  linearizable others {history} once legal =
       let apart = in_order spec.is_call history 0 (λ p. None) (λ p. 0) once (λ p x e. absurd (cc)) in
       record {
         sequential = order_in spec.is_call history 0 (λ p. 0);
@@ -270,7 +270,7 @@ module _ {T State : Type 0} (spec : Specification T State) where
               → IfSome o
               (λ response. spec.is_call c.start ≡ true → Contains (order_in spec.is_call history 0 (λ p. 0)) (c, response.answer))
           go None responds = tt
-          go (Some r) responds = λ t. completed_act spec.is_call history 0 (λ p. None) (λ p. 0) once c r member responds t
+          go (Some r) responds = λ t. completed_act spec.is_call c r responds t history 0 (λ p. None) (λ p. 0) once member
 
       -- Each call in the order is one of the object, and was invoked in the history.
       called : (x : Call T × Answer T) → Contains (order_in spec.is_call history 0 (λ p. 0)) x

@@ -76,7 +76,7 @@ module _ {T : Type 0} where
       let none : under w p ≡ 0 = rw free refl in
       omega (arith, moves n w (after_begin w p start (Some flight)) p below (λ q ne. begun_stays w p start (Some flight) q ne))
 
-  -- a call goes on or ends
+  -- a step of a call, or an answer to it, ends the call or none: the calls under way are fewer by those that end
   goes : (n : ℕ) (w : World T) (p : ℕ) (x : Party T) (ask : Option Ask) (answer : ℕ) (doing : Doing T) (flight : Flight T) → p < n
       → flight_in w p ≡ Some flight → party_of p w.latest ≡ Some x → x.doing ≡ doing
       → CountsCalls n w (after_answer w p x ask answer doing) (ends (events_of_answer w p x answer doing)) 0
@@ -161,7 +161,7 @@ module _ {T : Type 0} where
         ≡ pending n (world_after t.world turn) + (ends t.events + ends (events_of t.world turn)) + begins_in turns = rw more at rest in
         omega (arith, turn_counts n t.world turn (possible t.world turn allowed.0) below.0)
 
-  -- each turn that begins a call writes so
+  -- a step of a call, or an answer to its question, writes no begin
   answer_begins : (w : World T) (p : ℕ) (x : Party T) (answer : ℕ) (doing : Doing T) → begun (events_of_answer w p x answer doing) ≡ 0
   answer_begins w p x answer (Over others) = refl
   answer_begins w p x answer (Going now since) =

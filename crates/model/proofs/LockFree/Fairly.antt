@@ -140,7 +140,7 @@ module _ {T : Type 0} where
         allowed_more t (first turns k) (turns k) (all_allowed goes k)
         (subst (λ (u : Trace T). call_refusal u.world (turns k) ≡ None) (sym (reaches k)) (goes k))
 
-    module _ (p : ℕ) (fair : IsFair t turns p) where
+    module _ {p : ℕ} (fair : IsFair t turns p) where
       abbrev IdleAtSome : Type 0
       IdleAtSome = (k : ℕ) × (flight_in (moment t turns k).world p ≡ None)
 
@@ -162,9 +162,9 @@ module _ {T : Type 0} where
 
   -- If the steps on a schedule are bounded, a party to which it is fair comes to a moment without
   -- a call under way.
-  fair_by : (t : Trace T) (turns : ℕ → Turn T) (p : ℕ) → IsFair t turns p → (most : ℕ) → ((k : ℕ) → steps_in t (first turns k) ≤ most)
+  fair_by : {t : Trace T} {turns : ℕ → Turn T} {p : ℕ} → IsFair t turns p → (most : ℕ) → ((k : ℕ) → steps_in t (first turns k) ≤ most)
       → (k : ℕ) × (flight_in (moment t turns k).world p ≡ None)
-  fair_by t turns p fair most within = ⊎_elim (λ rests. rests) none (often t turns p fair (suc most))
+  fair_by {t} {turns} {p} fair most within = ⊎_elim (λ rests. rests) none (often t turns fair (suc most))
     where
       -- More steps than the bound allows are never taken.
       none : (k : ℕ) × (suc most ≤ steps_in t (first turns k)) → (k : ℕ) × (flight_in (moment t turns k).world p ≡ None)
@@ -182,6 +182,6 @@ module _ {T : Type 0} where
   pub fair_end : (kind : Kind) (bound : Bound) → EndsLoad T kind bound → EndsIfFair T kind bound
   fair_end kind bound ends t is r n calls turns goes below few p fair =
       let b = bound n t.world.capacity t.world.coding.size in
-      fair_by t turns p fair (load b (pending n t.world + calls))
+      fair_by fair (load b (pending n t.world + calls))
       (λ k. load_up turns t b (pending n t.world) calls (steps_in t (first turns k)) k (few k)
       (ends t is r n (first turns k) (all_allowed t turns goes k) (all_of t turns (IsBelow n) below k)))

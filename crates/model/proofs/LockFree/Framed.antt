@@ -45,12 +45,12 @@ module _ {T : Type 0} (kind : Kind) (F : Coding T → ℕ → Family T) (M : ℕ
       pub capacity : t.world.capacity ≡ c
       pub reached : IsReachedOn t
 
-    there_sound : (c : ℕ) (t : Trace T) → IsThere c t → SoundThere t
-    there_sound c t is_there = L.sound t is_there.is is_there.reached
+    there_sound : {c : ℕ} {t : Trace T} → IsThere c t → SoundThere t
+    there_sound {t = t} is_there = L.sound t is_there.is is_there.reached
 
     -- what the measure has to show of each turn follows from the laws of the kind
-    owed : (c n : ℕ) → Owed (M c) call_refusal (IsThere c) (IsBelow n)
-    owed c n =
+    owed : {c : ℕ} (n : ℕ) → Owed (M c) call_refusal (IsThere c) (IsBelow n)
+    owed {c} n =
         record {
           keeps = λ t turn e may h.
               (let making = turn_making t.world turn in
@@ -58,19 +58,19 @@ module _ {T : Type 0} (kind : Kind) (F : Coding T → ℕ → Family T) (M : ℕ
           most = λ t h p flight e.
               (let under = under_way t.world p flight e in
               subst (λ n. ((M n).left t.world.words t.world.kept flight ≤ (M n).alone) × ((M n).pays flight ≤ (M n).changes)) h.capacity
-              (L.most t (there_sound c t h) p under.party flight under.since under.found under.doing));
+              (L.most t (there_sound h) p under.party flight under.since under.found under.doing));
           begins = λ t h p start e may.
               subst (λ n. Harmless (M n) t.world p t.world.words (kept_after_begin t.world.coding t.world.capacity start p t.world.kept)) h.capacity
-              (L.begins t (there_sound c t h) p start e);
+              (L.begins t (there_sound h) p start e);
           dies = λ t h owner e may q other is.
               subst (λ n. Leaves (M n) t.world t.world.words (kept_after_death t.world.kept owner) other) h.capacity
-              (L.dies t (there_sound c t h) owner e q other is);
+              (L.dies t (there_sound h) owner e q other is);
           step = λ t h p x flight since found doing.
               subst (λ n. FallsBy (M n) t.world p x flight (asked (M n) t.world flight) (old_of t.world.words (asked (M n) t.world flight))) h.capacity
-              (L.step t (there_sound c t h) p x flight since found doing);
+              (L.step t (there_sound h) p x flight since found doing);
           decision = λ t h p x flight since said found doing asks.
               subst (λ n. FallsBy (M n) t.world p x flight None (number_of said)) h.capacity
-              (L.decision t (there_sound c t h) p x flight since said found doing asks);
+              (L.decision t (there_sound h) p x flight since said found doing asks);
         }
 
     -- from each machine reached, calls end as often as the bound says
@@ -79,5 +79,5 @@ module _ {T : Type 0} (kind : Kind) (F : Coding T → ℕ → Family T) (M : ℕ
         let c = t.world.capacity in
         subst (λ b. AreWithinEnds b (steps_in t turns) (ends t.events) (ends (after_turns t turns).events))
         (sym (same c n t.world.coding.size))
-        (calls_end call_refusal possible_on (M c) (IsThere c) (IsBelow n) (owed c n) n (λ turn may. may) t
+        (calls_end possible_on (owed n) n (λ turn may. may) t
         (record { is = is; capacity = refl; reached = r }) turns allowed below)

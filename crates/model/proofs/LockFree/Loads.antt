@@ -23,6 +23,7 @@ one_step bound before calls ended pending steps (suc step) one under count withi
 more_calls : (calls begins each : ℕ) → calls * each ≤ (calls + begins) * each
 more_calls calls begins each = worth calls (calls + begins) each (omega arith)
 
+-- Turns that the machine does not refuse are possible, and those that may be taken (`May`) are of the first `n` parties.
 module _ {T : Type 0} (refuses : World T → Turn T → Option Refusal) (possible : (w : World T) (turn : Turn T) → refuses w turn ≡ None → IsPossible w turn)
     (n : ℕ) (May : Turn T → Type 0) (below : (turn : Turn T) → May turn → IsBelow n turn) where
   -- Whatever turns are taken from this machine, after `steps` steps, all steps are within

@@ -59,8 +59,8 @@ module _ {T : Type 0} where
       (((passes t.world turn all.0).on, rest.0), (here, rest.1))
 
   -- a machine that is no loan's and that its turns have reached was reached by turns that are allowed as calls
-  reached_on : (t : Trace T) → is_loan t.world.kind ≡ false → IsReached t → IsReachedOn t
-  reached_on t no_loan reached =
+  reached_on : {t : Trace T} → is_loan t.world.kind ≡ false → IsReached t → IsReachedOn t
+  reached_on {t} no_loan reached =
       kept_by_runs IsReachedOn (λ u turn e h. reached_on_more u turn (passes u.world turn e).on h) t
       (λ queue queued.
       subst IsReachedOn (sym (opened_others t.world.coding t.world.kind t.world.capacity queue t.world.parties no_loan))
@@ -72,11 +72,11 @@ module _ {T : Type 0} where
   machines kind no_loan bound free t is r turns all many =
       let allowed = all_allowed t turns t.world.parties refl all in
       let none : is_loan t.world.kind ≡ false = subst (λ k. is_loan k ≡ false) (sym is) no_loan in
-      free t is (reached_on t none r) t.world.parties turns allowed.0 allowed.1 many
+      free t is (reached_on none r) t.world.parties turns allowed.0 allowed.1 many
 
   -- A kind whose loads end, and that is no loan channel, ends its loads in its machines as they run.
   pub loads_in_runs : (kind : Kind) → is_loan kind ≡ false → (bound : Bound) → EndsLoad T kind bound → EndsLoadRuns T kind bound
   loads_in_runs kind no_loan bound ends t is r turns all =
       let allowed = all_allowed t turns t.world.parties refl all in
       let none : is_loan t.world.kind ≡ false = subst (λ k. is_loan k ≡ false) (sym is) no_loan in
-      ends t is (reached_on t none r) t.world.parties turns allowed.0 allowed.1
+      ends t is (reached_on none r) t.world.parties turns allowed.0 allowed.1

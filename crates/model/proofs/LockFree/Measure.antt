@@ -121,8 +121,8 @@ module _ {T : Type 0} (M : Measure T) where
       pub pays : (q : ℕ) → pays_at w q ≤ M.changes
 
     -- the weight of a machine is never above the bound
-    pub at_most : (w : World T) → IsWithin w → weight w ≤ bound
-    at_most w within =
+    pub at_most : {w : World T} → IsWithin w → weight w ≤ bound
+    at_most {w} within =
         let pays = sum_most n (pays_at w) M.changes within.pays in
         omega (arith, sum_most n (left_at w) M.alone within.left, worth (sum_below n (pays_at w)) (n * M.changes) price pays)
 
@@ -153,11 +153,11 @@ module _ {T : Type 0} (M : Measure T) where
     Shows old new steps ended = steps + weight new ≤ weight old + ended * (bound + 1)
 
     -- a call goes on by an answer
-    pub resumes : (w : World T) (p : ℕ) (x : Party T) (flight : Flight T) (since answer : ℕ) (ask : Option Ask) → p < n
+    pub resumes : (w : World T) (p : ℕ) (x : Party T) {flight : Flight T} {since : ℕ} (answer : ℕ) (ask : Option Ask) → p < n
         → party_of p w.latest ≡ Some x → x.doing ≡ Going flight since
         → FallsBy w p x flight ask answer → IsWithin (after_step w p x since ask (step_in w p x flight answer))
         → Shows w (after_step w p x since ask (step_in w p x flight answer)) (step_count ask) (ends (events_of_step p x.start (step_in w p x flight answer)))
-    resumes w p x flight since answer ask below found doing falls within = go s.after refl
+    resumes w p x {flight} {since} answer ask below found doing falls within = go s.after refl
       where
         -- `s` is the step of the party's call.
         s : Step (Flight T) (Registry T) T
@@ -230,7 +230,7 @@ module _ {T : Type 0} (M : Measure T) where
         go : (after : After (Flight T) (Answer T)) → s.after ≡ after → Shows w new (step_count ask) (ends (events_of_step p x.start s))
         go (GoOn next) same_after = goes_on next same_after
         go (Done answer) same_after =
-            let most = at_most new within in
+            let most = at_most within in
             let one = steps_small ask in
             let more = ended_more s.wrote (ending_of p x.start (answer_in s.after)) in
             let end : ends (ending_of p x.start (answer_in s.after)) ≡ 1 = rw same_after refl in

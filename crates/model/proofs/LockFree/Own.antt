@@ -156,8 +156,8 @@ module _ {T : Type 0} (K : Outline T) where
       -- each call under way stands where it is known to
       pub calls : (p : ℕ) → OwnParty w w.kept p (party_of p w.latest)
 
-    laws_of : (w : World T) → IsOwn w → OwnLaws w.coding w.capacity
-    laws_of w own = laws w.coding w.capacity own.coded own.admitted
+    laws_of : {w : World T} → IsOwn w → OwnLaws w.coding w.capacity
+    laws_of {w} own = laws w.coding w.capacity own.coded own.admitted
 
     -- ---- every turn keeps it
 
@@ -195,12 +195,12 @@ module _ {T : Type 0} (K : Outline T) where
     doing_own w now p start changes since (Done answer) lasts own_after known = tt
 
     -- `IsOwn` still holds of the machine when a call has gone on by an answer
-    answer_keeps : (w : World T) (p : ℕ) (x : Party T) (ask : Option Ask) (answer : ℕ) (doing : Doing T) → IsOwn w
+    answer_keeps : {w : World T} (p : ℕ) (x : Party T) (ask : Option Ask) (answer : ℕ) (doing : Doing T) → IsOwn w
         → OwnDoing w w.kept p x.start doing → IsOwn (after_answer w p x ask answer doing)
-    answer_keeps w p x ask answer (Over others) is_own own = is_own
-    answer_keeps w p x ask answer (Going flight since) is_own own =
+    answer_keeps p x ask answer (Over others) is_own own = is_own
+    answer_keeps {w} p x ask answer (Going flight since) is_own own =
         let beside = beside_of w.words w.kept w.latest p in
-        let L = laws_of w is_own in
+        let L = laws_of is_own in
         let told = L.told w.words beside p x.start flight answer w.kept own.0 is_own.kept in
         let goes = L.goes p x.start flight answer w.kept own.0 is_own.kept own.1 in
         let stays = L.stays w.words beside p x.start flight answer w.kept own.0 is_own.kept in
@@ -217,27 +217,27 @@ module _ {T : Type 0} (K : Outline T) where
               (subst (OwnAfter w.coding w.capacity x.start) (sym told) goes.0) (subst (KnownAfter p w.kept) (sym told) goes.1)) is_own.calls;
         }
 
-    own_there : (w : World T) → IsOwn w → (p : ℕ) (x : Party T) → party_of p w.latest ≡ Some x → OwnDoing w w.kept p x.start x.doing
-    own_there w own p x found = subst (OwnParty w w.kept p) found (own.calls p)
+    own_there : {w : World T} → IsOwn w → (p : ℕ) (x : Party T) → party_of p w.latest ≡ Some x → OwnDoing w w.kept p x.start x.doing
+    own_there {w} own p x found = subst (OwnParty w w.kept p) found (own.calls p)
 
     -- A turn `Next` keeps what is known of the machine.
-    next_keeps : (w : World T) (p : ℕ) → IsOwn w → (o : Option (Party T)) → party_of p w.latest ≡ o → IsOwn (after_next w p o)
-    next_keeps w p own None found = own
-    next_keeps w p own (Some x) found =
-        answer_keeps w p x (ask_of_doing w.coding x.doing) (old_of w.words (ask_of_doing w.coding x.doing)) x.doing own (own_there w own p x found)
+    next_keeps : {w : World T} (p : ℕ) → IsOwn w → (o : Option (Party T)) → party_of p w.latest ≡ o → IsOwn (after_next w p o)
+    next_keeps p own None found = own
+    next_keeps {w} p own (Some x) found =
+        answer_keeps p x (ask_of_doing w.coding x.doing) (old_of w.words (ask_of_doing w.coding x.doing)) x.doing own (own_there own p x found)
 
     -- A decision keeps what is known of the machine.
-    decision_keeps : (w : World T) (p : ℕ) (said : Bool) → IsOwn w → (o : Option (Party T)) → party_of p w.latest ≡ o
+    decision_keeps : {w : World T} (p : ℕ) (said : Bool) → IsOwn w → (o : Option (Party T)) → party_of p w.latest ≡ o
         → IsOwn (after_decision w p said o)
-    decision_keeps w p said own None found = own
-    decision_keeps w p said own (Some x) found = answer_keeps w p x None (number_of said) x.doing own (own_there w own p x found)
+    decision_keeps p said own None found = own
+    decision_keeps {w} p said own (Some x) found = answer_keeps p x None (number_of said) x.doing own (own_there own p x found)
 
     -- `IsOwn` still holds of the machine when a call has begun
-    begun_keeps : (w : World T) (p : ℕ) (start : Start T) → K.Such start → IsOwn w → (o : Option (Flight T)) → first_of w.kind w.capacity start w.kept ≡ o
+    begun_keeps : {w : World T} (p : ℕ) (start : Start T) → K.Such start → IsOwn w → (o : Option (Flight T)) → first_of w.kind w.capacity start w.kept ≡ o
         → IsOwn (after_begin w p start o)
-    begun_keeps w p start such own None e = own
-    begun_keeps w p start such is_own (Some flight) e =
-        let L = laws_of w is_own in
+    begun_keeps p start such own None e = own
+    begun_keeps {w} p start such is_own (Some flight) e =
+        let L = laws_of is_own in
         let first : first_of K.kind w.capacity start w.kept ≡ Some flight = subst (λ kind. first_of kind w.capacity start w.kept ≡ Some flight) is_own.kind e in
         let own = L.begins start w.kept flight such is_own.kept first in
         let knows = L.knows start w.kept flight p is_own.kept first in
@@ -254,11 +254,11 @@ module _ {T : Type 0} (K : Outline T) where
 
     -- `IsOwn` still holds of the machine after each turn
     turn_keeps : (w : World T) (turn : Turn T) → BeginsSuch K.Such turn → IsOwn w → IsOwn (world_after w turn)
-    turn_keeps w (Begin p start) such own = begun_keeps w p start such own (first_of w.kind w.capacity start w.kept) refl
-    turn_keeps w (Next p) such own = next_keeps w p own (party_of p w.latest) refl
-    turn_keeps w (Decide p said) such own = decision_keeps w p said own (party_of p w.latest) refl
+    turn_keeps w (Begin p start) such own = begun_keeps p start such own (first_of w.kind w.capacity start w.kept) refl
+    turn_keeps w (Next p) such own = next_keeps p own (party_of p w.latest) refl
+    turn_keeps w (Decide p said) such own = decision_keeps p said own (party_of p w.latest) refl
     turn_keeps w (Die owner) such own =
-        let L = laws_of w own in
+        let L = laws_of own in
         let dies = L.dies w.kept owner own.kept in
         record {
           kind = own.kind;
@@ -284,19 +284,19 @@ module _ {T : Type 0} (K : Outline T) where
     -- ---- each call under way
 
     -- A call under way stands where it is known to.
-    call_there : (w : World T) → IsOwn w → (p : ℕ) (x : Party T) (flight : Flight T) (since : ℕ) → party_of p w.latest ≡ Some x
+    call_there : {w : World T} → IsOwn w → {p : ℕ} (x : Party T) {flight : Flight T} {since : ℕ} → party_of p w.latest ≡ Some x
         → x.doing ≡ Going flight since → K.At w.coding w.capacity x.start flight × K.Known p w.kept flight
-    call_there w own p x flight since found doing = subst (OwnDoing w w.kept p x.start) doing (own_there w own p x found)
+    call_there {w} own {p} x found doing = subst (OwnDoing w w.kept p x.start) doing (own_there own p x found)
 
     pub record Stands (w : World T) (flight : Flight T) : Type 0 where
       pub start : Start T
       pub at : K.At w.coding w.capacity start flight
 
     -- The flight of a party is that of a call which stands where it is known to.
-    stands : (w : World T) → IsOwn w → (p : ℕ) (flight : Flight T) → flight_in w p ≡ Some flight → Stands w flight
-    stands w own p flight flight_is =
+    stands : {w : World T} → IsOwn w → (p : ℕ) {flight : Flight T} → flight_in w p ≡ Some flight → Stands w flight
+    stands {w} own p {flight} flight_is =
         let under = under_way w p flight flight_is in
-        let there = call_there w own p under.party flight under.since under.found under.doing in
+        let there = call_there own under.party under.found under.doing in
         record { start = under.party.start; at = there.0 }
 
     abbrev measure_of : World T → WordMeasure T
@@ -307,11 +307,11 @@ module _ {T : Type 0} (K : Outline T) where
     measured_in code c = of_words (K.measure code c)
 
     -- a step by the table makes the measure of its call fall
-    table_falls : (w : World T) → IsOwn w → (p : ℕ) (x : Party T) (flight : Flight T)
+    table_falls : {w : World T} → IsOwn w → {p : ℕ} (x : Party T) {flight : Flight T}
         → K.At w.coding w.capacity x.start flight → K.Known p w.kept flight
         → FallsBy (of_words (measure_of w)) w p x flight (ask_of (want_of w.coding flight)) (old_of w.words (ask_of (want_of w.coding flight)))
-    table_falls w own p x flight stands_at known next e =
-        let L = laws_of w own in
+    table_falls {w} own {p} x {flight} stands_at known next e =
+        let L = laws_of own in
         let ask = ask_of (want_of w.coding flight) in
         let old = old_of w.words ask in
         let told = L.told w.words (beside_of w.words w.kept w.latest p) p x.start flight old w.kept stands_at own.kept in
@@ -319,10 +319,10 @@ module _ {T : Type 0} (K : Outline T) where
         (goes_of w.coding p flight old w.kept) (L.falls w.words p w.kept x.start flight stands_at own.kept known own.wide) next (sym told ∙ e)
 
     -- an answer to a question makes the measure of its call fall
-    decision_falls : (w : World T) → IsOwn w → (p : ℕ) (x : Party T) (flight : Flight T) (said : Bool) → K.At w.coding w.capacity x.start flight
+    decision_falls : {w : World T} → IsOwn w → (p : ℕ) (x : Party T) (flight : Flight T) (said : Bool) → K.At w.coding w.capacity x.start flight
         → is_question (want_of w.coding flight) ≡ true → FallsBy (of_words (measure_of w)) w p x flight None (number_of said)
-    decision_falls w own p x flight said stands_at asks next e =
-        let L = laws_of w own in
+    decision_falls {w} own p x flight said stands_at asks next e =
+        let L = laws_of own in
         let told = L.told w.words (beside_of w.words w.kept w.latest p) p x.start flight (number_of said) w.kept stands_at own.kept in
         falls_by (measure_of w) w p w.words (step_in w p x flight (number_of said)).kept 0 flight
         (goes_of w.coding p flight (number_of said) w.kept) (L.decides w.words p w.kept x.start flight said stands_at own.kept asks) next (sym told ∙ e)
@@ -353,8 +353,8 @@ module _ {T : Type 0} (K : Outline T) where
           run_keeps turns (attempt_by refuses t turn) such.1 (attempt_keeps t turn such.0 own (refuses t.world turn))
 
       -- `IsOwn` holds of every machine of this kind that such turns have reached
-      reached_own : (t : Trace T) → t.world.kind ≡ K.kind → (r : IsReachedBy refuses t) → AllByRecursion (BeginsSuch K.Such) r.turns → IsOwn t.world
-      reached_own t is r such =
+      reached_own : {t : Trace T} → t.world.kind ≡ K.kind → (r : IsReachedBy refuses t) → AllByRecursion (BeginsSuch K.Such) r.turns → IsOwn t.world
+      reached_own {t} is r such =
           let world_now = t.world in
           subst (λ (u : Trace T). IsOwn u.world) (sym r.is)
           (run_keeps r.turns (opening world_now.coding world_now.kind world_now.capacity world_now.parties) such
@@ -368,8 +368,8 @@ module _ {T : Type 0} (K : Outline T) where
             keeps = λ t turn e may h.
                 (turn_keeps t.world turn may.1 h.0, (turn_making t.world turn).coding ∙ h.1, (turn_making t.world turn).capacity ∙ h.2);
             most = λ t h p flight e.
-                (let L = laws_of t.world h.0 in
-                let there = stands t.world h.0 p flight e in
+                (let L = laws_of h.0 in
+                let there = stands h.0 p e in
                 subst (λ z. ((K.measure z c).left t.world.words flight ≤ (K.measure z c).alone) × ((K.measure z c).pays flight ≤ (K.measure z c).changes)) h.1
                 (subst
                 (λ n. ((K.measure t.world.coding n).left t.world.words flight ≤ (K.measure t.world.coding n).alone)
@@ -379,14 +379,14 @@ module _ {T : Type 0} (K : Outline T) where
             dies = λ t h owner e may q other is. omega arith;
             step = λ t h p x flight since found doing.
                 (let ask = ask_of (want_of t.world.coding flight) in
-                let there = call_there t.world h.0 p x flight since found doing in
+                let there = call_there h.0 x found doing in
                 subst (λ z. FallsBy (measured_in z c) t.world p x flight ask (old_of t.world.words ask)) h.1
                 (subst (λ n. FallsBy (measured_in t.world.coding n) t.world p x flight ask (old_of t.world.words ask)) h.2
-                (table_falls t.world h.0 p x flight there.0 there.1)));
+                (table_falls h.0 x there.0 there.1)));
             decision = λ t h p x flight since said found doing asks.
                 subst (λ z. FallsBy (measured_in z c) t.world p x flight None (number_of said)) h.1
                 (subst (λ n. FallsBy (measured_in t.world.coding n) t.world p x flight None (number_of said)) h.2
-                (decision_falls t.world h.0 p x flight said (call_there t.world h.0 p x flight since found doing).0 asks));
+                (decision_falls h.0 p x flight said (call_there h.0 x found doing).0 asks));
           }
 
       -- from each machine reached, calls end as often as the bound says
@@ -395,9 +395,8 @@ module _ {T : Type 0} (K : Outline T) where
       keeps_ending_by bound same t is r such_before n turns allowed below such =
           let world_now = t.world in
           subst (λ b. AreWithinEnds b (steps_in t turns) (ends t.events) (ends (after_turns t turns).events)) (sym (same world_now.coding world_now.capacity n))
-          (calls_end refuses possible (measured_in world_now.coding world_now.capacity)
-          (IsAt world_now.coding world_now.capacity) (May n) (owed world_now.coding world_now.capacity n) n
-          (λ turn may. may.0) t (reached_own t is r such_before, refl, refl) turns allowed (both_may n turns below such))
+          (calls_end possible (owed world_now.coding world_now.capacity n) n
+          (λ turn may. may.0) t (reached_own is r such_before, refl, refl) turns allowed (both_may n turns below such))
 
     -- where any call may begin, all turns begin such calls
     all_such : ((start : Start T) → K.Such start) → (turns : List (Turn T)) → AllByRecursion (BeginsSuch K.Such) turns

@@ -17,8 +17,9 @@ use Rattle.model.proofs.LockFree.Weighed.{Weighs, runs_end}
 use Rattle.model.proofs.LockFree.Stays.{begun}
 use Rattle.model.proofs.LockFree.Sums.{sum_le}
 
-module _ {T : Type 0} (refuses : World T → Turn T → Option Refusal) (possible : (w : World T) (turn : Turn T) → refuses w turn ≡ None → IsPossible w turn)
-    (M : Measure T) (P : Trace T → Type 0) (May : Turn T → Type 0) (O : Owed M refuses P May) where
+-- What a family owes of its measure (`O`) says how many steps each call has left. So each turn takes its steps off the weight of the machine.
+module _ {T : Type 0} {refuses : World T → Turn T → Option Refusal} (possible : (w : World T) (turn : Turn T) → refuses w turn ≡ None → IsPossible w turn)
+    {M : Measure T} {P : Trace T → Type 0} {May : Turn T → Type 0} (O : Owed M refuses P May) where
   -- A party's call has at most `alone` steps left. A party without a call counts as one with the most.
   left_within : (t : Trace T) → P t → (q : ℕ) (o : Option (Flight T)) → flight_in t.world q ≡ o
       → left_of M t.world.words t.world.kept o ≤ M.alone
@@ -94,7 +95,7 @@ module _ {T : Type 0} (refuses : World T → Turn T → Option Refusal) (possibl
             absurd (cc)
         go (Going now since) same_doing there =
             let ask = ask_of (want_of t.world.coding now) in
-            resumes M n t.world p x now since (old_of t.world.words ask) ask below found same_doing (O.step t h p x now since found same_doing) there
+            resumes M n t.world p x (old_of t.world.words ask) ask below found same_doing (O.step t h p x now since found same_doing) there
 
     -- the weight pays for an answer to a question
     decides : (t : Trace T) → P t → (p : ℕ) (said : Bool) → p < n → (flight : Flight T) → flight_in t.world p ≡ Some flight
@@ -113,7 +114,7 @@ module _ {T : Type 0} (refuses : World T → Turn T → Option Refusal) (possibl
             absurd (cc)
         go (Going now since) same_doing there =
             let here : flight_in t.world p ≡ Some now = ap (λ o. flight_of (doing_of o)) found ∙ ap (λ d. flight_of (Some d)) same_doing in
-            resumes M n t.world p x now since (number_of said) None below found same_doing
+            resumes M n t.world p x (number_of said) None below found same_doing
             (O.decision t h p x now since said found same_doing (rw here at due)) there
 
     -- an owner dies
@@ -152,7 +153,7 @@ module _ {T : Type 0} (refuses : World T → Turn T → Option Refusal) (possibl
     weighs =
         record {
           keeps = O.keeps;
-          most = λ t h. at_most M n t.world (within t h);
+          most = λ t h. at_most M n (within t h);
           shows = λ t turn e may h. turn_shows t h turn e may (below turn may) (within (after_turn t turn) (O.keeps t turn e may h));
         }
 

@@ -88,6 +88,7 @@ module _ (T : Type 0) where
   no_edge =
       grind (arith, queue_writes, atomic_writes, bits_writes, index_writes, robust_writes, container_writes, loan_writes)
 
+  -- The call `start` of party `p` takes a step: it stands at `flight`, and its operation is answered `old`.
   module _ (code : Coding T) (words : List ℕ) (beside : Option (ℕ × ℕ)) (p : ℕ) (start : Start T) (flight : Flight T) (old : ℕ) (kept : Registry T) where
     -- What a step of the call writes down.
     abbrev wrote : List (Event T)

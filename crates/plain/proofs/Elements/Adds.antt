@@ -18,11 +18,11 @@ use Rattle.plain.specs.Robust as robust
 use Rattle.plain.specs.Robust.{owner_in, owners_in}
 use Rattle.plain.specs.Contents.{Contents, changed, handle_at, added, put_at, after_add, contents_in, Represents}
 use Rattle.plain.proofs.Alone.{Runs}
-use Rattle.plain.proofs.Walks.{plus, plus_sum, Walks, WalksOn, OnEnd, longer, part_walks_low, runs}
+use Rattle.plain.proofs.Walks.{plus, plus_sum, Walks, WalksOn, OnEnd, longer, part_walks, runs}
 use Rattle.plain.proofs.Words.{stored}
 use Rattle.plain.proofs.Fronts.{Behind, stays, front_walks}
 use Rattle.plain.proofs.Elements.Sets.{AcquireLow, acquire_goes_low, acquire_below, acquire_front}
-use Rattle.plain.proofs.Elements.Values.{front_fits, behind_contents, behind_fits, hidden, shown, shows, after_change}
+use Rattle.plain.proofs.Elements.Values.{Codes, front_fits, behind_contents, behind_fits, hidden, shown, shows, after_change}
 use Rattle.plain.proofs.Elements.Values.{change_fits, change_contents, all_small, cell_within}
 
 -- ---- which index is acquired
@@ -44,9 +44,9 @@ owners_long capacity (g ∷ cells) fits =
     let e : suc (length cells) ≡ 1 + capacity = fits.long in
     omega (arith, length-map cells owner_in)
 
-module _ {V : Type 0} (words_of : V → List ℕ) (value_of : List ℕ → V) (size : ℕ)
-    (sized : (x : V) → length (words_of x) ≡ size) (given_back : (x : V) → value_of (words_of x) ≡ x)
-    (some : 1 ≤ size) (wide : size ≤ 128) (capacity container : ℕ) (given : Owned V) where
+module _ {V : Type 0} (codes : Codes V) (capacity container : ℕ) (given : Owned V) where
+  open codes use {words_of, value_of, size, sized, given_back, some, wide}
+
   -- the add, run alone from these words, ends within n steps, and P holds of its answer and the last words
   abbrev AddEnds : ℕ → (Added → List ℕ → Type 0) → Add V → List ℕ → Type 0
   AddEnds n P call words =
@@ -108,18 +108,18 @@ module _ {V : Type 0} (words_of : V → List ℕ) (value_of : List ℕ → V) (s
   -- With an index acquired, the add hides what stands there, stores its value, shows it and counts the
   -- change. The cases are whether something is to be hidden.
   puts : (P : Added → List ℕ → Type 0) (ws : List ℕ) (fits : Represents size capacity ws) (index : ℕ) (near : index < capacity)
-      → P (Ok index) (after_change value_of size capacity ws fits index near wide
-      (shown value_of size capacity ws fits index near wide xs given.value (sized given.value) (given_back given.value)))
+      → P (Ok index) (after_change value_of fits index near wide
+      (shown value_of fits index near wide xs (sized given.value) (given_back given.value)))
       → AddEnds few_steps P (at_add first (adds.LoadsCount index)) ws
   puts P ws fits index near holds =
       let c = count_word capacity index in
       let n = slice_index ws (count_word capacity index) in
-      let count : suc (size - 1) ≡ size = omega arith in
+      let count : suc (size - 1) ≡ size = omega (arith, some) in
       let small : element_word capacity size index 0 + size < 2 ^ 64 =
-      omega (arith, cell_within value_of size capacity ws fits index near wide, all_small value_of size capacity ws fits index near wide) in
+      omega (arith, cell_within value_of fits index near wide, all_small value_of fits index near wide) in
       -- from the words with the value hidden, the add stores its words, makes the number odd
       -- and counts the change
-      let on : (hs : List ℕ) → hidden value_of size capacity ws fits index near wide ≡ hs
+      let on : (hs : List ℕ) → hidden value_of fits index near wide ≡ hs
       → AddEnds (suc (suc (suc (size - 1)))) P (at_add first (adds.Stores index 0)) hs =
       λ hs e. goes_in P index (size - 1) 0 (omega arith) hs small
       (subst (λ (z : List ℕ × ℕ). P (Ok index) (last_of index (stored z.0 (element_word capacity size index 0) xs 0 z.1))) (λ i. (e i, sym count i)) holds) in
@@ -162,7 +162,7 @@ module _ {V : Type 0} (words_of : V → List ℕ) (value_of : List ℕ → V) (s
     abbrev AddGoesOn : Acquired → List ℕ → Type 0
     AddGoesOn e last = AddEndsFrom few_steps (Put words) (add_acquired first (Done e)) last
 
-    -- AddEndsFrom an end of the acquire the add goes on: with an index it puts its value there, and with a failure
+    -- From an end of the acquire the add goes on: with an index it puts its value there, and with a failure
     -- it ends. The cases are what the acquire has answered.
     so : (e : Acquired) (last : List ℕ) → Behind (1 + capacity) words last → AcquireBehaves e (take (1 + capacity) last) → AddGoesOn e last
     -- the acquire got an index: the add puts its value there
@@ -170,13 +170,13 @@ module _ {V : Type 0} (words_of : V → List ℕ) (value_of : List ℕ → V) (s
         let fits₂ = behind_fits value_of size capacity words last behind fits took.0 in
         let long = owners_long capacity (take (1 + capacity) words) (front_fits value_of size capacity words fits) in
         let near : index < capacity = subst (λ n. index < n) long (acquired_low old.owners index took.1) in
-        let there = shows value_of size capacity last fits₂ index near wide xs given.value (sized given.value) (given_back given.value) in
+        let there = shows value_of fits₂ index near wide xs (sized given.value) (given_back given.value) in
         let set : owners_in (take (1 + capacity) last) ≡ granted old.owners given.owner (Ok index) =
         took.2 ∙ ap (granted old.owners given.owner) (sym took.1) in
         puts (Put words) last fits₂ index near (
-          change_fits value_of size capacity last fits₂ index near wide _ there.writes,
+          change_fits value_of fits₂ index near wide there.writes,
           ap (handle_at old given.owner) took.1,
-          change_contents value_of size capacity last fits₂ index near wide container _ (Some given.value) there.writes there.here
+          change_contents value_of fits₂ index near wide container there.writes there.here
               ∙ (ap (λ s. changed s (owners_in (take (1 + capacity) last)) index (Some given.value))
               (behind_contents value_of size capacity container words last behind)
               ∙ (ap (λ set. changed old set index (Some given.value)) set
@@ -199,21 +199,29 @@ module _ {V : Type 0} (words_of : V → List ℕ) (value_of : List ℕ → V) (s
     add_runs =
         let a = acquire_front capacity given.owner lives (take (1 + capacity) words) (front_fits value_of size capacity words fits) in
         let bound = a.1 in
-        runs (add_want words_of size) (λ c given old. add_after size c old) given (plus a.0 few_steps) (Put words) first words
-        (omega (arith, plus_sum a.0 few_steps))
-        (part_walks_low (λ c. add_want words_of size c given) (λ c old. add_after size c old)
-        (λ c. acquire_want c given.owner) (λ c old. acquire_after c old)
-        (λ d. at_add first (adds.Acquires d.stage)) (add_acquired first) (AcquireLow capacity)
-        (acquire_goes_low capacity) (λ d. refl)
-        (λ d old low. ap (λ n. add_acquired first (acquire_takes (inner_acquire n d.stage) d.stage old)) (sym low.0))
-        (λ d. refl) a.0 few_steps (OnEnd (Put words)) (first_acquire capacity) words (refl, tt)
+        runs (plus a.0 few_steps) (Put words) (omega (arith, plus_sum a.0 few_steps, wide))
+        (part_walks
+        (record {
+          want = λ c. add_want words_of size c given;
+          after = λ c old. add_after size c old;
+          part_want = λ c. acquire_want c given.owner;
+          part_after = λ c old. acquire_after c old;
+          within = λ d. at_add first (adds.Acquires d.stage);
+          lift = add_acquired first;
+          Low = AcquireLow capacity;
+          low_on = acquire_goes_low capacity;
+          wants_so = λ d. refl;
+          goes_so = λ d old low. ap (λ n. add_acquired first (acquire_takes (inner_acquire n d.stage) d.stage old)) (sym low.0);
+          lifts = λ d. refl;
+        })
+        a.0 few_steps (OnEnd (Put words)) (first_acquire capacity) words (refl, tt)
         (front_walks (λ c. acquire_want c given.owner) (λ c old. acquire_after c old) (1 + capacity) (AcquireLow capacity)
         (acquire_below capacity given.owner) (acquire_goes_low capacity) words AcquireBehaves AddGoesOn so a.0
         (first_acquire capacity) words (refl, tt) (stays (1 + capacity) words) a.2))
 
   -- an add, run alone, does what an add does to the contents
-  pub add_at : (number : ℕ) → number ≡ given.owner → number < empty → (call : Add V) → call ≡ first
-      → (words : List ℕ) → Represents size capacity words
+  pub add_at : {number : ℕ} → number ≡ given.owner → number < empty → {call : Add V} → call ≡ first
+      → {words : List ℕ} → Represents size capacity words
       → Runs (add_want words_of size) (λ c given old. add_after size c old) (λ c (room : Unit {0}) old. room) given
       (λ e room ws. Put words e ws) call tt words
   add_at = grind (arith, add_runs)

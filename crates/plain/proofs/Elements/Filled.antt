@@ -88,14 +88,14 @@ module _ {V : Type 0} where
 -- a call that does what the container's call does, after which each index with an owner has
 -- a value, keeps `Holds`
 pub still : {V A : Type 0} (value_of : List ℕ → V) (size capacity container : ℕ) (answer : Contents V → A) (next : Contents V → Contents V)
-    (words : List ℕ) → IsFilled (next (contents_in value_of size capacity container words)) → (a : A) (last : List ℕ)
+    (words : List ℕ) → IsFilled (next (contents_in value_of size capacity container words)) → {a : A} {last : List ℕ}
     → BehavesAs (Represents size capacity) (contents_in value_of size capacity container) answer next words a last
     → BehavesAs (Holds value_of size capacity container) (contents_in value_of size capacity container) answer next words a last
 still = grind arith
 
 -- there are as many values as owners
-pub values_long : {V : Type 0} (value_of : List ℕ → V) (size capacity container : ℕ) (words : List ℕ) → Represents size capacity words
+pub values_long : {V : Type 0} (value_of : List ℕ → V) {size capacity : ℕ} (container : ℕ) {words : List ℕ} → Represents size capacity words
     → length (contents_in value_of size capacity container words).values ≡ length (contents_in value_of size capacity container words).owners.owners
-values_long value_of size capacity container words fits =
+values_long value_of {size} {capacity} container {words} fits =
     length-map-range_with_len (value_at value_of size capacity words) 0 capacity
     ∙ sym (owners_long capacity (take (1 + capacity) words) (front_fits value_of size capacity words fits))

@@ -20,8 +20,8 @@ use Rattle.plain.specs.Contents.{Contents, value_at, contents_in, Represents, Ho
 use Rattle.plain.specs.Visited.{Stands}
 use Rattle.plain.proofs.Walks.{plus, Walks, WalksOn, longer}
 use Rattle.plain.proofs.Rooms.{with_room, want_both, after_both}
-use Rattle.plain.proofs.Words.{read_in, value_read}
-use Rattle.plain.proofs.Robust.Parts.{head_or, tail_of, here, past, next_cell, owner_some}
+use Rattle.plain.proofs.Words.{Room, read_in, value_read}
+use Rattle.plain.proofs.Robust.Parts.{head_or, tail_of, split, here, past, next_cell, owner_some}
 use Rattle.plain.proofs.Robust.Finds.{mine, hits, misses}
 use Rattle.plain.proofs.Elements.Filled.{IsSome}
 use Rattle.plain.proofs.Elements.Values.{front_fits, cell_within, all_small}
@@ -34,14 +34,11 @@ pub record Ready {V : Type 0} (value_of : List ℕ → V) (size capacity contain
   pub lives : owner < empty
   pub holds : Holds value_of size capacity container words
 
--- a list of 1 + n words is its first word and the rest
-split : (n : ℕ) (ws : List ℕ) → length ws ≡ 1 + n → ws ≡ head_or 0 ws ∷ tail_of ws
-split n [] long = let e₁ : 0 ≡ 1 + n = long in absurd (omega arith)
-split n (w ∷ ws) long = refl
-
 -- ---- the cells and the values that stand there
 
-module _ {V : Type 0} (value_of : List ℕ → V) (size capacity container : ℕ) (words : List ℕ) (holds : Holds value_of size capacity container words) where
+-- The words are those of a container, whose number is `container`.
+module _ {V : Type 0} (value_of : List ℕ → V) {size capacity : ℕ} (container : ℕ) {words : List ℕ}
+    (holds : Holds value_of size capacity container words) where
   -- the words are those of a container
   abbrev pub fits : Represents size capacity words
   fits = holds.0
@@ -64,7 +61,7 @@ module _ {V : Type 0} (value_of : List ℕ → V) (size capacity container : ℕ
 
   -- the words of the set are its counter and the cells
   pub front : take (1 + capacity) words ≡ counter ∷ cells
-  front = split capacity (take (1 + capacity) words) front_long
+  front = split capacity front_long
 
   -- there are as many cells as the capacity
   pub cells_long : length cells ≡ capacity
@@ -114,20 +111,21 @@ module _ {V : Type 0} (value_of : List ℕ → V) (size capacity container : ℕ
   small_at = grind (arith, cell_within, all_small)
 
 -- reading words keeps the length of a room
-pub long_read : {R : Type 0} (words_in : R → List ℕ) (with_word : R → ℕ → ℕ → R)
-    → ((x : R) (at word : ℕ) → words_in (with_word x at word) ≡ slice_set (words_in x) at word)
-    → (words : List ℕ) (room : R) (k n at : ℕ) → length (words_in (read_in with_word room words k at n)) ≡ length (words_in room)
-long_read words_in with_word put_in words room k zero at = refl
-long_read words_in with_word put_in words room k (suc n) at =
-    long_read words_in with_word put_in words (with_word room at (slice_index words (word_at k at))) k n (at + 1)
-    ∙ (ap length (put_in room at (slice_index words (word_at k at)))
-    ∙ length-set (words_in room) at (slice_index words (word_at k at)))
+pub long_read : {R : Type 0} (as_room : Room R) (words : List ℕ) (room : R) (k n at : ℕ)
+    → length (as_room.words_in (read_in as_room.with_word room words k at n)) ≡ length (as_room.words_in room)
+long_read as_room words room k zero at = refl
+long_read as_room words room k (suc n) at =
+    long_read as_room words (as_room.with_word room at (slice_index words (word_at k at))) k n (at + 1)
+    ∙ (ap length (as_room.put_in room at (slice_index words (word_at k at)))
+    ∙ length-set (as_room.words_in room) at (slice_index words (word_at k at)))
 
 -- ---- the walk from one value to the next
 
-module _ {V R : Type 0} (value_of : List ℕ → V) (words_in : R → List ℕ) (with_word : R → ℕ → ℕ → R)
-    (put_in : (x : R) (at word : ℕ) → words_in (with_word x at word) ≡ slice_set (words_in x) at word)
-    (size capacity container owner : ℕ) (words : List ℕ) (ready : Ready value_of size capacity container owner words) where
+-- A find of the owner reads values into a room, in a container that is ready for it.
+module _ {V R : Type 0} {value_of : List ℕ → V} (as_room : Room R) {size capacity container owner : ℕ} {words : List ℕ}
+    (ready : Ready value_of size capacity container owner words) where
+  open as_room use {words_in, with_word}
+
   -- what the find asks for
   abbrev want : Find V R → ℕ → Want (Unit {0})
   want c given = find_want size c
@@ -154,7 +152,7 @@ module _ {V R : Type 0} (value_of : List ℕ → V) (words_in : R → List ℕ) 
 
   -- the cells of the owners
   abbrev pub its_cells : List ℕ
-  its_cells = cells value_of size capacity container words ready.holds
+  its_cells = cells value_of container ready.holds
 
   -- the room once n words of an index's value are read into it
   abbrev after_reading : R → ℕ → ℕ → R
@@ -191,7 +189,7 @@ module _ {V R : Type 0} (value_of : List ℕ → V) (words_in : R → List ℕ) 
       → Walks pair_want pair_after (suc (suc (suc n))) P (at (finds.LoadsWord i found (number_at i) k), room) words
   reads P i found near zero k end room holds =
       let place : element_word capacity size i k ≡ word_at (cell_at i) k =
-      omega (arith, small_at value_of size capacity container words ready.holds i near ready.wide) in
+      omega (arith, small_at value_of container ready.holds i near ready.wide) in
       let c = count_word capacity i in
       let next = with_word room k (slice_index words (word_at (cell_at i) k)) in
       subst (λ p. WalksOn pair_want pair_after 2 P (with_room (with_word room k (slice_index words p))
@@ -208,7 +206,7 @@ module _ {V R : Type 0} (value_of : List ℕ → V) (words_in : R → List ℕ) 
       (subst (λ ws. Walks pair_want pair_after 1 P (at (finds.Asks i found), next) ws) (sym (set-get_or words c 0)) holds)))
   reads P i found near (suc n) k end room holds =
       let place : element_word capacity size i k ≡ word_at (cell_at i) k =
-      omega (arith, small_at value_of size capacity container words ready.holds i near ready.wide) in
+      omega (arith, small_at value_of container ready.holds i near ready.wide) in
       let next = with_word room k (slice_index words (word_at (cell_at i) k)) in
       subst (λ p. WalksOn pair_want pair_after (suc (suc (suc n))) P
       (with_room (with_word room k (slice_index words p))
@@ -225,14 +223,14 @@ module _ {V R : Type 0} (value_of : List ℕ → V) (words_in : R → List ℕ) 
   each = suc (suc (suc (suc (size - 1))))
 
   -- at an index whose cell has the owner, the find reads the value and asks about that index
-  hit : (i found : ℕ) (rest left : List ℕ) → i < capacity → found ≤ i → slice_index its_cells i ≡ owner → drop (i + 1) its_cells ≡ rest
+  hit : (i found : ℕ) {rest left : List ℕ} → i < capacity → found ≤ i → slice_index its_cells i ≡ owner → drop (i + 1) its_cells ≡ rest
       → left ≡ i ∷ mine owner (i + 1) rest → (room : R) → size ≤ length (words_in room)
       → Walks pair_want pair_after each (StopsAt found left) (at (finds.LoadsCount i (one_more found)), room) words
-  hit i found rest left near low owns rest_is left_is room long =
+  hit i found {rest} {left} near low owns rest_is left_is room long =
       -- the number of the value is odd, so a value stands at the index and the find reads it
-      let odd = odd_at value_of size capacity container words ready.holds i owner near ready.lives owns in
+      let odd = odd_at value_of container ready.holds i owner near ready.lives owns in
       let all : size ≡ suc (size - 1) = omega (arith, ready.some) in
-      let small = small_at value_of size capacity container words ready.holds i near ready.wide in
+      let small = small_at value_of container ready.holds i near ready.wide in
       let few = ready.holds.0.few in
       let more : one_more found ≡ found + 1 = omega arith in
       subst (λ b. WalksOn pair_want pair_after (suc (suc (suc (size - 1)))) (StopsAt found left)
@@ -256,35 +254,42 @@ module _ {V R : Type 0} (value_of : List ℕ → V) (words_in : R → List ℕ) 
         asks = refl;
         stands = ap (λ n. at (finds.Asks i n)) more;
         -- the value that was read is the one that stands at the index
-        copied = stands_at value_of size capacity container words ready.holds i near odd
-            ∙ ap Some (sym (value_read value_of size words_in with_word put_in room words (cell_at i) long (omega arith)));
-        wide = subst (λ n. size ≤ n) (sym (long_read words_in with_word put_in words room (cell_at i) size 0)) long;
+        copied = stands_at value_of container ready.holds i near odd
+            ∙ ap Some (sym (value_read value_of size as_room room words (cell_at i) long (omega arith)));
+        wide = subst (λ n. size ≤ n) (sym (long_read as_room words room (cell_at i) size 0)) long;
         same = refl;
       })))
 
+  -- the find has come to this index with this count, and these cells and these indices of the owner are left
+  pub record ComesTo (index found : ℕ) (rest left : List ℕ) : Type 0 where
+    pub rest_is : drop index its_cells ≡ rest
+    pub low : found ≤ index
+    pub left_is : left ≡ mine owner index rest
+
   -- From this index on, with these cells left, the find stops at the owner's next index or at its end. The
   -- cases are whether a cell is left, and whether it has the owner.
-  pub finds_on : (rest : List ℕ) (index found : ℕ) (left : List ℕ) → drop index its_cells ≡ rest → found ≤ index → left ≡ mine owner index rest
-      → (room : R) → size ≤ length (words_in room)
+  pub finds_on : (rest : List ℕ) (index found : ℕ) {left : List ℕ} → ComesTo index found rest left → (room : R) → size ≤ length (words_in room)
       → WalksOn pair_want pair_after (plus (suc (length rest)) each) (StopsAt found left)
       (with_room room (find_comes_to (first_find capacity) index found)) words
-  finds_on [] index found left rest_is low all room long =
-      let far = past its_cells index rest_is in
-      let size_is = cells_long value_of size capacity container words ready.holds in
+  finds_on [] index found {left} comes room long =
+      let far = past its_cells index comes.rest_is in
+      let size_is = cells_long value_of container ready.holds in
       by_test (λ a. WalksOn pair_want pair_after (suc each) (StopsAt found left) (with_room room a) words) (nat_lt index capacity) _ _
       (λ t. let near : index < capacity = grind (arith, nat_tests) in absurd (omega arith))
-      (λ _. (all, refl, refl))
-  finds_on (c ∷ rest) index found left rest_is low all room long =
-      let there = here its_cells index c rest rest_is in
-      let size_is = cells_long value_of size capacity container words ready.holds in
+      (λ _. (comes.left_is, refl, refl))
+  finds_on (c ∷ rest) index found {left} comes room long =
+      let there = here its_cells index c rest comes.rest_is in
+      let low = comes.low in
+      let size_is = cells_long value_of container ready.holds in
       let below = there.near in
       let near : index < capacity = omega arith in
-      let word = cell_is value_of size capacity container words ready.holds index near ∙ there.word_is in
+      let word = cell_is value_of container ready.holds index near ∙ there.word_is in
       by_test (λ a. WalksOn pair_want pair_after (suc (suc (plus (length rest) each))) (StopsAt found left) (with_room room a) words)
       (nat_lt index capacity) _ _
       (λ _. by_eq (λ a. WalksOn pair_want pair_after (suc (plus (length rest) each)) (StopsAt found left) (with_room room a) words)
       (slice_index words (cell_word index)) owner _ _
       (λ e. longer pair_want pair_after (suc (length rest)) each (StopsAt found left) (at (finds.LoadsCount index (one_more found)), room) words
-      (hit index found rest left near low (there.word_is ∙ (sym word ∙ e)) there.rest_is (all ∙ hits owner index c rest ready.lives (sym word ∙ e)) room long))
-      (λ n. finds_on rest (index + 1) found left there.rest_is (omega arith) (all ∙ misses owner index c rest (λ e. n (word ∙ e))) room long))
+      (hit index found near low (there.word_is ∙ (sym word ∙ e)) there.rest_is (comes.left_is ∙ hits owner index c rest ready.lives (sym word ∙ e)) room long))
+      (λ n. finds_on rest (index + 1) found
+      (record { rest_is = there.rest_is; low = omega arith; left_is = comes.left_is ∙ misses owner index c rest (λ e. n (word ∙ e)) }) room long))
       (λ t. let far : capacity ≤ index = grind (arith, nat_tests) in absurd (omega arith))

@@ -23,7 +23,7 @@ use Rattle.plain.proofs.Elements.Values.{value_same, behind_contents, behind_fit
 
 -- ---- raise and lock, where more words stand behind those of the set
 
-module _ (capacity g : ℕ) (cells ws : List ℕ) (small : g < 2 ^ 64) (front : take (1 + capacity) ws ≡ g ∷ cells) where
+module _ (capacity : ℕ) {g : ℕ} {cells : List ℕ} (ws : List ℕ) (small : g < 2 ^ 64) (front : take (1 + capacity) ws ≡ g ∷ cells) where
   -- a raise over all the words raises the set's counter as it would alone, and leaves the
   -- words behind the set's
   pub raise_over : g ≢ locked → (Q : ReleaseState → List ℕ → Type 0)
@@ -52,7 +52,9 @@ set_swap (z ∷ l) zero (suc j) x y ne = refl
 set_swap (z ∷ l) (suc i) zero x y ne = refl
 set_swap (z ∷ l) (suc i) (suc j) x y ne = ap (λ t. z ∷ t) (set_swap l i j x y (λ e. ne (ap suc e)))
 
-module _ {V : Type 0} (value_of : List ℕ → V) (size capacity container : ℕ) (words : List ℕ) (holds : Holds value_of size capacity container words) where
+-- The words are those of a container, whose number is `container`.
+module _ {V : Type 0} (value_of : List ℕ → V) {size capacity : ℕ} (container : ℕ) {words : List ℕ}
+    (holds : Holds value_of size capacity container words) where
   -- the words are those of a container
   fits : Represents size capacity words
   fits = holds.0
@@ -63,11 +65,11 @@ module _ {V : Type 0} (value_of : List ℕ → V) (size capacity container : ℕ
 
   -- the counter of the set
   abbrev g : ℕ
-  g = counter value_of size capacity container words holds
+  g = counter value_of container holds
 
   -- the cells of the owners
   abbrev its_cells : List ℕ
-  its_cells = cells value_of size capacity container words holds
+  its_cells = cells value_of container holds
 
   -- the first word is the counter
   pub head_is : slice_index words 0 ≡ g
@@ -126,7 +128,7 @@ module _ {V : Type 0} (value_of : List ℕ → V) (size capacity container : ℕ
 
     -- the cells with this one emptied are as many as before
     pub emptied_long : length emptied ≡ capacity
-    emptied_long = length-set its_cells index empty ∙ cells_long value_of size capacity container words holds
+    emptied_long = length-set its_cells index empty ∙ cells_long value_of container holds
 
     -- to hide the value leaves the words of the set
     hid_front : take (1 + capacity) hid ≡ take (1 + capacity) words
@@ -137,7 +139,7 @@ module _ {V : Type 0} (value_of : List ℕ → V) (size capacity container : ℕ
     bare_front =
         ap (take (1 + capacity)) bare_is
         ∙ (sym (take_set (1 + capacity) (cell_word index) empty hid (omega arith))
-        ∙ (ap (λ ws. slice_set ws (cell_word index) empty) (hid_front ∙ front value_of size capacity container words holds)
+        ∙ (ap (λ ws. slice_set ws (cell_word index) empty) (hid_front ∙ front value_of container holds)
         ∙ next_set g index empty its_cells))
 
     -- to empty the cell leaves the words behind the set's
@@ -145,7 +147,7 @@ module _ {V : Type 0} (value_of : List ℕ → V) (size capacity container : ℕ
     bare_behind = grind (arith, bare_is, length-set, empty, get_or-set_other)
 
     -- the words with the value hidden are those of `hidden`, since the number is odd
-    hid_is : hidden value_of size capacity words fits index near wide ≡ hid
+    hid_is : hidden value_of fits index near wide ≡ hid
     hid_is = ap (λ b. if b then words else hid) odd
 
     -- the words with the value hidden are those of a container
@@ -158,19 +160,19 @@ module _ {V : Type 0} (value_of : List ℕ → V) (size capacity container : ℕ
 
     -- the words with the value hidden, as a remove leaves them before it counts the change
     abbrev both : List ℕ
-    both = hidden value_of size capacity words fits index near wide
+    both = hidden value_of fits index near wide
 
     -- the contents of these words are those without the value, and no change counted
     hidden_contents : contents_in value_of size capacity container both ≡ without_value
     hidden_contents =
-        let there = hides value_of size capacity words fits index near wide in
+        let there = hides value_of fits index near wide in
         -- with the change counted the contents would be those without the value
         let changed_is =
-        change_contents value_of size capacity words fits index near wide container both None there.writes
-        (gone value_of size capacity words fits index near wide both there) in
+        change_contents value_of fits index near wide container there.writes
+        (gone value_of fits index near wide there) in
         -- the number of changes is no part of the values and the numbers, so these are the
         -- same without the count
-        let later = after_change value_of size capacity words fits index near wide both in
+        let later = after_change value_of fits index near wide both in
         let c = one_more (slice_index both (change_word capacity)) in
         let values = map_same (value_at value_of size capacity both) (value_at value_of size capacity later) capacity 0
         (λ j low high. value_same value_of size capacity both later j
@@ -195,12 +197,12 @@ module _ {V : Type 0} (value_of : List ℕ → V) (size capacity container : ℕ
 
     -- where the value is hidden, the cell emptied and the counter the one of this mode, the contents are
     -- those before with this index freed
-    pub frees_so : (last : List ℕ) → Behind (1 + capacity) hid last → take (1 + capacity) last ≡ counter_then mode g emptied ∷ emptied → Freed last
-    frees_so last behind front_is =
+    pub frees_so : {last : List ℕ} → Behind (1 + capacity) hid last → take (1 + capacity) last ≡ counter_then mode g emptied ∷ emptied → Freed last
+    frees_so {last} behind front_is =
         let set : owners_in (take (1 + capacity) last) ≡ given_back mode s.owners index =
         ap owners_in front_is
         ∙ (sym (given_back_is mode g its_cells index)
-        ∙ ap (λ ws. given_back mode (owners_in ws) index) (sym (front value_of size capacity container words holds))) in
+        ∙ ap (λ ws. given_back mode (owners_in ws) index) (sym (front value_of container holds))) in
         let is : contents_in value_of size capacity container last ≡ freed mode s index =
         behind_contents value_of size capacity container hid last behind
         ∙ (ap (λ (o : Owners). record (contents_in value_of size capacity container hid) { owners = o }) set

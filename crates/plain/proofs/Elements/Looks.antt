@@ -56,16 +56,15 @@ module _ {V : Type 0} (value_of : List ℕ → V) (size capacity container : ℕ
       BehavesAs (Represents size capacity) (contents_in value_of size capacity container) number counted words end last
 
   -- a count over a container, run alone, answers how many indices have an owner, and raises the generation
-  pub count_at : (c : BorrowedIndices) → c ≡ first_borrowed capacity → (words : List ℕ) → Represents size capacity words
+  pub count_at : {c : BorrowedIndices} → c ≡ first_borrowed capacity → {words : List ℕ} → Represents size capacity words
       → Runs (λ (c : BorrowedIndices) (given : Unit {0}). borrowed_want c) (λ c given old. borrowed_after c old) (λ c (room : Unit {0}) old. room) tt
       (λ e room ws. Counted words e ws) c tt words
-  count_at c at_first words fits =
+  count_at {c} at_first {words} fits =
       let a = borrowed_front capacity (take (1 + capacity) words) (front_fits value_of size capacity words fits) in
       let bound = a.1 in
       subst (λ c. Runs (λ (c : BorrowedIndices) (given : Unit {0}). borrowed_want c) (λ c given old. borrowed_after c old) (λ c (room : Unit {0}) old. room) tt
       (λ e room ws. Counted words e ws) c tt words) (sym at_first)
-      (runs (λ (c : BorrowedIndices) (given : Unit {0}). borrowed_want c) (λ c given old. borrowed_after c old) tt
-      a.0 (Counted words) (first_borrowed capacity) words (omega arith)
+      (runs a.0 (Counted words) (omega arith)
       -- the count touches the words of the set alone, so it is a count over those
       (front_walks (λ (c : BorrowedIndices). borrowed_want c) (λ c old. borrowed_after c old) (1 + capacity) (BorrowedLow capacity)
       (λ call low. count_below capacity call.count low.1) (goes_low capacity) words
@@ -85,7 +84,7 @@ module _ {V : Type 0} (value_of : List ℕ → V) (size capacity container : ℕ
       BehavesAs (Represents size capacity) (contents_in value_of size capacity container) is_locked (λ s. s) words end last
 
   -- a look at the lock of a container, run alone, answers whether it is locked
-  pub look_at : (c : IsLocked) (words : List ℕ) → Represents size capacity words
+  pub look_at : {c : IsLocked} {words : List ℕ} → Represents size capacity words
       → Runs (λ (c : IsLocked) (given : Unit {0}). load 0) (λ c given old. locked_after c old) (λ c (room : Unit {0}) old. room) tt
       (λ e room ws. Looked words e ws) c tt words
   look_at = grind (arith, runs, load, take, suc)

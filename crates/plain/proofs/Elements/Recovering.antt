@@ -29,12 +29,28 @@ use Rattle.plain.proofs.Robust.Finding.{folds_more}
 use Rattle.plain.proofs.Robust.Recovering.{locked_leaves, an_answer, questions_more, agreed_no, agreed_yes}
 use Rattle.plain.proofs.Elements.Finds.{Ready, counter, cells, cells_long, front}
 use Rattle.plain.proofs.Elements.Frees.{counter_low}
-use Rattle.plain.proofs.Elements.Recovers.{of_owner, AsksAt, StopsAt, recovers_on, begin_walk, frees_on}
+use Rattle.plain.proofs.Words.{Room}
+use Rattle.plain.proofs.Elements.Recovers.{Recovery, of_owner, AsksAt, StopsAt, recovers_on, begin_walk, frees_on}
 
-module _ {V R F : Type 0} (value_of : List ℕ → V) (words_in : R → List ℕ) (with_word : R → ℕ → ℕ → R)
-    (put_in : (x : R) (at word : ℕ) → words_in (with_word x at word) ≡ slice_set (words_in x) at word)
-    (step : F → V → Bool → F → Type 0) (f : F)
-    (size capacity container owner : ℕ) (mode : ReleaseMode) (words : List ℕ) where
+-- A recovery with its closure: how values are read, the container and its words as the recovery began, the dead
+-- owner and the mode, and the closure.
+pub record RecoverCase (V R F : Type 0) : Type 1 where
+  -- a value by its words, the room into which these are read, and how many they are
+  pub value_of : List ℕ → V
+  pub as_room : Room R
+  pub size : ℕ
+  pub capacity : ℕ
+  pub container : ℕ
+  pub owner : ℕ
+  pub mode : ReleaseMode
+  pub words : List ℕ
+  -- what a question about a value with this answer makes of the closure, and the closure at first
+  pub step : F → V → Bool → F → Type 0
+  pub first : F
+
+module _ {V R F : Type 0} (case : RecoverCase V R F) where
+  open case use {value_of, as_room, as_room.{words_in, with_word}, size, capacity, container, owner, mode, words, step, first}
+
   -- what the recovery is given
   abbrev given : DeadOwner
   given = record { owner = owner; mode = mode }
@@ -63,11 +79,26 @@ module _ {V R F : Type 0} (value_of : List ℕ → V) (words_in : R → List ℕ
   abbrev Begun : Type 0
   Begun = Ready value_of size capacity container owner words
 
+  -- the recovery alone, once it may begin
+  abbrev alone : Begun → Recovery V R
+  alone ready =
+      record {
+        value_of = value_of;
+        as_room = as_room;
+        size = size;
+        some = ready.some;
+        wide = ready.wide;
+        capacity = capacity;
+        container = container;
+        owner = owner;
+        lives = ready.lives;
+        mode = mode;
+      }
+
   -- the recovery stops at the first of the indices that are left, at no index below `from`, or at its end,
   -- with contents s
   abbrev RecoveryStopsAt : Begun → Contents V → ℕ → List Owned → Stop (Recover V R × R) (ReleaseState × R) → List ℕ → Type 0
-  RecoveryStopsAt ready s from left stop last =
-      StopsAt value_of words_in with_word put_in size capacity container owner mode ready.some ready.wide ready.lives s from left stop last
+  RecoveryStopsAt ready s from left stop last = StopsAt (alone ready) s from left stop last
 
   -- The recovery is under way: the closure has answered the questions of `asked`, and those of `left` are
   -- left, at no index below `from`. The contents s are those before with the indices of a yes freed, and
@@ -82,7 +113,7 @@ module _ {V R F : Type 0} (value_of : List ℕ → V) (words_in : R → List ℕ
     pub joined : questions asked ++ left ≡ all
     -- the closure's answers, and the contents: those before with the indices of a yes freed, and unchanged
     -- from `from` on
-    pub answers : FoldsTo (asks (Says step old)) f asked p
+    pub answers : FoldsTo (asks (Says step old)) first asked p
     pub s_is : s ≡ all_freed mode old (agreed asked)
     pub same : (j : ℕ) → from ≤ j → slice_index_or s.values j None ≡ slice_index_or old.values j None
     -- nothing is left once the set is locked
@@ -102,15 +133,15 @@ module _ {V R F : Type 0} (value_of : List ℕ → V) (words_in : R → List ℕ
   pub record Gone (state : ReleaseState) (p : F) (last : List ℕ) : Type 0 where
     pub fit : Holds value_of size capacity container last
     pub state_is : state ≡ state_of (read last).owners
-    pub calls : HasRecovered step owner mode old (read last) f p
+    pub calls : HasRecovered step owner mode old (read last) first p
 
   -- a recovery that begins has asked nothing yet
-  begins : (ready : Begun) (room : R) → size ≤ length (words_in room) → Recovering ready 0 (first_recover capacity) room f words
+  begins : (ready : Begun) (room : R) → size ≤ length (words_in room) → Recovering ready 0 (first_recover capacity) room first words
   begins ready room long =
-      let size_is = cells_long value_of size capacity container words ready.holds in
+      let size_is = cells_long value_of container ready.holds in
       let few = ready.holds.0.few in
       let wide = ready.wide in
-      let its_cells : List ℕ = cells value_of size capacity container words ready.holds in
+      let its_cells : List ℕ = cells value_of container ready.holds in
       record {
         s = old;
         from = 0;
@@ -125,20 +156,18 @@ module _ {V R F : Type 0} (value_of : List ℕ → V) (words_in : R → List ℕ
         high = omega arith;
         -- the call halts at the owner's first index, or at its end
         run =
-            halts_both want (recover_after size) kept given
+            halts_both
             (suc (plus (suc (suc (suc (length its_cells)))) (suc (suc (suc (suc (size - 1))))))) (RecoveryStopsAt ready old 0 all)
-            (first_recover capacity) room words
             (omega (arith, plus_sum (suc (suc (suc (length its_cells)))) (suc (suc (suc (suc (size - 1)))))))
-            (begin_walk value_of words_in with_word put_in size capacity container owner mode ready.some ready.wide ready.lives words ready.holds room long);
+            (begin_walk (alone ready) ready.holds room long);
       }
 
   -- ---- at a question
 
-  module _ (ready : Begun) (done : ℕ) (call : Recover V R) (room₀ : R) (p : F) (items : List ℕ) (so_far : Recovering ready done call room₀ p items)
-      (put : Recover V R) (room : R) (last : List ℕ)
-      (stopped : AsksAt value_of words_in with_word put_in size capacity container owner mode ready.some ready.wide ready.lives so_far.s so_far.from
-      so_far.left put room last)
-      (value : V) (value_is : value ≡ value_in value_of size (words_in room)) where
+  -- The recovery is under way and has stopped at a question; `value` is the value that its room has.
+  module _ {ready : Begun} {done : ℕ} {call : Recover V R} {room₀ : R} {p : F} {items : List ℕ} (so_far : Recovering ready done call room₀ p items)
+      {put : Recover V R} {room : R} {last : List ℕ} (stopped : AsksAt (alone ready) so_far.s so_far.from so_far.left put room last)
+      {value : V} (value_is : value ≡ value_in value_of size (words_in room)) where
     -- the index that the question is about, with its owner
     abbrev it : Owned
     it = record { owner = owner; index = stopped.index }
@@ -149,11 +178,11 @@ module _ {V R F : Type 0} (value_of : List ℕ → V) (words_in : R → List ℕ
 
     -- the cells of the owners
     abbrev its_cells : List ℕ
-    its_cells = cells value_of size capacity container last stopped.holds
+    its_cells = cells value_of container stopped.holds
 
     -- the counter of the set
     abbrev g : ℕ
-    g = counter value_of size capacity container last stopped.holds
+    g = counter value_of container stopped.holds
 
     -- the questions so far, this one and those left are all that the recovery is to ask
     asked_so : questions so_far.asked ++ it ∷ left_then ≡ all
@@ -168,11 +197,11 @@ module _ {V R F : Type 0} (value_of : List ℕ → V) (words_in : R → List ℕ
     stood = sym (so_far.same stopped.index stopped.low) ∙ stopped.copied
 
     -- the closure may be asked about the value that the room has
-    pub may_ask : (pre : F → V → Type 0) → TakesQuestions (MayAsk pre old) (Says step old) all f → pre p value
+    pub may_ask : (pre : F → V → Type 0) → TakesQuestions (MayAsk pre old) (Says step old) all first → pre p value
     may_ask = grind (arith, asked_so, value_in, stood)
 
     -- with this answer the closure has answered one question more
-    answers_then : (b : Bool) (q : F) → step p value b q → FoldsTo (asks (Says step old)) f (so_far.asked ++ an_answer it b ∷ []) q
+    answers_then : (b : Bool) (q : F) → step p value b q → FoldsTo (asks (Says step old)) first (so_far.asked ++ an_answer it b ∷ []) q
     answers_then = grind (arith, folds_more, asks, value_in, stood)
 
     -- the owners of the contents are those of counter and cells
@@ -186,7 +215,7 @@ module _ {V R F : Type 0} (value_of : List ℕ → V) (words_in : R → List ℕ
     -- the cells left are at most as many as the capacity
     short : length stopped.rest ≤ capacity
     short =
-        omega (arith, length-drop (stopped.index + 1) its_cells, ap length stopped.rest_is, cells_long value_of size capacity container last stopped.holds)
+        omega (arith, length-drop (stopped.index + 1) its_cells, ap length stopped.rest_is, cells_long value_of container stopped.holds)
 
     -- the stage after a no: the load of the next cell, or of the counter after the last
     abbrev next_stage : RecoverStage
@@ -218,14 +247,12 @@ module _ {V R F : Type 0} (value_of : List ℕ → V) (words_in : R → List ℕ
           high = omega arith;
           -- the recovery goes on to the next question or to its end, over the same words
           run =
-              halts_both want (recover_after size) kept given
+              halts_both
               (plus (suc (suc (suc (length stopped.rest)))) (suc (suc (suc (suc (size - 1))))))
               (RecoveryStopsAt ready so_far.s (stopped.index + 1) left_then)
-              (record { capacity = capacity; stage = next_stage; of = record {} }) room last
               (omega (arith, plus_sum (suc (suc (suc (length stopped.rest)))) (suc (suc (suc (suc (size - 1)))))))
-              (recovers_on value_of words_in with_word put_in size capacity container owner mode ready.some
-              ready.wide ready.lives last stopped.holds so_far.s stopped.is (stopped.index + 1) stopped.rest (stopped.index + 1) left_then
-              stopped.rest_is refl (omega arith) room stopped.roomy);
+              (recovers_on (alone ready) stopped.holds stopped.is (stopped.index + 1) stopped.rest (stopped.index + 1)
+              (record { rest_is = stopped.rest_is; left_is = refl; low = omega arith }) room stopped.roomy);
         }
 
     -- the cells with this one emptied
@@ -243,7 +270,7 @@ module _ {V R F : Type 0} (value_of : List ℕ → V) (words_in : R → List ℕ
         (sym stopped.rest_is ∙ sym
         (drop-set-lt (stopped.index + 1) its_cells stopped.index empty (let l : stopped.index < stopped.index + 1 = omega arith in l)))
         ∙ ap (filter (λ (o : Owned). o.owner == owner))
-        (locked_leaves mode g gone (stopped.index + 1) (stopped.index + 1) (counter_low value_of size capacity container last stopped.holds) opens
+        (locked_leaves mode g gone (stopped.index + 1) (stopped.index + 1) (counter_low value_of container stopped.holds) opens
         (sym generation_then ∙ locks))
 
     -- the stage after a yes: the exchange of the cell to empty
@@ -260,7 +287,7 @@ module _ {V R F : Type 0} (value_of : List ℕ → V) (words_in : R → List ℕ
         let from = stopped.low in
         let near = stopped.near in
         let set = length-set its_cells stopped.index empty in
-        let size_is = cells_long value_of size capacity container last stopped.holds in
+        let size_is = cells_long value_of container stopped.holds in
         record {
           s = freed mode so_far.s stopped.index;
           from = stopped.index + 1;
@@ -279,18 +306,16 @@ module _ {V R F : Type 0} (value_of : List ℕ → V) (words_in : R → List ℕ
           low = omega arith;
           high = omega arith;
           -- the recovery empties the cell, frees its value, and goes on to the next question or to its end
-          run = halts_both want (recover_after size) kept given
+          run = halts_both
               (suc (suc (plus 2 (plus (plus (suc (suc (suc (length gone)))) 1)
               (plus (suc (suc (suc (length stopped.rest)))) (suc (suc (suc (suc (size - 1))))))))))
               (RecoveryStopsAt ready (freed mode so_far.s stopped.index) (stopped.index + 1) left_then)
-              (record { capacity = capacity; stage = emptying; of = record {} }) room last
               (let c = plus_sum (plus (suc (suc (suc (length gone)))) 1) (plus (suc (suc (suc (length stopped.rest)))) (suc (suc (suc (suc (size - 1)))))) in
               let d =
               plus_sum 2 (plus (plus (suc (suc (suc (length gone)))) 1)
               (plus (suc (suc (suc (length stopped.rest)))) (suc (suc (suc (suc (size - 1))))))) in
               omega (arith, plus_sum (suc (suc (suc (length stopped.rest)))) (suc (suc (suc (suc (size - 1))))), plus_sum (suc (suc (suc (length gone)))) 1))
-              (frees_on value_of words_in with_word put_in size capacity container owner mode ready.some ready.wide
-              ready.lives last stopped.holds so_far.s stopped.is stopped.index stopped.near stopped.owns opens stopped.rest stopped.rest_is room stopped.roomy);
+              (frees_on (alone ready) stopped.holds stopped.is stopped.index stopped.near stopped.owns opens stopped.rest_is room stopped.roomy);
         }
 
     -- after the question was answered the recovery is under way with one question more
@@ -300,66 +325,78 @@ module _ {V R F : Type 0} (value_of : List ℕ → V) (words_in : R → List ℕ
   -- ---- as the driver holds it
 
   -- a recovery over these words has begun as it may, and is under way
-  abbrev pub Searching : ℕ → Recover V R → R → F → List ℕ → Type 0
-  Searching done call room p items = (ready : Begun) × Recovering ready done call room p items
+  pub record Searching (done : ℕ) (call : Recover V R) (room : R) (p : F) (items : List ℕ) : Type 0 where
+    pub ready : Begun
+    pub recovering : Recovering ready done call room p items
+
+  -- what an answer has led to: the recovery is under way; it does not end before a further step
+  abbrev pub Further : ℕ → After (Recover V R) ReleaseState → R → F → List ℕ → Type 0
+  Further done (GoOn call) room p items = Searching done call room p items
+  Further done (Done state) room p items = ⊥
 
   -- a recovery that has taken no step is under way
   pub starts : (call : Recover V R) → call ≡ first_recover capacity → (room : R) → size ≤ length (words_in room)
-      → Begun → Searching 0 call room f words
-  starts = grind (arith, begins)
+      → Begun → Searching 0 call room first words
+  starts call at_first room long ready =
+      subst (λ c. Searching 0 c room first words) (sym at_first) (record { ready = ready; recovering = begins ready room long })
 
-  module _ (done : ℕ) (call : Recover V R) (room₀ : R) (p : F) (items : List ℕ) (so_far : Searching done call room₀ p items) where
-    -- a recovery under way can stop
-    pub can_go : CanStop want (recover_after size) kept given call room₀ items
-    can_go = can_stop want (recover_after size) kept given _ call room₀ items so_far.1.run
+-- A recovery that a driver holds: the closure has answered `done` questions, and is `p` as these have left it.
+module _ {V R F : Type 0} {case : RecoverCase V R F} {done : ℕ} {call : Recover V R} {room₀ : R} {p : F} {items : List ℕ}
+    (so_far : Searching case done call room₀ p items) where
+  open case use {value_of, as_room.{words_in}, size, owner, step, first}
+  open so_far use {ready, recovering}
 
-    -- where a driver has brought a recovery under way to a stop, it is one of those that `RecoveryStopsAt` says
-    stops_at : (stop : Stop (Recover V R) ReleaseState) (room : R) (last : List ℕ)
-        → StopsAlike want (recover_after size) kept given call room₀ items stop room last
-        → Apart (RecoveryStopsAt so_far.0 so_far.1.s so_far.1.from so_far.1.left) stop room last
-    stops_at = grind (arith, stops_so)
+  -- a recovery under way can stop
+  pub can_go : CanStop (want case) (recover_after size) (kept case) (given case) call room₀ items
+  can_go = can_stop recovering.run
 
-    -- a recovery under way that a driver has brought to its end has done all that it says
-    pub ended_so : (state : ReleaseState) (room : R) (last : List ℕ)
-        → StopsAlike want (recover_after size) kept given call room₀ items (stops.Ended state) room last
-        → Gone state p last
-    ended_so = grind (arith, stops_at, append-nil, questions, one_change)
+  -- this is the stop of the recovery, whatever steps a driver has taken to it
+  abbrev StopsSo : Stop (Recover V R) ReleaseState → R → List ℕ → Type 0
+  StopsSo stop room last = StopsAlike (want case) (recover_after size) (kept case) (given case) call room₀ items stop room last
 
-    -- a recovery asks fewer than 2^64 - 1 questions
-    pub few_rounds : done < 2 ^ 64 - 1
-    few_rounds = grind arith
+  -- where a driver has brought a recovery under way to a stop, it is one of those that `RecoveryStopsAt` says
+  pub stops_at : {stop : Stop (Recover V R) ReleaseState} {room : R} {last : List ℕ} → StopsSo stop room last
+      → Apart (RecoveryStopsAt case ready recovering.s recovering.from recovering.left) stop room last
+  stops_at alike = stops_so recovering.run alike
 
-    module _ (question : Question (Unit {0})) (put : Recover V R) (room : R) (last : List ℕ)
-        (alike : StopsAlike want (recover_after size) kept given call room₀ items (stops.Asked question put) room last)
-        (value : V) (value_is : value ≡ value_in value_of size (words_in room)) where
-      -- at a question to which a driver has brought the recovery the closure may be asked about the value
-      -- that the room has
-      pub may_so : (pre : F → V → Type 0) → TakesQuestions (MayAsk pre old) (Says step old) all f → pre p value
-      may_so = grind (arith, may_ask, stops_at)
+  -- a recovery under way that a driver has brought to its end has done all that it says
+  pub ended_so : {state : ReleaseState} {room : R} {last : List ℕ} → StopsSo (stops.Ended state) room last → Gone case state p last
+  ended_so = grind (arith, stops_at, append-nil, questions, one_change)
 
-      -- what an answer has led to: the recovery is under way with one question more; it does not end
-      -- before a further step
-      abbrev pub Further : After (Recover V R) ReleaseState → R → F → Type 0
-      Further (GoOn d) then_room q = Searching (done + 1) d then_room q last
-      Further (Done state) then_room q = ⊥
+  -- a recovery asks fewer than 2^64 - 1 questions
+  pub few_rounds : done < 2 ^ 64 - 1
+  few_rounds = omega (arith, recovering.low, recovering.high, ready.holds.0.few)
 
-      -- `Onward` of a recovery that has begun is `Further`
-      further : (a : After (Recover V R) ReleaseState) (q : F) → Onward so_far.0 (done + 1) a room q last → Further a room q
-      further (GoOn d) q on_it_goes = (so_far.0, on_it_goes)
-      further (Done state) q on_it_goes = on_it_goes
+  -- A driver has brought the recovery to a question; `value` is the value that the room has.
+  module _ {question : Question (Unit {0})} {put : Recover V R} {room : R} {last : List ℕ}
+      (alike : StopsSo (stops.Asked question put) room last)
+      {value : V} (value_is : value ≡ value_in value_of size (words_in room)) where
+    -- the closure may be asked about the value
+    pub may_so : (pre : F → V → Type 0) → TakesQuestions (MayAsk pre (old case)) (Says step (old case)) (all case) first → pre p value
+    may_so = may_ask case recovering (stops_at alike) value_is
 
-      -- after the question was answered and the call was handed the answer as a number, the
-      -- recovery is under way
-      pub further_so : (said : Bool) (q : F) → step p value said q → (answer : ℕ) → answer ≡ (if said then 1 else 0)
-          → (b : After (Recover V R) ReleaseState) → b ≡ recover_after size put given answer
-          → (later : R) → later ≡ kept put room answer → Further b later q
-      further_so said q called answer answer_is b goes later keeps =
-          let at = stops_at (stops.Asked question put) room last alike in
-          subst (λ z. Further z later q) (sym (goes ∙ ap (recover_after size put given) answer_is))
-          (subst (λ r. Further (recover_after size put given (if said then 1 else 0)) r q)
-          (sym (keeps ∙ ap (λ c. kept c room answer) at.stands))
-          (further (recover_after size put given (if said then 1 else 0)) q
-          (onward so_far.0 done call room₀ p items so_far.1 put room last at value value_is said q called)))
+    -- `Onward` of a recovery that has begun is `Further`
+    further : (a : After (Recover V R) ReleaseState) (q : F) → Onward case ready (done + 1) a room q last → Further case (done + 1) a room q last
+    further (GoOn d) q on_it_goes = record { ready = ready; recovering = on_it_goes }
+    further (Done state) q on_it_goes = on_it_goes
+
+    -- the call was handed the closure's answer as a number: this is what it has led to, and the room then
+    pub record IsHanded (said : Bool) (b : After (Recover V R) ReleaseState) (later : R) : Type 0 where
+      pub answer : ℕ
+      pub answer_is : answer ≡ (if said then 1 else 0)
+      pub goes : b ≡ recover_after size put (given case) answer
+      pub keeps : later ≡ kept case put room answer
+
+    -- after the question was answered and the call was handed the answer as a number, the
+    -- recovery is under way
+    pub further_so : (said : Bool) (q : F) → step p value said q → {b : After (Recover V R) ReleaseState} {later : R}
+        → IsHanded said b later → Further case (done + 1) b later q last
+    further_so said q called {b} {later} handed =
+        let at = stops_at alike in
+        subst (λ z. Further case (done + 1) z later q last) (sym (handed.goes ∙ ap (recover_after size put (given case)) handed.answer_is))
+        (subst (λ r. Further case (done + 1) (recover_after size put (given case) (if said then 1 else 0)) r q last)
+        (sym (handed.keeps ∙ ap (λ c. kept case c room handed.answer) at.stands))
+        (further (recover_after size put (given case) (if said then 1 else 0)) q (onward case recovering at value_is said q called)))
 
 -- `TakesQuestions` of the values of one container is that of equal contents
 pub questions_at : {V F : Type 0} (pre : F → V → Type 0) (step : F → V → Bool → F → Type 0) (owner : ℕ) {a b : Contents V} {f : F}

@@ -21,10 +21,10 @@ use Rattle.plain.specs.declared.drive.Stop.TheVariants.{Asked, Ended}
 use Rattle.plain.specs.Robust.{owner_in, owners_in}
 use Rattle.plain.specs.Contents.{Contents, contents_in, Holds}
 use Rattle.plain.specs.Visited.{Stands, to_ask, freed, one_change}
-use Rattle.plain.proofs.Walks.{plus, Walks, WalksOn, longer, goes_longer, part_walks}
+use Rattle.plain.proofs.Walks.{plus, Walks, WalksOn, longer, goes_longer, part_walks, any_low}
 use Rattle.plain.proofs.Fronts.{Behind, behind_more}
 use Rattle.plain.proofs.Rooms.{with_room, want_both, after_both}
-use Rattle.plain.proofs.Words.{read_in, value_read}
+use Rattle.plain.proofs.Words.{Room, read_in, value_read}
 use Rattle.plain.proofs.Robust.Parts.{tail_of, here, past, next_small, owner_free, owner_some}
 use Rattle.plain.proofs.Robust.Releases.{counter_then}
 use Rattle.plain.proofs.Elements.Finds.{counter, cells_long, front, cell_is, odd_at, stands_at, small_at, long_read}
@@ -52,9 +52,23 @@ module _ (owner : ℕ) where
       ∙ ap (λ b. cond b (record { owner = c; index = index } ∷ of_owner (index + 1) rest) (of_owner (index + 1) rest)) (ne_eqb c owner other))
       (eqb_tells c empty)
 
-module _ {V R : Type 0} (value_of : List ℕ → V) (words_in : R → List ℕ) (with_word : R → ℕ → ℕ → R)
-    (put_in : (x : R) (at word : ℕ) → words_in (with_word x at word) ≡ slice_set (words_in x) at word)
-    (size capacity container owner : ℕ) (mode : ReleaseMode) (some : 1 ≤ size) (wide : size ≤ 128) (lives : owner < empty) where
+-- A recovery of the indices of a dead owner: how values are read, the container, the owner and the mode.
+pub record Recovery (V R : Type 0) : Type 0 where
+  -- a value by its words, the room into which these are read, and how many they are: 1 to 128
+  pub value_of : List ℕ → V
+  pub as_room : Room R
+  pub size : ℕ
+  pub some : 1 ≤ size
+  pub wide : size ≤ 128
+  pub capacity : ℕ
+  pub container : ℕ
+  pub owner : ℕ
+  pub lives : owner < empty
+  pub mode : ReleaseMode
+
+module _ {V R : Type 0} (recovery : Recovery V R) where
+  open recovery use {value_of, as_room, as_room.{words_in, with_word}, size, some, wide, capacity, container, owner, lives, mode}
+
   -- what the recovery is given
   abbrev given : DeadOwner
   given = record { owner = owner; mode = mode }
@@ -95,7 +109,7 @@ module _ {V R : Type 0} (value_of : List ℕ → V) (words_in : R → List ℕ) 
     pub rest : List ℕ
     pub left_is : left ≡ record { owner = owner; index = index } ∷ of_owner owner (index + 1) rest
     pub rest_is : drop (index + 1) (cells_of last) ≡ rest
-    -- the counter is a number of 64 bits
+    -- the index is not below `from`, and below the capacity
     pub low : from ≤ index
     pub near : index < capacity
     -- the words are those of a container with contents s, in which the owner has the index
@@ -129,7 +143,7 @@ module _ {V R : Type 0} (value_of : List ℕ → V) (words_in : R → List ℕ) 
 
   -- ---- over words that stay as they are
 
-  module _ (words : List ℕ) (holds : Fit words) where
+  module _ {words : List ℕ} (holds : Fit words) where
     -- the number of an index
     abbrev number_at : ℕ → ℕ
     number_at i = slice_index words (count_word capacity i)
@@ -147,7 +161,7 @@ module _ {V R : Type 0} (value_of : List ℕ → V) (words_in : R → List ℕ) 
         → Walks pair_want pair_after (suc (suc (suc n))) P (at (recovers.LoadsWord i (number_at i) k), room) words
     reads P i near zero k end room stops =
         let place : element_word capacity size i k ≡ word_at (cell_at i) k =
-        omega (arith, small_at value_of size capacity container words holds i near wide) in
+        omega (arith, small_at value_of container holds i near wide) in
         let c = count_word capacity i in
         let next = with_word room k (slice_index words (word_at (cell_at i) k)) in
         subst (λ p. WalksOn pair_want pair_after 2 P (with_room (with_word room k (slice_index words p))
@@ -164,7 +178,7 @@ module _ {V R : Type 0} (value_of : List ℕ → V) (words_in : R → List ℕ) 
         (subst (λ ws. Walks pair_want pair_after 1 P (at (recovers.Asks i (number_at i)), next) ws) (sym (set-get_or words c 0)) stops)))
     reads P i near (suc n) k end room stops =
         let place : element_word capacity size i k ≡ word_at (cell_at i) k =
-        omega (arith, small_at value_of size capacity container words holds i near wide) in
+        omega (arith, small_at value_of container holds i near wide) in
         let next = with_word room k (slice_index words (word_at (cell_at i) k)) in
         subst (λ p. WalksOn pair_want pair_after (suc (suc (suc n))) P
         (with_room (with_word room k (slice_index words p))
@@ -176,17 +190,17 @@ module _ {V R : Type 0} (value_of : List ℕ → V) (words_in : R → List ℕ) 
         (λ t. reads P i near n (k + 1) (omega arith) next stops)
         (λ t. let less : size ≤ k + 1 = grind (arith, nat_tests) in absurd (omega arith)))
 
-    module _ (s : Contents V) (is : read words ≡ s) (from : ℕ) where
+    module _ {s : Contents V} (is : read words ≡ s) (from : ℕ) where
       -- at an index whose cell has the owner, the recovery reads the value and asks about that index
-      hit : (i : ℕ) (rest : List ℕ) (left : List Owned) → i < capacity → from ≤ i
+      hit : (i : ℕ) {rest : List ℕ} {left : List Owned} → i < capacity → from ≤ i
           → slice_index (cells_of words) i ≡ owner → drop (i + 1) (cells_of words) ≡ rest
           → left ≡ record { owner = owner; index = i } ∷ of_owner owner (i + 1) rest → (room : R) → size ≤ length (words_in room)
           → Walks pair_want pair_after each (StopsAt s from left) (at (recovers.LoadsCount i), room) words
-      hit i rest left near low owns rest_is left_is room long =
+      hit i {rest} {left} near low owns rest_is left_is room long =
           -- the number of the value is odd, so a value stands at the index and the recovery reads it
-          let odd = odd_at value_of size capacity container words holds i owner near lives owns in
-          let all : size ≡ suc (size - 1) = omega arith in
-          let small = small_at value_of size capacity container words holds i near wide in
+          let odd = odd_at value_of container holds i owner near lives owns in
+          let all : size ≡ suc (size - 1) = omega (arith, some) in
+          let small = small_at value_of container holds i near wide in
           subst (λ b. WalksOn pair_want pair_after (suc (suc (suc (size - 1)))) (StopsAt s from left)
           (with_room room (goes_to first
           (if b then recovers.EmptiesCell i (number_at i) else recovers.LoadsWord i (number_at i) 0)))
@@ -212,40 +226,46 @@ module _ {V R : Type 0} (value_of : List ℕ → V) (words_in : R → List ℕ) 
             stands = refl;
             -- the value that was read is the one that stands at the index
             copied = subst (λ (t : Contents V). Stands t i (value_in value_of size (words_in (read_in with_word room words (cell_at i) 0 size)))) is
-                (stands_at value_of size capacity container words holds i near odd
-                ∙ ap Some (sym (value_read value_of size words_in with_word put_in room words (cell_at i) long (omega arith))));
-            roomy = subst (λ n. size ≤ n) (sym (long_read words_in with_word put_in words room (cell_at i) size 0)) long;
+                (stands_at value_of container holds i near odd
+                ∙ ap Some (sym (value_read value_of size as_room room words (cell_at i) long (omega arith))));
+            roomy = subst (λ n. size ≤ n) (sym (long_read as_room words room (cell_at i) size 0)) long;
           })))
 
       -- where nothing is left, the recovery counts the change and ends
       ends : (left : List Owned) (state : ReleaseState) → left ≡ [] → state ≡ state_of s.owners
-          → EndsAt s left state (counted value_of size capacity container words holds)
+          → EndsAt s left state (counted value_of container holds)
       ends left state none state_is =
-          let there = counts_so value_of size capacity container words holds in
+          let there = counts_so value_of container holds in
           record { none = none; holds = there.fit; state_is = state_is; is = there.is ∙ ap one_change is }
 
       -- the state that the counter says is that of the contents
       state_at : (if slice_index words 0 == locked then Locked else Unlocked) ≡ state_of s.owners
       state_at = grind (arith, locked, head_is, generation_is)
 
+      -- the recovery has come to this index, and these cells and these indices of the owner are left
+      pub record ComesTo (index : ℕ) (rest : List ℕ) (left : List Owned) : Type 0 where
+        pub rest_is : drop index (cells_of words) ≡ rest
+        pub left_is : left ≡ of_owner owner index rest
+        pub low : from ≤ index
+
       -- From this index on, with these cells left, the recovery stops at the owner's next index or at its
       -- end. The cases are whether a cell is left, and whether it has the owner.
-      pub recovers_on : (rest : List ℕ) (index : ℕ) (left : List Owned) → drop index (cells_of words) ≡ rest → left ≡ of_owner owner index rest → from ≤ index
-          → (room : R) → size ≤ length (words_in room)
+      pub recovers_on : (rest : List ℕ) (index : ℕ) {left : List Owned} → ComesTo index rest left → (room : R) → size ≤ length (words_in room)
           → WalksOn pair_want pair_after (fuel rest) (StopsAt s from left) (with_room room (recover_comes_to first index)) words
-      recovers_on [] index left rest_is all low room long =
-          let far = past (cells_of words) index rest_is in
-          let size_is = cells_long value_of size capacity container words holds in
+      recovers_on [] index {left} comes room long =
+          let far = past (cells_of words) index comes.rest_is in
+          let size_is = cells_long value_of container holds in
           by_test (λ stage. WalksOn pair_want pair_after (suc (suc (suc each))) (StopsAt s from left) (with_room room (goes_to first stage)) words)
           (nat_lt index capacity) _ _
           (λ t. let near : index < capacity = grind (arith, nat_tests) in absurd (omega arith))
-          (λ _. ends left (if slice_index words 0 == locked then Locked else Unlocked) all state_at)
-      recovers_on (c ∷ rest) index left rest_is all low room long =
-          let there = here (cells_of words) index c rest rest_is in
-          let size_is = cells_long value_of size capacity container words holds in
+          (λ _. ends left (if slice_index words 0 == locked then Locked else Unlocked) comes.left_is state_at)
+      recovers_on (c ∷ rest) index {left} comes room long =
+          let there = here (cells_of words) index c rest comes.rest_is in
+          let low = comes.low in
+          let size_is = cells_long value_of container holds in
           let below = there.near in
           let near : index < capacity = omega arith in
-          let word = cell_is value_of size capacity container words holds index near ∙ there.word_is in
+          let word = cell_is value_of container holds index near ∙ there.word_is in
           by_test (λ stage. WalksOn pair_want pair_after (suc (suc (suc (suc (plus (length rest) each))))) (StopsAt s from left)
           (with_room room (goes_to first stage)) words)
           (nat_lt index capacity) _ _
@@ -254,9 +274,10 @@ module _ {V R : Type 0} (value_of : List ℕ → V) (words_in : R → List ℕ) 
           (slice_index words (cell_word index)) owner _ _
           -- the cell has the owner: the recovery reads the value and asks about it
           (λ e. longer pair_want pair_after (suc (suc (suc (length rest)))) each (StopsAt s from left) (at (recovers.LoadsCount index), room) words
-          (hit index rest left near low (there.word_is ∙ (sym word ∙ e)) there.rest_is (all ∙ of_hit owner index c rest lives (sym word ∙ e)) room long))
+          (hit index near low (there.word_is ∙ (sym word ∙ e)) there.rest_is (comes.left_is ∙ of_hit owner index c rest lives (sym word ∙ e)) room long))
           -- the cell has not the owner: the recovery goes on to the next one
-          (λ n. recovers_on rest (index + 1) left there.rest_is (all ∙ of_miss owner index c rest (λ e. n (word ∙ e))) (omega arith) room long))
+          (λ n. recovers_on rest (index + 1)
+          (record { rest_is = there.rest_is; left_is = comes.left_is ∙ of_miss owner index c rest (λ e. n (word ∙ e)); low = omega arith }) room long))
           (λ t. let far : capacity ≤ index = grind (arith, nat_tests) in absurd (omega arith))
 
     -- from its begin the recovery stops at the owner's first index, or at its end where the container is
@@ -264,35 +285,41 @@ module _ {V R : Type 0} (value_of : List ℕ → V) (words_in : R → List ℕ) 
     pub begin_walk : (room : R) → size ≤ length (words_in room)
         → Walks pair_want pair_after (suc (fuel (cells_of words))) (StopsAt (read words) 0 (to_ask (read words) owner)) (first, room) words
     begin_walk room long =
-        let g = counter value_of size capacity container words holds in
-        let generation = generation_is value_of size capacity container words holds in
-        let head = head_is value_of size capacity container words holds in
+        let g = counter value_of container holds in
+        let generation = generation_is value_of container holds in
+        let head = head_is value_of container holds in
         by_eq (λ a. WalksOn pair_want pair_after (fuel (cells_of words)) (StopsAt (read words) 0 (to_ask (read words) owner)) (with_room room a) words)
         (slice_index words 0) locked _ _
         -- the container is locked: the recovery counts the change and ends
-        (λ e. ends (read words) refl 0 (to_ask (read words) owner) Locked
+        (λ e. ends refl 0 (to_ask (read words) owner) Locked
         (ap (λ b. filter (λ (o : Owned). o.owner == owner) (if b then [] else taken (read words).owners))
         (eq-eqb (read words).owners.generation locked (generation ∙ (sym head ∙ e))))
         (sym (ap (λ b. if b then Locked else Unlocked) (eq-eqb (read words).owners.generation locked (generation ∙ (sym head ∙ e))))))
         -- the container is not locked: the recovery goes through the cells
-        (λ other. recovers_on (read words) refl 0 (cells_of words) 0 (to_ask (read words) owner) refl
-        (ap (λ b. filter (λ (o : Owned). o.owner == owner) (if b then [] else taken (read words).owners))
-        (ne_eqb (read words).owners.generation locked (λ e. other (head ∙ (sym generation ∙ e))))
-        ∙ ap (λ ws. filter (λ (o : Owned). o.owner == owner) (taken (owners_in ws))) (front value_of size capacity container words holds))
-        (omega arith) room long)
+        (λ other. recovers_on refl 0 (cells_of words) 0
+        (record {
+          rest_is = refl;
+          left_is = ap (λ b. filter (λ (o : Owned). o.owner == owner) (if b then [] else taken (read words).owners))
+              (ne_eqb (read words).owners.generation locked (λ e. other (head ∙ (sym generation ∙ e))))
+              ∙ ap (λ ws. filter (λ (o : Owned). o.owner == owner) (taken (owners_in ws))) (front value_of container holds);
+          low = omega arith;
+        })
+        room long)
 
   -- ---- an index is freed
 
-  module _ (words : List ℕ) (holds : Fit words) (s : Contents V) (is : read words ≡ s) (index : ℕ) (near : index < capacity)
-      (owns : slice_index (cells_of words) index ≡ owner) (opens : counter value_of size capacity container words holds ≢ locked)
-      (rest : List ℕ) (rest_is : drop (index + 1) (cells_of words) ≡ rest) (room : R) (long : size ≤ length (words_in room)) where
+  -- The contents of the words are s, in which the owner has the index, and the set is not locked; `rest` are the
+  -- cells behind the index.
+  module _ {words : List ℕ} (holds : Fit words) {s : Contents V} (is : read words ≡ s) (index : ℕ) (near : index < capacity)
+      (owns : slice_index (cells_of words) index ≡ owner) (opens : counter value_of container holds ≢ locked)
+      {rest : List ℕ} (rest_is : drop (index + 1) (cells_of words) ≡ rest) (room : R) (long : size ≤ length (words_in room)) where
     -- the number of the index is odd, since a value stands there
     odd : is_even (slice_index words (count_word capacity index)) ≡ false
-    odd = odd_at value_of size capacity container words holds index owner near lives owns
+    odd = odd_at value_of container holds index owner near lives owns
 
     -- the counter of the set
     abbrev g : ℕ
-    g = counter value_of size capacity container words holds
+    g = counter value_of container holds
 
     -- the cells with this one emptied
     abbrev gone : List ℕ
@@ -315,23 +342,26 @@ module _ {V R : Type 0} (value_of : List ℕ → V) (words_in : R → List ℕ) 
     locks = plus (suc (suc (suc (length gone)))) 1
 
     low : g < 2 ^ 64
-    low = counter_low value_of size capacity container words holds
+    low = counter_low value_of container holds
 
     -- the cells with this one emptied are as many as before
     gone_long : length gone ≡ capacity
-    gone_long = emptied_long value_of size capacity container words holds wide mode index near odd
+    gone_long = emptied_long value_of container holds wide mode index near odd
 
     -- where value and owner of the index are gone and the counter is that of the mode, the recovery goes on
     -- from the next index
     then_on : (last : List ℕ) → Behind (1 + capacity) hid last → take (1 + capacity) last ≡ counter_then mode g gone ∷ gone
         → WalksOn pair_want pair_after (fuel rest) P (with_room room (recover_comes_to first (index + 1))) last
     then_on last behind front_is =
-        let there = frees_so value_of size capacity container words holds wide mode index near odd last behind front_is in
-        recovers_on last there.fit (freed mode s index) (there.is ∙ ap (λ t. freed mode t index) is) (index + 1)
-        rest (index + 1) (of_owner owner (index + 1) rest)
-        (ap (λ ws. drop (index + 1) (tail_of ws)) front_is
-        ∙ (drop-set-lt (index + 1) (cells_of words) index empty (let t : index < index + 1 = omega arith in t) ∙ rest_is))
-        refl (let t : index + 1 ≤ index + 1 = omega arith in t) room long
+        let there = frees_so value_of container holds wide mode index near odd behind front_is in
+        recovers_on there.fit (there.is ∙ ap (λ t. freed mode t index) is) (index + 1) rest (index + 1)
+        (record {
+          rest_is = ap (λ ws. drop (index + 1) (tail_of ws)) front_is
+              ∙ (drop-set-lt (index + 1) (cells_of words) index empty (let t : index < index + 1 = omega arith in t) ∙ rest_is);
+          left_is = refl;
+          low = (let t : index + 1 ≤ index + 1 = omega arith in t);
+        })
+        room long
 
     -- after the raise of the counter the recovery goes on, in this mode, to where it stops next
     abbrev After_raise : ReleaseMode → List ℕ → Type 0
@@ -345,10 +375,22 @@ module _ {V R : Type 0} (value_of : List ℕ → V) (words_in : R → List ℕ) 
         goes_longer pair_want pair_after locks (fuel rest) P (with_room room (recover_comes_to first (index + 1))) last
         (then_on last behind (front_is ∙ ap (λ m. counter_then m g gone ∷ gone) (sym mode_is)))
     on_raised LockIfLastIndex mode_is last behind front_is =
-        part_walks pair_want pair_after lock_want (lock_after capacity) (λ l. (at (recovers.Locks index l), room))
-        (λ a. with_room room (recover_locked first index a))
-        (λ d. refl) (λ d old. refl) (λ d. refl) locks (fuel rest) P first_lock last
-        (lock_over capacity (next_generation g) gone last (next_small g low) front_is gone_long holds.0.few _
+        part_walks
+        (record {
+          want = pair_want;
+          after = pair_after;
+          part_want = lock_want;
+          part_after = lock_after capacity;
+          within = λ l. (at (recovers.Locks index l), room);
+          lift = λ a. with_room room (recover_locked first index a);
+          Low = λ d. Unit {0};
+          low_on = λ d old low. any_low ((lock_after capacity) d old);
+          wants_so = λ d. refl;
+          goes_so = λ d old low. refl;
+          lifts = λ d. refl;
+        })
+        locks (fuel rest) P first_lock last tt
+        (lock_over capacity last (next_small g low) front_is gone_long holds.0.few _
         (λ state later more front_later. then_on later (behind_more (1 + capacity) hid last later behind more)
         (front_later ∙ ap (λ m. counter_then m g gone ∷ gone) (sym mode_is))))
 
@@ -360,24 +402,35 @@ module _ {V R : Type 0} (value_of : List ℕ → V) (words_in : R → List ℕ) 
     -- to where it stops next
     raises_on : Walks pair_want pair_after (plus 2 (plus locks (fuel rest))) P
         (at (recovers.Raises index raises.LoadsCounter), room)
-        (bare value_of size capacity container words holds wide mode index near odd)
+        (bare value_of container holds wide mode index near odd)
     raises_on =
-        part_walks pair_want pair_after raise_want raise_after (λ r. (at (recovers.Raises index r), room))
-        (λ a. with_room room (recover_raised first index mode a))
-        (λ d. refl) (λ d old. refl) (λ d. refl) 2 (plus locks (fuel rest)) P raises.LoadsCounter
-        (bare value_of size capacity container words holds wide mode index near odd)
-        (raise_over capacity g gone (bare value_of size capacity container words holds wide mode index near odd) low
-        (bare_front value_of size capacity container words holds wide mode index near odd) opens _
+        part_walks
+        (record {
+          want = pair_want;
+          after = pair_after;
+          part_want = raise_want;
+          part_after = raise_after;
+          within = λ r. (at (recovers.Raises index r), room);
+          lift = λ a. with_room room (recover_raised first index mode a);
+          Low = λ d. Unit {0};
+          low_on = λ d old low. any_low (raise_after d old);
+          wants_so = λ d. refl;
+          goes_so = λ d old low. refl;
+          lifts = λ d. refl;
+        })
+        2 (plus locks (fuel rest)) P raises.LoadsCounter (bare value_of container holds wide mode index near odd) tt
+        (raise_over capacity (bare value_of container holds wide mode index near odd) low
+        (bare_front value_of container holds wide mode index near odd) opens _
         (λ last behind front_is. on_raised mode refl last
-        (behind_more (1 + capacity) hid (bare value_of size capacity container words holds wide mode index near odd)
-        last (bare_behind value_of size capacity container words holds wide mode index near odd) behind)
+        (behind_more (1 + capacity) hid (bare value_of container holds wide mode index near odd)
+        last (bare_behind value_of container holds wide mode index near odd) behind)
         front_is))
 
     -- after a yes the recovery empties the cell, hides the value, raises the counter and goes on
     -- to where it stops next
     pub frees_on : Walks pair_want pair_after rounds P (at (recovers.EmptiesCell index n), room) words
     frees_on =
-        let word = cell_is value_of size capacity container words holds index near ∙ owns in
+        let word = cell_is value_of container holds index near ∙ owns in
         let ci = cell_word index in
         let without = slice_set words ci empty in
         let same : slice_index without (count_word capacity index) ≡ n =

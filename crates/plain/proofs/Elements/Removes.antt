@@ -2,7 +2,7 @@
 -- what a remove does to the contents.
 use Rattle.std.proofs.Common.{◌≡◌, ℕ, suc, ◌+◌, ◌<◌, ◌≤◌, ⊎_elim, true, false, nat_lt, List, take, None, Result, Ok}
 use Rattle.std.proofs.Common.{Err, refl, sym, ap, subst, ◌∙◌, arith, slice_index, eq-eqb, if◌then◌else◌}
-use Rattle.plain.proofs.Names.{cases_Bool, nat_tests, by_test, count_word, After, Done, ReleaseMode, ReleaseState}
+use Rattle.plain.proofs.Names.{cases_Bool, nat_tests, by_test, count_word, After, Done, ReleaseState}
 use Rattle.plain.proofs.Names.{Unlocked, GiveBack, ContainerHandle}
 use Rattle.steps.specs.Indices.Robust.Parts.{empty, one_more}
 use Rattle.steps.specs.Indices.Robust.Release.{Released, first_release, release_takes, release_want, release_after}
@@ -18,23 +18,21 @@ use Rattle.plain.specs.Robust as robust
 use Rattle.plain.specs.Robust.{owners_in}
 use Rattle.plain.specs.Contents.{Contents, changed, names, removed, after_remove, contents_in, Represents}
 use Rattle.plain.proofs.Alone.{Runs}
-use Rattle.plain.proofs.Walks.{plus, plus_sum, WalksOn, OnEnd, part_walks_low, runs}
+use Rattle.plain.proofs.Walks.{plus, plus_sum, WalksOn, OnEnd, part_walks, runs}
 use Rattle.plain.proofs.Fronts.{Behind, stays, front_walks}
 use Rattle.plain.proofs.Elements.Adds.{IsAnswer}
 use Rattle.plain.proofs.Elements.Handles.{has_past, names_own}
 use Rattle.plain.proofs.Elements.Sets.{ReleaseLow, release_goes_low, release_below, release_front}
-use Rattle.plain.proofs.Elements.Values.{front_fits, behind_contents, behind_fits, hidden, hides, gone, after_change, change_fits, change_contents}
+use Rattle.plain.proofs.Elements.Values.{Codes, front_fits, behind_contents, behind_fits, hidden, hides, gone, after_change, change_fits, change_contents}
 
 -- the state that a release has answered, or Unlocked
 abbrev state_in : {B : Type 0} → Result ReleaseState B → ReleaseState
 state_in (Ok state) = state
 state_in (Err e) = Unlocked
 
-module _ {V : Type 0} (value_of : List ℕ → V) (size : ℕ) (wide : size ≤ 128)
-    (capacity container index owner : ℕ) (mode : ReleaseMode) where
-  -- what the remove is given
-  abbrev given : GiveBack
-  given = record { index = index; owner = owner; mode = mode }
+module _ {V : Type 0} (codes : Codes V) (capacity container : ℕ) (given : GiveBack) where
+  open codes use {value_of, size, wide}
+  open given use {index, owner, mode}
 
   -- the handle of this index and owner
   abbrev handle : ContainerHandle
@@ -59,7 +57,7 @@ module _ {V : Type 0} (value_of : List ℕ → V) (size : ℕ) (wide : size ≤ 
   -- after its release the remove hides the value and counts the change
   hides_on : (P : Removed → List ℕ → Type 0) (state : ReleaseState) (ws : List ℕ) (fits : Represents size capacity ws) (near : index < capacity) (count : ℕ)
       → slice_index ws (count_word capacity index) ≡ count
-      → P (Ok state) (after_change value_of size capacity ws fits index near wide (hidden value_of size capacity ws fits index near wide))
+      → P (Ok state) (after_change value_of fits index near wide (hidden value_of fits index near wide))
       → RemoveEndsFrom 2 P (remove_released (call removes.LoadsCount) count (Done (Ok state))) ws
   hides_on = grind (arith, one_more, by_test, eq-eqb)
 
@@ -92,13 +90,13 @@ module _ {V : Type 0} (value_of : List ℕ → V) (size : ℕ) (wide : size ≤ 
     RemoveGoesOn e last =
         RemoveEndsFrom 2 (Gone words) (remove_released (call removes.LoadsCount) count (Done e)) last
 
-    -- RemoveEndsFrom an end of the release the remove goes on: with a state it hides the value, and with an error it
+    -- From an end of the release the remove goes on: with a state it hides the value, and with an error it
     -- ends. The cases are what the release has answered, and whether the index is the owner's.
     so : index < capacity → (e : Released) (last : List ℕ) → Behind (1 + capacity) words last → ReleaseBehaves e (take (1 + capacity) last)
         → RemoveGoesOn e last
     so near (Ok state) last behind gave =
         let fits₂ = behind_fits value_of size capacity words last behind fits gave.0 in
-        let there = hides value_of size capacity last fits₂ index near wide in
+        let there = hides value_of fits₂ index near wide in
         ⊎_elim
         -- the release gave the index back, and it was the owner's: the remove hides the value
         -- and counts the change
@@ -109,10 +107,10 @@ module _ {V : Type 0} (value_of : List ℕ → V) (size : ℕ) (wide : size ≤ 
         let set : owners_in (take (1 + capacity) last) ≡ given_back mode old.owners index =
         gave.2 ∙ ap (λ b. if b then given_back mode old.owners index else old.owners) t in
         hides_on (Gone words) state last fits₂ near count (behind.same (count_word capacity index) (omega arith)) (
-          change_fits value_of size capacity last fits₂ index near wide _ there.writes,
+          change_fits value_of fits₂ index near wide there.writes,
           ap Ok state_is ∙ sym (ap (λ b. if b then Ok (release_state mode (given_back mode old.owners index)) else Err ContainerHandleNotOwnedByContainer) hit),
-          change_contents value_of size capacity last fits₂ index near wide container _ None there.writes
-              (gone value_of size capacity last fits₂ index near wide _ there)
+          change_contents value_of fits₂ index near wide container there.writes
+              (gone value_of fits₂ index near wide there)
               ∙ (ap (λ s. changed s (owners_in (take (1 + capacity) last)) index None) (behind_contents value_of size capacity container words last behind)
               ∙ (ap (λ set. changed old set index None) set
               ∙ sym (ap (λ b. if b then changed old (given_back mode old.owners index) index None else old) hit))),
@@ -150,26 +148,33 @@ module _ {V : Type 0} (value_of : List ℕ → V) (size : ℕ) (wide : size ≤ 
         (λ t. let near : index < capacity = grind (arith, nat_tests) in
         let a = release_front capacity index owner mode lives (take (1 + capacity) words) (front_fits value_of size capacity words fits) near in
         let bound = a.1 in
-        runs remove_want remove_after given (suc (plus a.0 2)) (Gone words) (call removes.LoadsCount) words
-        (omega (arith, plus_sum a.0 2))
-        (part_walks_low (λ c. remove_want c given) (λ c old. remove_after c given old)
-        (λ c. release_want c given) (λ c old. release_after c given old)
-        (λ d. call (removes.Releases count d.stage)) (remove_released (call removes.LoadsCount) count) (ReleaseLow capacity)
-        (release_goes_low capacity given) (λ d. refl)
-        (λ d old low. ap
-        (λ n. remove_released (call removes.LoadsCount) count (release_takes (inner_release n d.stage) d.stage given old))
-        (sym low.0))
-        (λ d. refl) a.0 2 (OnEnd (Gone words)) (first_release capacity) words (refl, tt)
+        runs (suc (plus a.0 2)) (Gone words) (omega (arith, plus_sum a.0 2))
+        (part_walks
+        (record {
+          want = λ c. remove_want c given;
+          after = λ c old. remove_after c given old;
+          part_want = λ c. release_want c given;
+          part_after = λ c old. release_after c given old;
+          within = λ d. call (removes.Releases count d.stage);
+          lift = remove_released (call removes.LoadsCount) count;
+          Low = ReleaseLow capacity;
+          low_on = release_goes_low capacity given;
+          wants_so = λ d. refl;
+          goes_so = λ d old low.
+              ap (λ n. remove_released (call removes.LoadsCount) count (release_takes (inner_release n d.stage) d.stage given old)) (sym low.0);
+          lifts = λ d. refl;
+        })
+        a.0 2 (OnEnd (Gone words)) (first_release capacity) words (refl, tt)
         (front_walks (λ c. release_want c given) (λ c old. release_after c given old) (1 + capacity) (ReleaseLow capacity)
         (release_below capacity given near) (release_goes_low capacity given) words ReleaseBehaves RemoveGoesOn (so near) a.0
         (first_release capacity) words (refl, tt) (stays (1 + capacity) words) a.2)))
         -- the index is not one of the container: the remove is refused in its first step
         (λ t. let far : capacity ≤ index = grind (arith, nat_tests) in
-        runs remove_want remove_after given 1 (Gone words) (call removes.Refuses) words (omega arith)
+        runs 1 (Gone words) (omega arith)
         (refused (own ∙ has_past capacity (take (1 + capacity) words) (front_fits value_of size capacity words fits) index owner far) words fits refl))
 
   -- a remove, run alone, does what a remove does to the contents
-  pub remove_at : (number : ℕ) → number ≡ owner → number < empty → (c : Remove) → c ≡ first_remove capacity index
-      → (words : List ℕ) → Represents size capacity words
+  pub remove_at : {number : ℕ} → number ≡ owner → number < empty → {c : Remove} → c ≡ first_remove capacity index
+      → {words : List ℕ} → Represents size capacity words
       → Runs remove_want remove_after (λ c (room : Unit {0}) old. room) given (λ e room ws. Gone words e ws) c tt words
   remove_at = grind (arith, remove_runs)

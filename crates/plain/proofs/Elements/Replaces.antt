@@ -1,6 +1,6 @@
 -- A replace in a container that runs alone: within how many steps it ends, and that it does to the words what
 -- a replace does to the contents.
-use Rattle.std.proofs.Common.{◌≡◌, ℕ, zero, suc, ◌+◌, ◌-◌, ◌^◌, ◌<◌, ◌≤◌, true, false, nat_lt, List, length, take}
+use Rattle.std.proofs.Common.{◌≡◌, ℕ, zero, suc, ◌+◌, ◌-◌, ◌^◌, ◌<◌, ◌≤◌, true, false, nat_lt, List, take}
 use Rattle.std.proofs.Common.{Some, Ok, Err, refl, sym, ap, subst, ◌∙◌, arith, slice_index, slice_set, get_or-take}
 use Rattle.std.proofs.Common.{eq-eqb, ne_eqb, if◌then◌else◌}
 use Rattle.plain.proofs.Names.{nat_tests, by_test, by_eq, word_at, change_word, count_word, element_word, is_even}
@@ -18,11 +18,11 @@ use Rattle.plain.proofs.Alone.{Runs}
 use Rattle.plain.proofs.Walks.{Walks, WalksOn, OnEnd, longer, runs}
 use Rattle.plain.proofs.Words.{stored}
 use Rattle.plain.proofs.Elements.Handles.{has_word, has_past, names_own}
-use Rattle.plain.proofs.Elements.Values.{front_fits, hidden, shown, shows, after_change, change_fits, change_contents, all_small, cell_within}
+use Rattle.plain.proofs.Elements.Values.{Codes, front_fits, hidden, shown, shows, after_change, change_fits, change_contents, all_small, cell_within}
 
-module _ {V : Type 0} (words_of : V → List ℕ) (value_of : List ℕ → V) (size : ℕ)
-    (sized : (x : V) → length (words_of x) ≡ size) (given_back : (x : V) → value_of (words_of x) ≡ x)
-    (some : 1 ≤ size) (wide : size ≤ 128) (capacity container : ℕ) (given : Replacement V) where
+module _ {V : Type 0} (codes : Codes V) (capacity container : ℕ) (given : Replacement V) where
+  open codes use {words_of, value_of, size, sized, given_back, some, wide}
+
   -- the replace, run alone from these words, ends within n steps, and P holds of its
   -- answer and the last words
   abbrev ReplaceEnds : ℕ → (Replaced → List ℕ → Type 0) → Replace V → List ℕ → Type 0
@@ -85,18 +85,18 @@ module _ {V : Type 0} (words_of : V → List ℕ) (value_of : List ℕ → V) (s
   -- Where the cell has the owner, the replace hides what stands there, stores its value, shows it and counts
   -- the change. The cases are whether something is to be hidden.
   puts : (P : Replaced → List ℕ → Type 0) (ws : List ℕ) (fits : Represents size capacity ws) (near : given.index < capacity)
-      → P (Ok tt) (after_change value_of size capacity ws fits given.index near wide
-      (shown value_of size capacity ws fits given.index near wide xs given.value (sized given.value) (given_back given.value)))
+      → P (Ok tt) (after_change value_of fits given.index near wide
+      (shown value_of fits given.index near wide xs (sized given.value) (given_back given.value)))
       → ReplaceEnds few_steps P (call (replaces.LoadsCount)) ws
   puts P ws fits near holds =
       let c = count_word capacity given.index in
       let n = slice_index ws (count_word capacity given.index) in
-      let count : suc (size - 1) ≡ size = omega arith in
+      let count : suc (size - 1) ≡ size = omega (arith, some) in
       let small : element_word capacity size given.index 0 + size < 2 ^ 64 =
-      omega (arith, cell_within value_of size capacity ws fits given.index near wide, all_small value_of size capacity ws fits given.index near wide) in
+      omega (arith, cell_within value_of fits given.index near wide, all_small value_of fits given.index near wide) in
       -- from the words with the value hidden, the replace stores its words, makes the number odd
       -- and counts the change
-      let on : (hs : List ℕ) → hidden value_of size capacity ws fits given.index near wide ≡ hs
+      let on : (hs : List ℕ) → hidden value_of fits given.index near wide ≡ hs
       → ReplaceEnds (suc (suc (suc (size - 1)))) P (call (replaces.Stores 0)) hs =
       λ hs e. goes_in P (size - 1) 0 (omega arith) hs small
       (subst (λ (z : List ℕ × ℕ). P (Ok tt) (last_of given.index (stored z.0 (element_word capacity size given.index 0) xs 0 z.1)))
@@ -139,13 +139,13 @@ module _ {V : Type 0} (words_of : V → List ℕ) (value_of : List ℕ → V) (s
     -- where the handle names a value, a replace that has stored its own has done what a replace
     -- does to the contents
     put_in : (near : given.index < capacity) → names old handle ≡ true
-        → Put words (Ok tt) (after_change value_of size capacity words fits given.index near wide
-        (shown value_of size capacity words fits given.index near wide xs given.value (sized given.value) (given_back given.value)))
+        → Put words (Ok tt) (after_change value_of fits given.index near wide
+        (shown value_of fits given.index near wide xs (sized given.value) (given_back given.value)))
     put_in near hit =
-        let there = shows value_of size capacity words fits given.index near wide xs given.value (sized given.value) (given_back given.value) in (
-          change_fits value_of size capacity words fits given.index near wide _ there.writes,
+        let there = shows value_of fits given.index near wide xs (sized given.value) (given_back given.value) in (
+          change_fits value_of fits given.index near wide there.writes,
           sym (ap (λ b. if b then Ok tt else Err ContainerHandleNotOwnedByContainer) hit),
-          change_contents value_of size capacity words fits given.index near wide container _ (Some given.value) there.writes there.here
+          change_contents value_of fits given.index near wide container there.writes there.here
               ∙ sym (ap (λ b. if b then changed old old.owners given.index (Some given.value) else old) hit),
         )
 
@@ -173,12 +173,11 @@ module _ {V : Type 0} (words_of : V → List ℕ) (value_of : List ℕ → V) (s
         ∙ has_past capacity (take (1 + capacity) words) (front_fits value_of size capacity words fits) given.index given.owner far))
 
   -- a replace, run alone, does what a replace does to the contents
-  pub replace_at : (number : ℕ) → number ≡ given.owner → number < empty → (c : Replace V) → c ≡ first_replace capacity given.index
-      → (words : List ℕ) → Represents size capacity words
+  pub replace_at : {number : ℕ} → number ≡ given.owner → number < empty → {c : Replace V} → c ≡ first_replace capacity given.index
+      → {words : List ℕ} → Represents size capacity words
       → Runs (replace_want words_of size) (replace_after size) (λ c (room : Unit {0}) old. room) given
       (λ e room ws. Put words e ws) c tt words
-  replace_at number same lives c at_first words fits =
+  replace_at {number} same lives {c} at_first {words} fits =
       subst (λ c. Runs (replace_want words_of size) (replace_after size) (λ c (room : Unit {0}) old. room) given
       (λ e room ws. Put words e ws) c tt words) (sym at_first)
-      (runs (replace_want words_of size) (replace_after size) given (suc few_steps) (Put words) (first_replace capacity given.index) words
-      (omega arith) (walks words fits (omega arith)))
+      (runs (suc few_steps) (Put words) (omega (arith, wide)) (walks words fits (omega arith)))

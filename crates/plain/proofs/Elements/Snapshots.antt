@@ -1,5 +1,5 @@
 -- What a state shows after a look has brought it up to date, by the contents of the container.
-use Rattle.std.proofs.Common.{◌≡◌, ℕ, zero, suc, ◌+◌, ◌<◌, ◌≤◌, Bool, true, false, not, ◌==◌, List, []}
+use Rattle.std.proofs.Common.{◌≡◌, ℕ, zero, suc, ◌+◌, ◌<◌, Bool, true, false, not, ◌==◌, List, []}
 use Rattle.std.proofs.Common.{◌∷◌, length, take, map, None, refl, sym, ap, subst, ◌∙◌, arith, slice_index}
 use Rattle.std.proofs.Common.{if◌then◌else◌, true≢false}
 use Rattle.std.specs.Prelude.{replicate}
@@ -13,7 +13,7 @@ use Rattle.plain.specs.Contents as contents
 use Rattle.plain.specs.Contents.{Contents, value_at, counts_in, contents_in, Represents}
 use Rattle.plain.specs.States.{blank, snapshot_of, IsStateOf, IsSettled, value_then, updated, Brought}
 use Rattle.plain.proofs.Elements.Adds.{owners_long}
-use Rattle.plain.proofs.Elements.Values.{front_fits}
+use Rattle.plain.proofs.Elements.Values.{Codes, front_fits}
 use Rattle.plain.proofs.Elements.Updates.{get_mapped, target, UpToDateBelow, P}
 
 -- numbers that the test finds equal are equal
@@ -28,8 +28,18 @@ over_all (n ∷ counts) [] long = absurd (omega arith)
 over_all [] (x ∷ elements) long = absurd (omega arith)
 over_all (n ∷ counts) (x ∷ elements) long = ap (λ l. x.count ∷ l) (over_all counts elements (omega arith))
 
-module _ {V : Type 0} (value_of : List ℕ → V) (size : ℕ) (some : 1 ≤ size) (wide : size ≤ 128) (capacity container : ℕ)
-    (words : List ℕ) (fits : Represents size capacity words) (old : ContainerState V) where
+-- A look of a state at a container: how values are stored, the container's words, and the state as the look began.
+pub record LookCase (V : Type 0) : Type 0 where
+  pub codes : Codes V
+  pub capacity : ℕ
+  pub container : ℕ
+  pub words : List ℕ
+  pub fits : Represents codes.size capacity words
+  pub old : ContainerState V
+
+module _ {V : Type 0} (look : LookCase V) where
+  open look use {codes, codes.{value_of, size}, capacity, container, words, fits, old}
+
   -- the contents of the words
   abbrev s : Contents V
   s = contents_in value_of size capacity container words
@@ -42,7 +52,7 @@ module _ {V : Type 0} (value_of : List ℕ → V) (size : ℕ) (some : 1 ≤ siz
   capacity_is : contents.capacity s ≡ capacity
   capacity_is = owners_long capacity (take (1 + capacity) words) (front_fits value_of size capacity words fits)
 
-  module _ (room : Showing V) (below : UpToDateBelow value_of size some wide capacity words fits old.seen old.shown room capacity) where
+  module _ (room : Showing V) (below : UpToDateBelow codes fits old.seen old.shown room capacity) where
     -- once all indices are up to date, the state shows the numbers of the words
     counts_are : map number room.elements ≡ counts_in value_of size capacity words
     counts_are =
@@ -55,7 +65,7 @@ module _ {V : Type 0} (value_of : List ℕ → V) (size : ℕ) (some : 1 ≤ siz
         ∙ sym (get_or-map-range_with_len (λ i. slice_index words (count_word capacity i)) 0 capacity i i 0 near (omega arith)))
 
     -- what the look is to show at an index is what an update of the snapshot shows there
-    target_is : (i : ℕ) → i < capacity → target value_of size some wide capacity words fits old.seen old.shown i ≡ value_then s (snapshot_of old) i
+    target_is : (i : ℕ) → i < capacity → target codes fits old.seen old.shown i ≡ value_then s (snapshot_of old) i
     target_is = grind (arith, get_or-map-range_with_len, value_at, map)
 
     -- once all indices are up to date, the state shows the values of the updated snapshot
@@ -71,7 +81,7 @@ module _ {V : Type 0} (value_of : List ℕ → V) (size : ℕ) (some : 1 ≤ siz
 
   -- the look has ended with this answer, and has left this in what the state shows
   abbrev Ended : Bool → Showing V → List ℕ → Type 0
-  Ended end room last = P value_of size some wide capacity words fits old.seen old.shown (end, room) last
+  Ended end room last = P codes fits old.seen old.shown (end, room) last
 
   -- a look that has ended with false has left the state as it was
   brought_without : (room : Showing V) (last : List ℕ) → Ended false room last
@@ -118,7 +128,7 @@ module _ {V : Type 0} (value_of : List ℕ → V) (size : ℕ) (some : 1 ≤ siz
 
   -- where the look's answer is true and the state has seen what it shows, the state is brought up to date
   pub brought_if : (end : Bool) (room : Showing V) (last : List ℕ) → Ended end room last → end ≡ true
-      → (new : ContainerState V) → new ≡ record old { seen = seen_of old.seen room; shown = room } → Brought s old true new
+      → {new : ContainerState V} → new ≡ record old { seen = seen_of old.seen room; shown = room } → Brought s old true new
   brought_if = grind (arith, brought_so)
 
   -- where the look's answer is false, the state is as it was
@@ -145,21 +155,21 @@ module _ {V : Type 0} (value_of : List ℕ → V) (size capacity : ℕ) (s : Con
   is_blank = grind (arith, map, mapped_all, blank)
 
   -- a new state that is brought up to date is settled, and its snapshot is the blank one updated
-  pub got_settled : (answer : Bool) (new : ContainerState V) → Brought s fresh answer new
+  pub got_settled : {answer : Bool} {new : ContainerState V} → Brought s fresh answer new
       → IsSettled new × (snapshot_of new ≡ updated s (blank (contents.capacity s)))
-  got_settled answer new brought =
+  got_settled {answer} {new} brought =
       let t = brought.shows settled (is ∙ sym long) in (t.0, t.1 ∙ ap (updated s) is_blank)
 
 -- a new state that is brought up to date is a settled state of the container, and its snapshot is the blank one updated
-pub got : {V : Type 0} (value_of : List ℕ → V) (size capacity container : ℕ) (words : List ℕ) → Represents size capacity words
-    → (self : Contents V) → contents_in value_of size capacity container words ≡ self
-    → (fresh : ContainerState V) → fresh.container ≡ container → fresh.capacity ≡ capacity → fresh.seen ≡ no_numbers capacity
-    → fresh.shown ≡ shows_nothing value_of size capacity → (answer : Bool) (new : ContainerState V)
+pub got : {V : Type 0} (value_of : List ℕ → V) {size capacity : ℕ} (container : ℕ) {words : List ℕ} → Represents size capacity words
+    → {self : Contents V} → contents_in value_of size capacity container words ≡ self
+    → {fresh : ContainerState V} → fresh.container ≡ container → fresh.capacity ≡ capacity → fresh.seen ≡ no_numbers capacity
+    → fresh.shown ≡ shows_nothing value_of size capacity → {answer : Bool} {new : ContainerState V}
     → Brought (contents_in value_of size capacity container words) fresh answer new
     → (IsStateOf self new × IsSettled new) × (snapshot_of new ≡ updated self (blank (contents.capacity self)))
-got value_of size capacity container words fits self contents_are fresh its_own long seen shown answer new brought =
+got {V} value_of {size} {capacity} container {words} fits {self} contents_are {fresh} its_own long seen shown {answer} {new} brought =
     let capacity_is : contents.capacity (contents_in value_of size capacity container words) ≡ capacity =
     owners_long capacity (take (1 + capacity) words) (front_fits value_of size capacity words fits) in
-    let t = got_settled value_of size capacity (contents_in value_of size capacity container words) capacity_is fresh long seen shown answer new brought in
+    let t = got_settled value_of size capacity (contents_in value_of size capacity container words) capacity_is fresh long seen shown brought in
     subst (λ z. (IsStateOf z new × IsSettled new) × (snapshot_of new ≡ updated z (blank (contents.capacity z)))) contents_are
     (((brought.of.0 ∙ its_own, brought.of.1 ∙ long ∙ sym capacity_is), t.0), t.1)

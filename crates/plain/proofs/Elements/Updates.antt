@@ -18,7 +18,7 @@ use Rattle.plain.specs.Contents.{value_at, Represents}
 use Rattle.plain.proofs.Alone.{Runs}
 use Rattle.plain.proofs.Walks.{plus, plus_sum, Walks, WalksOn, OnEnd, goes_longer}
 use Rattle.plain.proofs.Rooms.{with_room, want_both, after_both, runs_both}
-use Rattle.plain.proofs.Elements.Values.{cell_within, all_small}
+use Rattle.plain.proofs.Elements.Values.{Codes, cell_within, all_small}
 use Rattle.plain.proofs.Words.{read_in, value_read}
 
 -- ---- elements of a list
@@ -69,8 +69,11 @@ set_twice [] i x y = refl
 set_twice (z ∷ l) zero x y = refl
 set_twice (z ∷ l) (suc i) x y = ap (λ t. z ∷ t) (set_twice l i x y)
 
-module _ {V : Type 0} (value_of : List ℕ → V) (size : ℕ) (some : 1 ≤ size) (wide : size ≤ 128) (capacity : ℕ)
-    (words : List ℕ) (fits : Represents size capacity words) (seen : Numbers) (first : Showing V) where
+-- A look at the words of a container is for a state that has seen these numbers and shows `first`.
+module _ {V : Type 0} (codes : Codes V) {capacity : ℕ} {words : List ℕ} (fits : Represents codes.size capacity words)
+    (seen : Numbers) (first : Showing V) where
+  open codes use {value_of, size, some, wide}
+
   -- what the look asks for
   abbrev want : Look V → Numbers → Want (Unit {0})
   want c given = look_want size c
@@ -180,7 +183,7 @@ module _ {V : Type 0} (value_of : List ℕ → V) (size : ℕ) (some : 1 ≤ siz
       → LookEnds (suc (suc (plus n m))) (at (looks.LoadsWord i (count i) k)) room words
   reads m i near zero k end room from =
       let place : element_word capacity size i k ≡ word_at (cell i) k =
-      omega (arith, cell_within value_of size capacity words fits i near wide, all_small value_of size capacity words fits i near wide) in
+      omega (arith, cell_within value_of fits i near wide, all_small value_of fits i near wide) in
       let c = count_word capacity i in
       subst
       (λ p. LookEndsFrom (suc m) (if nat_lt (k + 1) size then at_look (first_look capacity) (looks.LoadsWord i (count i) (k + 1))
@@ -198,7 +201,7 @@ module _ {V : Type 0} (value_of : List ℕ → V) (size : ℕ) (some : 1 ≤ siz
       (sym (set-get_or words c 0)) from)))
   reads m i near (suc n) k end room from =
       let place : element_word capacity size i k ≡ word_at (cell i) k =
-      omega (arith, cell_within value_of size capacity words fits i near wide, all_small value_of size capacity words fits i near wide) in
+      omega (arith, cell_within value_of fits i near wide, all_small value_of fits i near wide) in
       subst (λ p. LookEndsFrom (suc (suc (plus n m)))
       (if nat_lt (k + 1) size then at_look (first_look capacity) (looks.LoadsWord i (count i) (k + 1))
       else at_look (first_look capacity) (looks.ChecksCount i (count i)))
@@ -227,7 +230,7 @@ module _ {V : Type 0} (value_of : List ℕ → V) (size : ℕ) (some : 1 ≤ siz
   most_few zero = omega arith
   most_few (suc k) =
       let h = most_few k in let p = plus_sum (size - 1) (most k) in
-      let e : suc (suc (suc (plus (size - 1) (most k)))) ≤ 130 * suc k = omega arith in e
+      let e : suc (suc (suc (plus (size - 1) (most k)))) ≤ 130 * suc k = omega (arith, wide) in e
 
   -- the element at the next index is the one that the state showed at first
   is_at : (i : ℕ) → i < capacity → (r : Showing V) → FitsAtFirst → UpToDateBelow r i
@@ -265,8 +268,9 @@ module _ {V : Type 0} (value_of : List ℕ → V) (size : ℕ) (some : 1 ≤ siz
       let wide_room = h.room in
       -- the words that were read make the value that stands at the index
       let v : value_in value_of size (read_in with_word r₁ words (cell i) 0 size).copy ≡ value_of (words_from words (cell i) size) =
-      value_read value_of size (λ (s : Showing V). s.copy) with_word (λ x at word. refl) r₁ words (cell i) (omega arith)
-      (omega (arith, cell_within value_of size capacity words fits i near wide, all_small value_of size capacity words fits i near wide)) in
+      value_read value_of size (record { words_in = λ (s : Showing V). s.copy; with_word = with_word; put_in = λ x at word. refl }) r₁ words
+      (cell i) (omega (arith, wide))
+      (omega (arith, cell_within value_of fits i near wide, all_small value_of fits i near wide)) in
       let new : Element V = record { count = count i; value = value_in value_of size (read_in with_word r₁ words (cell i) 0 size).copy } in
       let shows : value_shown new ≡ Some (value_of (words_from words (cell i) size)) =
       ap (λ b. if b then None else Some new.value) odd ∙ ap Some v in
@@ -277,7 +281,7 @@ module _ {V : Type 0} (value_of : List ℕ → V) (size : ℕ) (some : 1 ≤ siz
       (t.2 ∙ h.room) h
 
   module _ (fresh : (slice_index words (change_word capacity) == seen.change) ≡ false) where
-    -- LookEndsFrom index i on the look brings k indices up to date, where the container has changed. The cases are
+    -- From index i on the look brings k indices up to date, where the container has changed. The cases are
     -- whether the state has seen the index's number, and whether that is even.
     looks_on : (k i : ℕ) → i + k ≡ capacity → (room : Showing V) → UpToDateIfFits room i
         → LookEndsFrom (most k) (look_comes_to (first_look capacity) i) room words
@@ -314,7 +318,7 @@ module _ {V : Type 0} (value_of : List ℕ → V) (size : ℕ) (some : 1 ≤ siz
         (is ∙ ap (λ b. if b then None else Some (value_of (words_from words (cell i) size))) even)
         (λ x there m. ap (λ b. if b then None else Some x.value) even) known)))
         -- the number is odd: the look reads the value and goes on to the next index
-        (λ odd. let all : suc (size - 1) ≡ size = omega arith in
+        (λ odd. let all : suc (size - 1) ≡ size = omega (arith, some) in
         reads (most k) i near₀ (size - 1) 0 (omega arith) room₁
         (subst (λ n. LookEndsFrom (most k) (look_comes_to (first_look capacity) (i + 1))
         (with_value value_of size (read_in with_word room₁ words (cell i) 0 n) i (count i)) words)
@@ -347,8 +351,8 @@ module _ {V : Type 0} (value_of : List ℕ → V) (size : ℕ) (some : 1 ≤ siz
   few = omega (arith, most_few capacity, fits.few)
 
   -- a look, run alone, ends as `Ended` says
-  pub look_runs : (call : Look V) → call ≡ first_look capacity
+  pub look_runs : {call : Look V} → call ≡ first_look capacity
       → Runs want (look_after size) (look_kept value_of size) seen (λ e room ws. P (e, room) ws) call first words
-  look_runs call at_first =
+  look_runs {call} at_first =
       subst (λ c. Runs want (look_after size) (look_kept value_of size) seen (λ e room ws. P (e, room) ws) c first words) (sym at_first)
-      (runs_both want (look_after size) (look_kept value_of size) seen (suc (most capacity)) P (first_look capacity) first words few walks)
+      (runs_both (suc (most capacity)) P few walks)

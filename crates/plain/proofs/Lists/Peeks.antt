@@ -2,7 +2,7 @@
 -- of the list.
 use Rattle.std.proofs.Common.{◌≡◌, ◌≢◌, ℕ, zero, suc, ◌+◌, ◌-◌, ◌*◌, ◌%◌, ◌^◌, ◌<◌, ◌≤◌, ◌⊎◌, inr, Bool, true}
 use Rattle.std.proofs.Common.{false, nat_lt, List, length, ap}
-use Rattle.std.proofs.Common.{arith, slice_index, slice_set}
+use Rattle.std.proofs.Common.{arith, slice_index}
 use Rattle.std.proofs.Common.{ne_eqb, if◌then◌else◌}
 use Rattle.plain.proofs.Names.{mul-le-mul_right, nat_tests, dite, ℕ_discrete, by_test, by_either}
 use Rattle.plain.proofs.Names.{word_at, After}
@@ -15,13 +15,13 @@ use Rattle.plain.specs.Alone.{EndsFrom, EndsIn, BehavesAs}
 use Rattle.steps.specs.Objects.Lists.{Bounded, front}
 use Rattle.plain.specs.Queues.{words_from, value_at, list_in, Represents}
 use Rattle.plain.proofs.Alone.{Runs}
-use Rattle.plain.proofs.Words.{read_in, value_read}
+use Rattle.plain.proofs.Words.{Room, read_in, value_read}
 use Rattle.plain.proofs.Lists.Cells.{cell_within}
 
 module _ {V R : Type 0} (value_of : List ℕ → V) (size : ℕ) (some : 1 ≤ size) (few : size ≤ 128)
-    (words_in : R → List ℕ) (with_word : R → ℕ → ℕ → R)
-    (put_in : (x : R) (at word : ℕ) → words_in (with_word x at word) ≡ slice_set (words_in x) at word)
-    (capacity : ℕ) where
+    (as_room : Room R) (capacity : ℕ) where
+  open as_room use {words_in, with_word, put_in}
+
   -- the peek, run alone from these words, ends within n steps with this end, this last room
   -- and these last words
   abbrev PeekEnds : ℕ → Bool → R → List ℕ → Peek V R → R → List ℕ → Type 0
@@ -152,7 +152,7 @@ module _ {V R : Type 0} (value_of : List ℕ → V) (size : ℕ) (some : 1 ≤ s
       })
 
   -- a peek, run alone, answers the front of the list, where its room has place for the words of a value
-  pub peek_runs : (call : Peek V R) → call ≡ first_peek capacity → (room : R)
-      → size ≤ length (words_in room) → (words : List ℕ) → Represents size capacity words
+  pub peek_runs : {call : Peek V R} → call ≡ first_peek capacity → (room : R)
+      → size ≤ length (words_in room) → {words : List ℕ} → Represents size capacity words
       → PeekRuns call room words
   peek_runs = grind (arith, runs_first)

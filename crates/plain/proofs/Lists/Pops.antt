@@ -14,13 +14,13 @@ use Rattle.plain.specs.Alone.{EndsFrom, EndsIn, BehavesAs}
 use Rattle.steps.specs.Objects.Lists.{Bounded, front, popped}
 use Rattle.plain.specs.Queues.{words_from, value_at, list_in, Represents}
 use Rattle.plain.proofs.Alone.{Runs}
-use Rattle.plain.proofs.Words.{words_same, read_in, value_read}
+use Rattle.plain.proofs.Words.{Room, words_same, read_in, value_read}
 use Rattle.plain.proofs.Lists.Cells.{cell_within, values_same, values_length}
 
 module _ {V R : Type 0} (value_of : List ℕ → V) (size : ℕ) (some : 1 ≤ size) (few : size ≤ 128)
-    (words_in : R → List ℕ) (with_word : R → ℕ → ℕ → R)
-    (put_in : (x : R) (at word : ℕ) → words_in (with_word x at word) ≡ slice_set (words_in x) at word)
-    (capacity : ℕ) where
+    (as_room : Room R) (capacity : ℕ) where
+  open as_room use {words_in, with_word, put_in}
+
   -- the pop, run alone from these words, ends within n steps with this end, this last room
   -- and these last words
   abbrev PopEnds : ℕ → Bool → R → List ℕ → Pop V R → R → List ℕ → Type 0
@@ -173,7 +173,7 @@ module _ {V R : Type 0} (value_of : List ℕ → V) (size : ℕ) (some : 1 ≤ s
       })
 
   -- a pop, run alone, does what a pop does to the list, where its room has place for the words of a value
-  pub pop_runs : (call : Pop V R) → call ≡ first_pop capacity → (room : R)
-      → size ≤ length (words_in room) → (words : List ℕ) → Represents size capacity words
+  pub pop_runs : {call : Pop V R} → call ≡ first_pop capacity → (room : R)
+      → size ≤ length (words_in room) → {words : List ℕ} → Represents size capacity words
       → PopRuns call room words
   pop_runs = grind (arith, runs_first)

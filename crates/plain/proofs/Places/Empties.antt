@@ -232,13 +232,15 @@ module _ {F : Type 0} (pre : F → ℕ → Type 0) (step : F → ℕ → Unit {0
           calls = λ last f. f;
         }
 
-    module _ (element place : ℕ) (call : ResetAll) (words : List ℕ) (visit : F) (emptying : Emptying element place call words visit)
+    -- The emptying has come to an element that the set has.
+    module _ {element place : ℕ} {call : ResetAll} {words : List ℕ} {visit : F} (emptying : Emptying element place call words visit)
         (some : element < elements capacity) where
       -- the call is not done yet
       pub may_swap : call.word < call.end
       may_swap = subst (λ (c : ResetAll). c.word < c.end) (sym (emptying.at some)) (omega arith)
 
-      module _ (found : ℕ) (is : found ≡ slice_index words call.word) (end : ℕ) (order : place ≤ end) (below : end ≤ capacity)
+      -- Its step has swapped out the word `found`, and the places of the element end at `end`.
+      module _ {found : ℕ} (is : found ≡ slice_index words call.word) (end : ℕ) (order : place ≤ end) (below : end ≤ capacity)
           (near : end ≤ place + 64) (far : end < capacity → end ≡ place + 64) where
         -- the place is the first of the element
         here : place ≡ element * 64
@@ -266,10 +268,10 @@ module _ {F : Type 0} (pre : F → ℕ → Type 0) (step : F → ℕ → Unit {0
 
         -- after the calls with the places of this element its word is 0, and the emptying has
         -- come to the next element
-        pub empties_one : (next : ResetAll) (now : List ℕ) (later : F) → now ≡ slice_set words call.word 0
+        pub empties_one : {next : ResetAll} {now : List ℕ} (later : F) → now ≡ slice_set words call.word 0
             → (call.word + 1 < call.end → next ≡ record { word = call.word + 1; end = call.end })
             → Folds visit (standing_in found place (end - place)) later → Emptying (element + 1) end next now later
-        empties_one next now later writes goes went =
+        empties_one {next} {now} later writes goes went =
             let e = here in
             let long : 1 + element < length words = omega (arith, emptying.long, emptying.fits.long) in
             let wrote : now ≡ slice_set words (1 + element) 0 = writes ∙ ap (λ (c : ResetAll). slice_set words c.word 0) (emptying.at some) in
@@ -310,8 +312,8 @@ module _ {F : Type 0} (pre : F → ℕ → Type 0) (step : F → ℕ → Unit {0
 
     -- ---- all elements are 0
 
-    module _ (place : ℕ) (call : ResetAll) (words : List ℕ) (visit : F)
-        (emptying : Emptying (elements capacity) place call words visit) where
+    -- The emptying has come to its end: it has gone through all elements of the set.
+    module _ {place : ℕ} {call : ResetAll} {words : List ℕ} {visit : F} (emptying : Emptying (elements capacity) place call words visit) where
       -- after the last element the place is the capacity
       at_end : place ≡ capacity
       at_end = let w = emptying.within in let f = emptying.far in

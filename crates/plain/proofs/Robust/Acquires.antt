@@ -5,8 +5,8 @@ use Rattle.std.proofs.Common.{length, drop, map, Some, None, Ok, Err, ok_or, pos
 use Rattle.std.proofs.Common.{◌∙◌, arith, slice_index, slice_set, length-set, eq-eqb, ne_eqb, if◌then◌else◌}
 use Rattle.std.specs.List.{position_or_len}
 use Rattle.plain.proofs.Names.{nat_tests, length-map, map-set, by_test, by_eq, After, GoOn, Done}
-use Rattle.steps.specs.Indices.Robust.Parts.{cell_word, empty, locked, greatest}
-use Rattle.steps.specs.Indices.Robust.Acquire.{Acquired, first_acquire, at_acquire, acquire_tries, acquire_sees, acquire_want, acquire_after}
+use Rattle.steps.specs.Indices.Robust.Parts.{cell_word, empty, locked, greatest, raise_want, raise_after}
+use Rattle.steps.specs.Indices.Robust.Acquire.{Acquired, first_acquire, at_acquire, acquire_tries, acquire_raised, acquire_sees, acquire_want, acquire_after}
 use Rattle.steps.specs.declared.indices.enums.UniqueIndexSetAcquireFailure.TheVariants as failures
 use Rattle.steps.specs.declared.indices.robust.parts.Raise.TheVariants as raises
 use Rattle.steps.specs.declared.indices.robust.acquire.Acquire.{Acquire}
@@ -15,7 +15,7 @@ use Rattle.plain.specs.Alone.{BehavesAs}
 use Rattle.steps.specs.Objects.Owners.{Owners, next_generation, acquired, granted, after_acquire}
 use Rattle.plain.specs.Robust.{owner_in, owners_in, Represents}
 use Rattle.plain.proofs.Alone.{Runs}
-use Rattle.plain.proofs.Walks.{Walks, WalksOn, OnEnd, part_walks, runs}
+use Rattle.plain.proofs.Walks.{Walks, WalksOn, OnEnd, any_low, part_walks, runs}
 use Rattle.plain.proofs.Robust.Parts.{here, past, next_cell, next_set, raise_walks, next_below, owner_free, owner_some}
 
 module _ (capacity owner g : ℕ) (cells : List ℕ) (small : g < 2 ^ 64) (long : length cells ≡ capacity) (few : capacity < 2 ^ 32)
@@ -42,9 +42,25 @@ module _ (capacity owner g : ℕ) (cells : List ℕ) (small : g < 2 ^ 64) (long 
   raises_on : (n : ℕ) (P : Acquired → List ℕ → Type 0) (index : ℕ) (cells₂ : List ℕ) → g ≢ locked
       → P (Ok index) (next_generation g ∷ cells₂)
       → AcquireEnds (suc (suc n)) P (at_acquire first (acquires.Raises index raises.LoadsCounter)) (g ∷ cells₂)
-  raises_on = grind (arith, part_walks, raise_walks)
+  raises_on n P index cells₂ other holds =
+      part_walks
+      (record {
+        want = λ c. acquire_want c owner;
+        after = λ c old. acquire_after c old;
+        part_want = raise_want;
+        part_after = raise_after;
+        within = λ r. at_acquire first (acquires.Raises index r);
+        lift = acquire_raised first index;
+        Low = λ d. Unit {0};
+        low_on = λ d old low. any_low (raise_after d old);
+        wants_so = λ d. refl;
+        goes_so = λ d old low. refl;
+        lifts = λ d. refl;
+      })
+      2 n (OnEnd P) raises.LoadsCounter (g ∷ cells₂) tt
+      (raise_walks g cells₂ small _ (λ e. absurd (other e)) (λ _. holds))
 
-  -- AcquireEndsFrom this index on the acquire fills the first cell without an owner, or finds that all have one. The
+  -- From this index on the acquire fills the first cell without an owner, or finds that all have one. The
   -- cases are whether a cell is left, and whether it is empty.
   tries : (P : Acquired → List ℕ → Type 0) → g ≢ locked → (rest : List ℕ) (index : ℕ) → drop index cells ≡ rest
       → ((i : ℕ) → i ≡ index + front rest → i < capacity → P (Ok i) (next_generation g ∷ slice_set cells i owner))
@@ -159,8 +175,7 @@ module _ (capacity owner g : ℕ) (cells : List ℕ) (small : g < 2 ^ 64) (long 
   pub take_runs : 1 ≤ capacity
       → Runs acquire_want (λ c given old. acquire_after c old) (λ c (room : Unit {0}) old. room) owner (λ e room ws. AcquireBehaves e ws) first tt (g ∷ cells)
   take_runs some =
-      runs acquire_want (λ c given old. acquire_after c old) owner (suc (suc (suc (suc (suc (length cells)))))) AcquireBehaves
-      first (g ∷ cells) (omega arith) (take_walks some)
+      runs (suc (suc (suc (suc (suc (length cells)))))) AcquireBehaves (omega arith) (take_walks some)
 
 -- an acquire, run alone over any words of a robust set, does what an acquire does to the map
 pub take_at : (capacity owner number : ℕ) → number ≡ owner → number < empty → (call : Acquire) → call ≡ first_acquire capacity

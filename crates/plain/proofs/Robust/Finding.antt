@@ -1,6 +1,6 @@
 -- A find of a robust set with its closure, from one question to the next: what the closure was called with,
 -- and that it may be called with the next index.
-use Rattle.std.proofs.Common.{◌≡◌, ℕ, suc, ◌+◌, ◌-◌, ◌^◌, ◌<◌, ◌≤◌, inl, true, nat_lt, if◌then◌else◌, List, []}
+use Rattle.std.proofs.Common.{◌≡◌, ℕ, suc, ◌+◌, ◌-◌, ◌^◌, ◌<◌, ◌≤◌, inl, inr, true, nat_lt, if◌then◌else◌, List, []}
 use Rattle.std.proofs.Common.{◌∷◌, ◌++◌, length, refl, sym, ap, subst, ◌∙◌, arith}
 use Rattle.plain.proofs.Names.{FoldsTo, append_assoc, append-nil, length-append, length-drop, nat_tests, After, GoOn}
 use Rattle.plain.proofs.Names.{Done, Question, Want}
@@ -10,13 +10,14 @@ use Rattle.steps.specs.declared.enums.CallbackProgression.{CallbackProgression}
 use Rattle.steps.specs.declared.enums.CallbackProgression.TheVariants.{Continue, Stop}
 use Rattle.steps.specs.declared.indices.robust.find.Find.{Find}
 use Rattle.steps.specs.Objects.Owners.{indices_of}
-use Rattle.plain.specs.declared.drive.Stop.TheVariants as stops
+use Rattle.plain.specs.declared.drive.Stop as stops
 use Rattle.plain.specs.Alone.{CanStop, StopsAlike}
 use Rattle.plain.specs.Callable.{TakesIndices, HasFound, index_in, as_answer}
 use Rattle.plain.specs.Robust.{owners_in, Represents}
 use Rattle.plain.proofs.Alone.{Halts, can_stop, stops_so}
 use Rattle.plain.proofs.Walks.{WalksOn, halts}
-use Rattle.plain.proofs.Robust.Finds.{mine, StopsAt, finds_on}
+use Rattle.plain.proofs.Robust.Finds.{SetWords, mine, AsksAt, StopsAt, finds_on}
+use Rattle.plain.proofs.Robust.Parts.{head_or, tail_of, split}
 
 -- calls with a list, and one more call, are calls with the list and one more at its end
 pub folds_more : {P A : Type 0} (R : P → A → P → Type 0) (p q r : P) (xs : List A) (x : A)
@@ -24,212 +25,200 @@ pub folds_more : {P A : Type 0} (R : P → A → P → Type 0) (p q r : P) (xs :
 folds_more R p q r [] x folds step = (r, subst (λ z. R z x r) (sym folds) step, refl)
 folds_more R p q r (y ∷ xs) x folds step = (folds.0, folds.1, folds_more R folds.0 q r xs x folds.2 step)
 
-module _ {F : Type 0} (step : F → ℕ → CallbackProgression → F → Type 0) (f : F) (capacity owner g : ℕ) (cells : List ℕ)
-    (long : length cells ≡ capacity) (few : capacity < 2 ^ 32) (lives : owner < empty) where
+-- A find with its closure: the capacity and the words of the set, the owner whose indices are visited, and the closure.
+pub record FindCase (F : Type 0) : Type 1 where
+  pub capacity : ℕ
+  pub owner : ℕ
+  pub words : List ℕ
+  -- what a call of the closure with an index makes of it, and the closure at first
+  pub step : F → ℕ → CallbackProgression → F → Type 0
+  pub first : F
+
+-- a find has no room
+abbrev kept : Find → Unit {0} → ℕ → Unit {0}
+kept c room old = room
+
+-- what the find asks for next, whatever the owner is
+abbrev want : Find → ℕ → Want (Unit {0})
+want c given = find_want c
+
+module _ {F : Type 0} (case : FindCase F) where
+  open case use {capacity, owner, words, step, first}
+
   -- the owner's indices, ascending
   abbrev all : List ℕ
-  all = indices_of (owners_in (g ∷ cells)) owner
+  all = indices_of (owners_in words) owner
 
-  -- the find halts at the first of the owner's indices that are left, or at its end with this count
-  abbrev HaltsAt : ℕ → List ℕ → Find → Type 0
-  HaltsAt count left call =
-      Halts (λ c (given : ℕ). find_want c) find_after (λ c (room : Unit {0}) old. room) owner
-      (λ s room ws. StopsAt capacity owner g cells long few lives count left s ws) call tt (g ∷ cells)
-
-  -- The find is under way: the closure was called with the indices of `before` and said Continue each time,
-  -- those of `left` are left, and the call halts at the next question or at its end.
-  pub record Finding (done : ℕ) (call : Find) (now : F) : Type 0 where
+  -- what the closure was called with so far: with the indices of `before`, and it said Continue each time; those of
+  -- `left` are left
+  pub record Visited (done : ℕ) (now : F) : Type 0 where
     -- the indices at which the closure was called, and those that are left: together all of the owner's
     pub before : List ℕ
     pub left : List ℕ
     pub joined : before ++ left ≡ all
     -- the closure's calls so far, as many as the driver has counted and at most the capacity
-    pub calls : FoldsTo (λ p x q. step p x Continue q) f before now
+    pub calls : FoldsTo (λ p x q. step p x Continue q) first before now
     pub number : length before ≡ done
     pub low : done ≤ capacity
+
+  -- The find is under way: the closure was called as `visited` says, the words are as they were, and the call halts
+  -- at the next question or at its end.
+  pub record Searching (done : ℕ) (call : Find) (now : F) (items : List ℕ) : Type 0 where
+    pub visited : Visited done now
+    -- the counter and the cells that the words are
+    pub set : SetWords capacity owner
+    pub is : words ≡ set.g ∷ set.cells
+    pub same : items ≡ set.g ∷ set.cells
     -- where the call halts next
-    pub run : HaltsAt done left call
-
-  -- what a step has answered: the find is under way with this number of questions done, or has ended and
-  -- found what it says
-  abbrev pub Onward : ℕ → After Find ℕ → F → Type 0
-  Onward done (GoOn call) now = Finding done call now
-  Onward done (Done n) now = HasFound step all f n now
-
-  -- where the closure was called with all indices and said Continue each time, this is
-  -- what the find has found
-  found_all : (before : List ℕ) (now : F) (n : ℕ) → before ++ [] ≡ all → FoldsTo (λ p x q. step p x Continue q) f before now
-      → n ≡ length before → HasFound step all f n now
-  found_all before now n joined calls number =
-      record { before = before; now = now; calls = calls; ended = inl (sym (append-nil before) ∙ joined, refl, number) }
-
-  -- over the cells that are left the find halts where it ends, or where it asks about the next index of the owner
-  goes_on : (rest before left : List ℕ) (now : F) (a : After Find ℕ) (done : ℕ) → length rest ≤ capacity → before ++ left ≡ all
-      → FoldsTo (λ p x q. step p x Continue q) f before now → length before ≡ done → done ≤ capacity
-      → WalksOn (λ c. find_want c) (λ c old. find_after c owner old) (suc (length rest)) (StopsAt capacity owner g cells long few lives done left) a (g ∷ cells)
-      → Onward done a now
-  goes_on rest before left now (GoOn d) done short joined calls number low goes =
-      record {
-        before = before;
-        left = left;
-        joined = joined;
-        calls = calls;
-        number = number;
-        low = low;
-        run =
-            halts (λ c (given : ℕ). find_want c) find_after owner (suc (length rest))
-            (StopsAt capacity owner g cells long few lives done left) d (g ∷ cells) (omega arith) goes;
-      }
-  goes_on rest before left now (Done n) done short joined calls number low goes = grind (arith, found_all)
-
-  -- a find that begins has come to nothing yet
-  pub begins : 1 ≤ capacity → Finding 0 (first_find capacity) f
-  begins some =
-      let starts : find_comes_to (first_find capacity) 0 0 ≡ GoOn (first_find capacity) =
-      ap (λ b. if b then GoOn (first_find capacity) else Done 0) (let t : nat_lt 0 capacity ≡ true = grind (arith, nat_tests, some) in t) in
-      subst (λ a. Onward 0 a f) starts
-      (goes_on cells [] all f (find_comes_to (first_find capacity) 0 0) 0 (omega arith) refl refl refl (omega arith)
-      (finds_on capacity owner g cells long few lives cells 0 0 all refl (omega arith) refl))
-
-  -- ---- where it stops
-
-  module _ (done : ℕ) (call : Find) (now : F) (so_far : Finding done call now) (last : List ℕ) where
-    -- a find that is under way and ends has found what it says, and has changed no word
-    pub ended : (n : ℕ) → StopsAt capacity owner g cells long few lives done so_far.left (stops.Ended n) last
-        → HasFound step all f n now × (last ≡ g ∷ cells)
-    ended = grind (arith, found_all)
-
-    module _ (question : Question (Unit {0})) (asks : Find)
-        (at : StopsAt capacity owner g cells long few lives done so_far.left (stops.Asked question asks) last) where
-      -- the question is about the first index left
-      index_is : index_in question ≡ at.index
-      index_is = ap index_in at.asks
-
-      -- the closure may be called with the index that the question is about
-      pub may_visit : {pre : F → ℕ → Type 0} → TakesIndices pre step all f → pre now (index_in question)
-      may_visit {pre} may =
-          subst (pre now) (sym index_is)
-          (may.at so_far.before now at.index (mine owner (at.index + 1) at.rest) so_far.calls
-          (ap (λ l. so_far.before ++ l) (sym at.left_is) ∙ so_far.joined))
-
-      -- the find has changed no word
-      pub same : last ≡ g ∷ cells
-      same = at.same
-
-      -- after a call that said Continue the find is under way with one index more; after one that said Stop
-      -- it has found what it says
-      pub onward : (a : CallbackProgression) (next : F) → step now (index_in question) a next
-          → Onward (done + 1) (find_after asks owner (as_answer a)) next
-      onward Continue next called =
-          let long_rest : length at.rest ≤ capacity = omega (arith, length-drop (at.index + 1) cells, ap length at.rest_is) in
-          let near = at.near in
-          let low = at.low in
-          subst (λ c. Onward (done + 1) (find_after c owner 1) next) (sym at.stands)
-          (goes_on at.rest (so_far.before ++ at.index ∷ []) (mine owner (at.index + 1) at.rest) next
-          (find_comes_to (first_find capacity) (at.index + 1) (done + 1)) (done + 1) long_rest
-          (append_assoc so_far.before (at.index ∷ []) (mine owner (at.index + 1) at.rest) ∙ (ap (λ l. so_far.before ++ l) (sym at.left_is) ∙ so_far.joined))
-          (folds_more (λ p x q. step p x Continue q) f now next so_far.before at.index so_far.calls (subst (λ i. step now i Continue next) index_is called))
-          (length-append so_far.before (at.index ∷ []) ∙ ap (λ n. n + 1) so_far.number)
-          (omega arith)
-          (finds_on capacity owner g cells long few lives at.rest (at.index + 1) (done + 1) (mine owner (at.index + 1) at.rest) at.rest_is (omega arith) refl))
-      onward Stop next called = grind (arith, find_after, mine, index_is)
-
--- ---- over any words of a robust set
-
-module _ {F : Type 0} (step : F → ℕ → CallbackProgression → F → Type 0) (f : F) (capacity owner : ℕ) where
-  -- a find over the words `first` is under way, and the words are as they were
-  abbrev pub Searching : List ℕ → ℕ → Find → F → List ℕ → Type 0
-  Searching [] done call now words = ⊥
-  Searching (g ∷ cells) done call now words =
-      (long : length cells ≡ capacity) × (few : capacity < 2 ^ 32) × (lives : owner < empty) × (words ≡ g ∷ cells)
-      × Finding step f capacity owner g cells long few lives done call now
+    pub run : Halts want find_after kept owner (λ s room ws. StopsAt set done visited.left s ws) call tt (set.g ∷ set.cells)
 
   -- what an answer has led to: the find is under way, or has ended, has found what it says and left the words
-  abbrev pub Further : List ℕ → ℕ → After Find ℕ → F → List ℕ → Type 0
-  Further first done (GoOn call) now words = Searching first done call now words
-  Further first done (Done n) now words =
-      HasFound step (indices_of (owners_in first) owner) f n now × (words ≡ first)
+  abbrev pub Further : ℕ → After Find ℕ → F → List ℕ → Type 0
+  Further done (GoOn call) now items = Searching done call now items
+  Further done (Done n) now items = HasFound step all first n now × (items ≡ words)
+
+  -- where nothing is left, this is what the find has found
+  found_all : {done : ℕ} {now : F} {n : ℕ} (visited : Visited done now) → visited.left ≡ [] → n ≡ done → HasFound step all first n now
+  found_all {done} {now} {n} visited none counted =
+      record {
+        before = visited.before;
+        now = now;
+        calls = visited.calls;
+        ended = inl (
+          sym (append-nil visited.before) ∙ (ap (λ l. visited.before ++ l) (sym none) ∙ visited.joined),
+          refl,
+          counted ∙ sym visited.number,
+        );
+      }
+
+  -- over the cells that are left the find halts where it ends, or where it asks about the next index of the owner
+  goes_on : (set : SetWords capacity owner) → words ≡ set.g ∷ set.cells → (rest : List ℕ) {done : ℕ} {now : F} (visited : Visited done now)
+      (a : After Find ℕ) {items : List ℕ} → items ≡ set.g ∷ set.cells → length rest ≤ capacity
+      → WalksOn (λ c. find_want c) (λ c old. find_after c owner old) (suc (length rest)) (StopsAt set done visited.left) a (set.g ∷ set.cells)
+      → Further done a now items
+  goes_on set is rest {done} {now} visited (GoOn d) {items} same short goes =
+      let few = set.few in
+      record {
+        visited = visited;
+        set = set;
+        is = is;
+        same = same;
+        run = halts (suc (length rest)) (StopsAt set done visited.left) (omega arith) goes;
+      }
+  goes_on set is rest {done} {now} visited (Done n) {items} same short goes = (found_all visited goes.0 goes.1, same ∙ sym is)
 
   -- a find that has taken no step is under way
-  pub starts : (first : List ℕ) (call : Find) → call ≡ first_find capacity → Represents capacity first → owner < empty → Searching first 0 call f first
-  starts = grind (arith, length, suc, begins)
+  pub starts : (call : Find) → call ≡ first_find capacity → Represents capacity words → owner < empty → Searching 0 call first words
+  starts call at_first fits lives =
+      let some = fits.some in
+      let front : words ≡ head_or 0 words ∷ tail_of words = split capacity fits.long in
+      let cells : List ℕ = tail_of words in
+      let long : length cells ≡ capacity = (let e : suc (length cells) ≡ 1 + capacity = sym (ap length front) ∙ fits.long in omega arith) in
+      let set : SetWords capacity owner = record { g = head_or 0 words; cells = cells; long = long; few = fits.few; lives = lives } in
+      let none : Visited 0 first = record { before = []; left = all; joined = refl; calls = refl; number = refl; low = omega arith } in
+      let begins : find_comes_to (first_find capacity) 0 0 ≡ GoOn (first_find capacity) =
+      ap (λ b. if b then GoOn (first_find capacity) else Done 0) (let t : nat_lt 0 capacity ≡ true = grind (arith, nat_tests, some) in t) in
+      subst (λ c. Searching 0 c first words) (sym at_first)
+      (subst (λ a. Further 0 a first words) begins
+      (goes_on set front cells none (find_comes_to (first_find capacity) 0 0) front (omega arith)
+      (finds_on set cells 0 0 refl (omega arith) (ap (λ ws. indices_of (owners_in ws) owner) front))))
 
-  -- a find has no room
-  abbrev kept : Find → Unit {0} → ℕ → Unit {0}
-  kept c room old = room
+-- ---- where it stops
 
-  -- what the find asks for next, whatever the owner is
-  abbrev want : Find → ℕ → Want (Unit {0})
-  want c given = find_want c
+-- A find that a driver holds: the closure was called `done` times, and is `now` as its calls have left it.
+module _ {F : Type 0} {case : FindCase F} {done : ℕ} {call : Find} {now : F} {items : List ℕ} (so_far : Searching case done call now items) where
+  open case use {capacity, owner, words, step, first}
+  open so_far use {visited, set, is, same, run}
 
   -- a find under way can stop
-  pub can_go : (first : List ℕ) (done : ℕ) (call : Find) (now : F) (words : List ℕ) → Searching first done call now words
-      → CanStop want find_after kept owner call tt words
-  can_go = grind (arith, can_stop)
+  pub can_go : CanStop want find_after kept owner call tt items
+  can_go = subst (CanStop want find_after kept owner call tt) (sym same) (can_stop run)
+
+  -- this is the stop of the find, whatever steps a driver has taken to it
+  abbrev StopsSo : stops.Stop Find ℕ → Unit {0} → List ℕ → Type 0
+  StopsSo stop r last = StopsAlike want find_after kept owner call tt items stop r last
+
+  -- where a driver has brought a find under way to a stop, it is one of those that `StopsAt` says
+  stops_at : {stop : stops.Stop Find ℕ} {r : Unit {0}} {last : List ℕ} → StopsSo stop r last → StopsAt set done visited.left stop last
+  stops_at {stop} {r} {last} alike = stops_so run (subst (λ ws. StopsAlike want find_after kept owner call tt ws stop r last) same alike)
 
   -- a find under way that a driver has brought to its end has found what it says, and the
   -- words are as they were
-  pub ended_so : (first : List ℕ) (done : ℕ) (call : Find) (now : F) (words : List ℕ) (n : ℕ) (r : Unit {0}) (last : List ℕ)
-      → Searching first done call now words
-      → StopsAlike want find_after kept owner call tt words (stops.Ended n) r last
-      → HasFound step (indices_of (owners_in first) owner) f n now × (last ≡ first)
-  ended_so [] done call now words n r last searching alike = absurd searching
-  ended_so (g ∷ cells) done call now words n r last searching alike =
-      ended step f capacity owner g cells searching.0 searching.1 searching.2 done call now searching.4 last n
-      (stops_so want find_after kept owner _ call tt (g ∷ cells) searching.4.run (stops.Ended n) r last
-      (subst (λ ws. StopsAlike want find_after kept owner call tt ws (stops.Ended n) r last) searching.3 alike))
-
-  -- at a question to which a driver has brought the find the closure may be called with the question's index
-  pub may_so : (first : List ℕ) (done : ℕ) (call : Find) (now : F) (words : List ℕ) (question : Question (Unit {0}))
-      (asks : Find) (r : Unit {0}) (last : List ℕ)
-      → Searching first done call now words
-      → StopsAlike want find_after kept owner call tt words (stops.Asked question asks) r last
-      → (index : ℕ) → index ≡ index_in question
-      → {pre : F → ℕ → Type 0} → TakesIndices pre step (indices_of (owners_in first) owner) f → pre now index
-  may_so [] done call now words question asks r last searching alike index index_is {pre} may = absurd searching
-  may_so (g ∷ cells) done call now words question asks r last searching alike index index_is {pre} may =
-      subst (pre now) (sym index_is)
-      (may_visit step f capacity owner g cells searching.0 searching.1 searching.2 done call now searching.4 last question asks
-      (stops_so want find_after kept owner _ call tt (g ∷ cells) searching.4.run (stops.Asked question asks) r last
-      (subst (λ ws. StopsAlike want find_after kept owner call tt ws (stops.Asked question asks) r last) searching.3 alike)) may)
-
-  -- `Onward` over a counter and cells is `Further` over the words that they make
-  further : (g : ℕ) (cells : List ℕ) (long : length cells ≡ capacity) (few : capacity < 2 ^ 32) (lives : owner < empty) (done : ℕ)
-      (a : After Find ℕ) (now : F) (words : List ℕ) → words ≡ g ∷ cells
-      → Onward step f capacity owner g cells long few lives done a now → Further (g ∷ cells) done a now words
-  further = grind arith
-
-  -- after the closure was called at a question the find is under way, or has ended with what it says
-  pub goes_further : (first : List ℕ) (done : ℕ) (call : Find) (now : F) (words : List ℕ)
-      (question : Question (Unit {0})) (asks : Find) (r : Unit {0}) (last : List ℕ)
-      → Searching first done call now words
-      → StopsAlike want find_after kept owner call tt words (stops.Asked question asks) r last
-      → (a : CallbackProgression) (next : F) → step now (index_in question) a next
-      → Further first (done + 1) (find_after asks owner (as_answer a)) next last
-  goes_further [] done call now words question asks r last searching alike a next called = absurd searching
-  goes_further (g ∷ cells) done call now words question asks r last searching alike a next called =
-      let at = stops_so want find_after kept owner _ call tt (g ∷ cells) searching.4.run (stops.Asked question asks) r last
-      (subst (λ ws. StopsAlike want find_after kept owner call tt ws (stops.Asked question asks) r last) searching.3 alike) in
-      further g cells searching.0 searching.1 searching.2 (done + 1) (find_after asks owner (as_answer a)) next last
-      (same step f capacity owner g cells searching.0 searching.1 searching.2 done call now searching.4 last question asks at)
-      (onward step f capacity owner g cells searching.0 searching.1 searching.2 done call now searching.4 last question asks at a next called)
-
-  -- after the closure was called at a question and the call was handed its answer as a number, the find is
-  -- under way, or has ended with what it says
-  pub further_so : (first : List ℕ) (done : ℕ) (call : Find) (now : F) (words : List ℕ)
-      (question : Question (Unit {0})) (asks : Find) (r : Unit {0}) (last : List ℕ)
-      → Searching first done call now words
-      → StopsAlike want find_after kept owner call tt words (stops.Asked question asks) r last
-      → (index : ℕ) → index ≡ index_in question → (a : CallbackProgression) (next : F) → step now index a next
-      → (answer : ℕ) → answer ≡ as_answer a → (b : After Find ℕ) → b ≡ find_after asks owner answer
-      → Further first (done + 1) b next last
-  further_so first done call now words question asks r last searching alike index index_is a next called answer said b goes =
-      subst (λ z. Further first (done + 1) z next last) (sym (goes ∙ ap (find_after asks owner) said))
-      (goes_further first done call now words question asks r last searching alike a next (subst (λ i. step now i a next) index_is called))
+  pub ended_so : {n : ℕ} {r : Unit {0}} {last : List ℕ} → StopsSo (stops.TheVariants.Ended n) r last
+      → HasFound step (all case) first n now × (last ≡ words)
+  ended_so alike = let end = stops_at alike in (found_all case visited end.0 end.1, end.2 ∙ sym is)
 
   -- a find asks fewer than 2^64 - 1 questions
-  pub few_rounds : (first : List ℕ) (done : ℕ) (call : Find) (now : F) (words : List ℕ) → Searching first done call now words → done < 2 ^ 64 - 1
-  few_rounds = grind arith
+  pub few_rounds : done < 2 ^ 64 - 1
+  few_rounds = omega (arith, visited.low, set.few)
+
+  module _ {question : Question (Unit {0})} {asks : Find} {r : Unit {0}} {last : List ℕ}
+      (alike : StopsSo (stops.TheVariants.Asked question asks) r last) where
+    -- the driver has brought the find to a question about the first index that is left
+    pub asked : AsksAt set done visited.left question asks last
+    asked = stops_at alike
+
+    -- the indices so far, this one and those left are all of the owner's
+    joined : visited.before ++ asked.index ∷ mine owner (asked.index + 1) asked.rest ≡ all case
+    joined = ap (λ l. visited.before ++ l) (sym asked.left_is) ∙ visited.joined
+
+    module _ {index : ℕ} (index_is : index ≡ index_in question) where
+      -- the question is about the first index that is left
+      there : index ≡ asked.index
+      there = index_is ∙ ap index_in asked.asks
+
+      -- the closure may be called with the question's index
+      pub may_so : {pre : F → ℕ → Type 0} → TakesIndices pre step (all case) first → pre now index
+      may_so {pre} may =
+          subst (pre now) (sym there) (may.at visited.before now asked.index (mine owner (asked.index + 1) asked.rest) visited.calls joined)
+
+      -- after a call that said Continue the find is under way with one index more; after one that said Stop
+      -- it has found what it says
+      onward : (a : CallbackProgression) (next : F) → step now index a next → Further case (done + 1) (find_after asks owner (as_answer a)) next last
+      -- a call that said Continue: the find goes on to the owner's next index or to its end
+      onward Continue next called =
+          let long = set.long in
+          let few = set.few in
+          let long_rest : length asked.rest ≤ capacity = omega (arith, length-drop (asked.index + 1) set.cells, ap length asked.rest_is) in
+          let near = asked.near in
+          let low = asked.low in
+          let more : Visited case (done + 1) next =
+          record {
+            before = visited.before ++ asked.index ∷ [];
+            left = mine owner (asked.index + 1) asked.rest;
+            joined = append_assoc visited.before (asked.index ∷ []) (mine owner (asked.index + 1) asked.rest) ∙ joined;
+            calls = folds_more (λ p x q. step p x Continue q) first now next visited.before asked.index visited.calls
+                (subst (λ i. step now i Continue next) there called);
+            number = length-append visited.before (asked.index ∷ []) ∙ ap (λ n. n + 1) visited.number;
+            low = omega arith;
+          } in
+          subst (λ c. Further case (done + 1) (find_after c owner 1) next last) (sym asked.stands)
+          (goes_on case set is asked.rest more (find_comes_to (first_find capacity) (asked.index + 1) (done + 1)) asked.same long_rest
+          (finds_on set asked.rest (asked.index + 1) (done + 1) asked.rest_is (omega arith) refl))
+      -- a call that said Stop: the find has ended, with the indices that it came to
+      onward Stop next called =
+          subst (λ c. Further case (done + 1) (find_after c owner 0) next last) (sym asked.stands) (
+            record {
+              before = visited.before;
+              now = now;
+              calls = visited.calls;
+              ended = inr (
+                asked.index,
+                mine owner (asked.index + 1) asked.rest,
+                joined,
+                subst (λ i. step now i Stop next) there called,
+                ap (λ n. n + 1) (sym visited.number),
+              );
+            },
+            asked.same ∙ sym is,
+          )
+
+      -- after the closure was called at a question and the call was handed its answer as a number, the find is
+      -- under way, or has ended with what it says
+      pub further_so : (a : CallbackProgression) (next : F) → step now index a next → {answer : ℕ} → answer ≡ as_answer a
+          → {b : After Find ℕ} → b ≡ find_after asks owner answer → Further case (done + 1) b next last
+      further_so a next called {answer} said {b} goes =
+          subst (λ z. Further case (done + 1) z next last) (sym (goes ∙ ap (find_after asks owner) said)) (onward a next called)
 
 -- `TakesIndices` of one list is `TakesIndices` of an equal one
 pub takes_at : {F : Type 0} {pre : F → ℕ → Type 0} {step : F → ℕ → CallbackProgression → F → Type 0} {a b : List ℕ} {f : F}

@@ -40,7 +40,17 @@ module _ (owner : ℕ) where
       (ne_eqb c owner other))
       (eqb_tells c empty)
 
-module _ (capacity owner g : ℕ) (cells : List ℕ) (long : length cells ≡ capacity) (few : capacity < 2 ^ 32) (lives : owner < empty) where
+-- The words of a robust set of this capacity, a counter and its cells; the owner, whose indices are looked for, may have indices.
+pub record SetWords (capacity owner : ℕ) : Type 0 where
+  pub g : ℕ
+  pub cells : List ℕ
+  pub long : length cells ≡ capacity
+  pub few : capacity < 2 ^ 32
+  pub lives : owner < empty
+
+module _ {capacity owner : ℕ} (set : SetWords capacity owner) where
+  open set use {g, cells, long, few, lives}
+
   -- the find has stopped at a question about the first of the owner's indices that are left,
   -- and has changed no word
   pub record AsksAt (count : ℕ) (left : List ℕ) (question : Question (Unit {0})) (call : Find) (last : List ℕ) : Type 0 where
@@ -64,11 +74,11 @@ module _ (capacity owner g : ℕ) (cells : List ℕ) (long : length cells ≡ ca
 
   -- From this index on, with these cells left, the find stops at the owner's next index or at its end. The
   -- cases are whether a cell is left, and whether it has the owner.
-  pub finds_on : (rest : List ℕ) (index count : ℕ) (left : List ℕ) → drop index cells ≡ rest → count ≤ index → left ≡ mine owner index rest
+  pub finds_on : (rest : List ℕ) (index count : ℕ) {left : List ℕ} → drop index cells ≡ rest → count ≤ index → left ≡ mine owner index rest
       → WalksOn (λ c. find_want c) (λ c old. find_after c owner old) (suc (length rest)) (StopsAt count left)
       (find_comes_to (first_find capacity) index count) (g ∷ cells)
-  finds_on [] index count left dropped low all = grind (arith, past, by_test, find_want, find_after, nat_lt, nat_tests)
-  finds_on (c ∷ rest) index count left dropped low all =
+  finds_on [] index count {left} dropped low all = grind (arith, past, by_test, find_want, find_after, nat_lt, nat_tests, long)
+  finds_on (c ∷ rest) index count {left} dropped low all =
       let at = here cells index c rest dropped in
       let near = at.near in
       let word = next_cell g index cells ∙ at.word_is in
@@ -86,11 +96,11 @@ module _ (capacity owner g : ℕ) (cells : List ℕ) (long : length cells ≡ ca
         left_is = all ∙ hits owner index c rest lives (sym word ∙ e);
         rest_is = at.rest_is;
         low = low;
-        near = omega arith;
+        near = omega (arith, long);
         asks = refl;
-        stands = ap (λ n. at_find (first_find capacity) (finds.Asks index n)) (let more : one_more count ≡ count + 1 = omega arith in more);
+        stands = ap (λ n. at_find (first_find capacity) (finds.Asks index n)) (let more : one_more count ≡ count + 1 = omega (arith, long, few) in more);
         same = refl;
       })
       -- the cell has not the owner: the find goes on to the next one
-      (λ n. finds_on rest (index + 1) count left at.rest_is (omega arith) (all ∙ misses owner index c rest (λ e. n (word ∙ e)))))
-      (λ t. let far : capacity ≤ index = grind (arith, nat_tests) in absurd (omega arith))
+      (λ n. finds_on rest (index + 1) count at.rest_is (omega arith) (all ∙ misses owner index c rest (λ e. n (word ∙ e)))))
+      (λ t. let far : capacity ≤ index = grind (arith, nat_tests) in absurd (omega (arith, long)))

@@ -11,7 +11,7 @@ use Rattle.plain.specs.Alone.{BehavesAs}
 use Rattle.steps.specs.Objects.Owners.{opened_at, is_locked, raised, borrowed}
 use Rattle.plain.specs.Robust.{owner_in, owners_in, Represents}
 use Rattle.plain.proofs.Alone.{Runs}
-use Rattle.plain.proofs.Walks.{plus, plus_sum, Walks, OnEnd, part_walks, runs}
+use Rattle.plain.proofs.Walks.{plus, plus_sum, Walks, OnEnd, part_walks, runs, any_low}
 use Rattle.plain.proofs.Robust.Parts.{number, count_walks, next_there, next_small}
 
 module _ (capacity g : ℕ) (cells : List ℕ) (small : g < 2 ^ 64) (long : length cells ≡ capacity) (few : capacity < 2 ^ 32) where
@@ -24,9 +24,21 @@ module _ (capacity g : ℕ) (cells : List ℕ) (small : g < 2 ^ 64) (long : leng
       → Walks (λ (c : BorrowedIndices). borrowed_want c) (λ c old. borrowed_after c old)
       (plus (suc (suc (suc (length cells)))) 0) (OnEnd Counted) (first_borrowed capacity) (g ∷ cells)
   borrowed_walks some =
-      part_walks (λ c. borrowed_want c) (λ c old. borrowed_after c old) count_want (count_after capacity)
-      (λ count. record { capacity = capacity; count = count }) (borrowed_counted (first_borrowed capacity))
-      (λ d. refl) (λ d old. refl) (λ d. refl) (suc (suc (suc (length cells)))) 0 (OnEnd Counted) counts.LoadsCounter (g ∷ cells)
+      part_walks
+      (record {
+        want = λ c. borrowed_want c;
+        after = λ c old. borrowed_after c old;
+        part_want = count_want;
+        part_after = count_after capacity;
+        within = λ count. record { capacity = capacity; count = count };
+        lift = borrowed_counted (first_borrowed capacity);
+        Low = λ d. Unit {0};
+        low_on = λ d old low. any_low ((count_after capacity) d old);
+        wants_so = λ d. refl;
+        goes_so = λ d old low. refl;
+        lifts = λ d. refl;
+      })
+      (suc (suc (suc (length cells)))) 0 (OnEnd Counted) counts.LoadsCounter (g ∷ cells) tt
       (count_walks capacity g cells small long few _
       -- the set is locked: the count answers 0, and the generation stays
       (λ e. (
@@ -46,8 +58,7 @@ module _ (capacity g : ℕ) (cells : List ℕ) (small : g < 2 ^ 64) (long : leng
       → Runs (λ (c : BorrowedIndices) (given : Unit {0}). borrowed_want c) (λ c given old. borrowed_after c old)
       (λ c (room : Unit {0}) old. room) tt (λ e room ws. Counted e ws) (first_borrowed capacity) tt (g ∷ cells)
   borrowed_runs some =
-      runs (λ (c : BorrowedIndices) (given : Unit {0}). borrowed_want c) (λ c given old. borrowed_after c old) tt
-      (plus (suc (suc (suc (length cells)))) 0) Counted (first_borrowed capacity) (g ∷ cells)
+      runs (plus (suc (suc (suc (length cells)))) 0) Counted
       (omega (arith, plus_sum (suc (suc (suc (length cells)))) 0)) (borrowed_walks some)
 
   -- the look has answered whether the set is locked, and has changed nothing

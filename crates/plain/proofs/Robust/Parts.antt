@@ -15,7 +15,7 @@ use Rattle.steps.specs.declared.indices.robust.parts.Counted.TheVariants as ends
 use Rattle.steps.specs.declared.indices.robust.parts.Lock.TheVariants as locks
 use Rattle.steps.specs.Objects.Owners.{next_generation, taken_from}
 use Rattle.plain.specs.Robust.{owner_in}
-use Rattle.plain.proofs.Walks.{plus, Walks, WalksOn, OnEnd, part_walks}
+use Rattle.plain.proofs.Walks.{plus, Walks, WalksOn, OnEnd, part_walks, any_low}
 
 -- ---- a place in the cells, with what stands from there on
 
@@ -34,6 +34,11 @@ head_or d (x ∷ xs) = x
 abbrev pub tail_of : List ℕ → List ℕ
 tail_of [] = []
 tail_of (x ∷ xs) = xs
+
+-- a list of 1 + n words is its first word and the rest
+pub split : (n : ℕ) {ws : List ℕ} → length ws ≡ 1 + n → ws ≡ head_or 0 ws ∷ tail_of ws
+split n {ws = []} long = let e : 0 ≡ 1 + n = long in absurd (omega arith)
+split n {ws = w ∷ ws} long = refl
 
 -- a list of cells that goes on with this word from this index has a cell there
 pub here : (cells : List ℕ) (index word : ℕ) (rest : List ℕ) → drop index cells ≡ word ∷ rest
@@ -188,8 +193,21 @@ module _ (capacity g : ℕ) (cells : List ℕ) (small : g < 2 ^ 64) (long : leng
       let as_locked : (locking g cells) ≡ locked → P Locked (locked ∷ cells) =
       λ e. subst (λ s. P s (locked ∷ cells)) (ap (λ b. if b then Locked else Unlocked) (eq-eqb locked locked refl)) (at locked e) in
       -- the lock counts the cells with an owner first
-      part_walks lock_want (lock_after capacity) count_want (count_after capacity) locks.Counts lock_counted
-      (λ d. refl) (λ d old. refl) (λ d. refl) (suc (suc (suc (length cells)))) 1 (OnEnd P) counts.LoadsCounter (g ∷ cells)
+      part_walks
+      (record {
+        want = lock_want;
+        after = lock_after capacity;
+        part_want = count_want;
+        part_after = count_after capacity;
+        within = locks.Counts;
+        lift = lock_counted;
+        Low = λ d. Unit {0};
+        low_on = λ d old low. any_low ((count_after capacity) d old);
+        wants_so = λ d. refl;
+        goes_so = λ d old low. refl;
+        lifts = λ d. refl;
+      })
+      (suc (suc (suc (length cells)))) 1 (OnEnd P) counts.LoadsCounter (g ∷ cells) tt
       (count_walks _
       -- the count finds the set locked: the counter stays
       (λ e. let same = next_there g (omega arith) in

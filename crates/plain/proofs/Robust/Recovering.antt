@@ -22,7 +22,7 @@ use Rattle.plain.specs.Callable as said
 use Rattle.plain.specs.Robust.{owner_in, owners_in, Represents}
 use Rattle.plain.proofs.Alone.{Halts, can_stop, stops_so}
 use Rattle.plain.proofs.Walks.{plus, plus_sum, Walks, WalksOn, halts}
-use Rattle.plain.proofs.Robust.Parts.{number, locking, next_below, next_there, next_small}
+use Rattle.plain.proofs.Robust.Parts.{head_or, tail_of, split, number, locking, next_below, next_there, next_small}
 use Rattle.plain.proofs.Robust.Releases.{counter_then, counter_small, given_back_is}
 use Rattle.plain.proofs.Robust.Finding.{folds_more}
 use Rattle.plain.proofs.Robust.Recovers.{AsksAt, StopsAt, recovers_on, frees_on, rounds}
@@ -110,19 +110,32 @@ agreed_no xs o = agreed_more xs (an_answer o false ∷ []) ∙ append-nil (agree
 pub agreed_yes : (xs : List Asked) (o : Owned) → agreed (xs ++ an_answer o true ∷ []) ≡ agreed xs ++ o ∷ []
 agreed_yes xs o = agreed_more xs (an_answer o true ∷ [])
 
-module _ {F S : Type 0} (step : F → ℕ → ℕ → Bool → F → Type 0) (tell : S → ℕ → ℕ → S → Type 0) (mode : ReleaseMode)
-    (f : F) (s : S) (capacity : ℕ) (first : List ℕ) where
+-- A recovery with its two closures: the mode, the capacity and the words of the set, and the closures.
+pub record RecoverCase (F S : Type 0) : Type 1 where
+  pub mode : ReleaseMode
+  pub capacity : ℕ
+  pub words : List ℕ
+  -- what a question about an owner and its index makes of the closure that answers, and that closure at first
+  pub step : F → ℕ → ℕ → Bool → F → Type 0
+  pub answering : F
+  -- what a call about an owner and its index makes of the closure that is told, and that closure at first
+  pub tell : S → ℕ → ℕ → S → Type 0
+  pub hearing : S
+
+-- what the recovery asks for next, which does not depend on the mode
+abbrev want : Recover → ReleaseMode → Want (Unit {0})
+want c given = recover_want c
+
+-- a recovery of a robust set keeps nothing in a room
+abbrev kept : Recover → Unit {0} → ℕ → Unit {0}
+kept c room _ = room
+
+module _ {F S : Type 0} (case : RecoverCase F S) where
+  open case use {mode, capacity, words as first, step, answering, tell, hearing}
+
   -- the map before the recovery
   abbrev old : Owners
   old = owners_in first
-
-  -- what the recovery asks for next, which does not depend on the mode
-  abbrev want : Recover → ReleaseMode → Want (Unit {0})
-  want c given = recover_want c
-
-  -- a recovery of a robust set keeps nothing in a room
-  abbrev kept : Recover → Unit {0} → ℕ → Unit {0}
-  kept c room _ = room
 
   -- The recovery is under way: one closure has answered the questions of `asked`, the other was told of those
   -- of a yes, and the questions of `left` are left. Where the call stops next, the words are g and cells: the
@@ -137,8 +150,8 @@ module _ {F S : Type 0} (step : F → ℕ → ℕ → Bool → F → Type 0) (te
     pub left : List Owned
     pub joined : said.questions asked ++ left ≡ to_recover old
     -- the answers of the first closure, what the other was told, and the map, without the indices of a yes
-    pub answers : FoldsTo (asks step) f asked p
-    pub told : FoldsTo (tells tell) s (agreed asked) q
+    pub answers : FoldsTo (asks step) answering asked p
+    pub told : FoldsTo (tells tell) hearing (agreed asked) q
     pub map_is : owners_in (g ∷ cells) ≡ recovered mode old (agreed asked)
     -- nothing is left once the set is locked
     pub shut : g ≡ locked → left ≡ []
@@ -151,28 +164,37 @@ module _ {F S : Type 0} (step : F → ℕ → ℕ → Bool → F → Type 0) (te
   pub record Gone (state : ReleaseState) (p : F) (q : S) (last : List ℕ) : Type 0 where
     pub fits : Represents capacity last
     pub state_is : state ≡ state_of (owners_in last)
-    pub calls : HasRecovered step tell mode old (owners_in last) f s p q
+    pub calls : HasRecovered step tell mode old (owners_in last) answering hearing p q
 
-  module _ (done : ℕ) (call : Recover) (p : F) (q : S) (words : List ℕ) (so_far : Recovering done call p q words) where
-    -- a recovery under way can stop
-    pub can_go : CanStop want recover_after kept mode call tt words
-    can_go = can_stop want recover_after kept mode _ call tt words so_far.run
+  -- what an answer has led to: the recovery is under way; it does not end before a further step
+  abbrev pub Onward : ℕ → F → S → After Recover ReleaseState → List ℕ → Type 0
+  Onward done p q (GoOn next) words = Recovering done next p q words
+  Onward done p q (Done state) words = ⊥
 
-    -- a recovery under way that a driver has brought to its end has done all that it says
-    pub ended_so : (state : ReleaseState) (r : Unit {0}) (last : List ℕ)
-        → StopsAlike want recover_after kept mode call tt words (stops.Ended state) r last → Gone state p q last
-    ended_so = grind (arith, stops_so, append-nil)
+-- A recovery that a driver holds: `done` questions are answered, and the closures are `p` and `q` as these have left them.
+module _ {F S : Type 0} {case : RecoverCase F S} {done : ℕ} {call : Recover} {p : F} {q : S} {words : List ℕ}
+    (so_far : Recovering case done call p q words) where
+  open case use {mode, capacity, words as first, step, answering, tell, hearing}
 
-    -- a recovery under way that a driver has brought to a question asks about the first index that is left
-    pub asks_so : (question : Question (Unit {0})) (put : Recover) (r : Unit {0}) (last : List ℕ)
-        → StopsAlike want recover_after kept mode call tt words (stops.Asked question put) r last
-        → AsksAt capacity so_far.g so_far.cells so_far.left question put last
-    asks_so = grind (arith, stops_so)
+  -- a recovery under way can stop
+  pub can_go : CanStop want recover_after kept mode call tt words
+  can_go = can_stop so_far.run
+
+  -- a recovery under way that a driver has brought to its end has done all that it says
+  pub ended_so : {state : ReleaseState} {r : Unit {0}} {last : List ℕ}
+      → StopsAlike want recover_after kept mode call tt words (stops.Ended state) r last → Gone case state p q last
+  ended_so = grind (arith, stops_so, append-nil)
+
+  -- a recovery under way that a driver has brought to a question asks about the first index that is left
+  pub asks_so : {question : Question (Unit {0})} {put : Recover} {r : Unit {0}} {last : List ℕ}
+      → StopsAlike want recover_after kept mode call tt words (stops.Asked question put) r last
+      → AsksAt capacity so_far.g so_far.cells so_far.left question put last
+  asks_so alike = stops_so so_far.run alike
 
   -- ---- at a question
 
-  module _ (done : ℕ) (call : Recover) (p : F) (q : S) (words : List ℕ) (so_far : Recovering done call p q words)
-      (question : Question (Unit {0})) (put : Recover) (last : List ℕ) (stopped : AsksAt capacity so_far.g so_far.cells so_far.left question put last) where
+  module _ {question : Question (Unit {0})} {put : Recover} {last : List ℕ}
+      (stopped : AsksAt capacity so_far.g so_far.cells so_far.left question put last) where
     -- the index that the question is about, with its owner
     abbrev it : Owned
     it = record { owner = stopped.owner; index = stopped.index }
@@ -186,11 +208,11 @@ module _ {F S : Type 0} (step : F → ℕ → ℕ → Bool → F → Type 0) (te
     long = let e : suc (length so_far.cells) ≡ 1 + capacity = so_far.fits.long in omega arith
 
     -- the questions so far, this one and those left are all there is to recover
-    asked_so : said.questions so_far.asked ++ it ∷ left_then ≡ to_recover old
+    asked_so : said.questions so_far.asked ++ it ∷ left_then ≡ to_recover (old case)
     asked_so = ap (λ l. said.questions so_far.asked ++ l) (sym stopped.left_is) ∙ so_far.joined
 
     -- the questions with this one answered and those left are all there is to recover
-    joined_then : (b : Bool) → said.questions (so_far.asked ++ an_answer it b ∷ []) ++ left_then ≡ to_recover old
+    joined_then : (b : Bool) → said.questions (so_far.asked ++ an_answer it b ∷ []) ++ left_then ≡ to_recover (old case)
     joined_then = grind (arith, questions_more, append_assoc, asked_so)
 
     -- one question more is answered
@@ -207,7 +229,7 @@ module _ {F S : Type 0} (step : F → ℕ → ℕ → Bool → F → Type 0) (te
 
     -- after a no the recovery is under way with one question more, and no cell is emptied
     on_no : (p₂ : F) → step p stopped.owner stopped.index false p₂
-        → Recovering (done + 1)
+        → Recovering case (done + 1)
         (at_recover (first_recover capacity)
         (if nat_lt (stopped.index + 1) capacity then recovers.LoadsCell (stopped.index + 1) else
         recovers.LoadsCounterAgain))
@@ -223,10 +245,10 @@ module _ {F S : Type 0} (step : F → ℕ → ℕ → Bool → F → Type 0) (te
           -- the question that was answered is behind those before it, and those behind it are left
           left = left_then;
           joined = joined_then false;
-          answers = folds_more (asks step) f p p₂ so_far.asked (an_answer it false) so_far.answers called;
+          answers = folds_more (asks step) answering p p₂ so_far.asked (an_answer it false) so_far.answers called;
           -- a no gives nothing back: the other closure was told of nothing more, and the map stays
-          told = subst (λ l. FoldsTo (tells tell) s l q) (sym (agreed_no so_far.asked it)) so_far.told;
-          map_is = so_far.map_is ∙ ap (recovered mode old) (sym (agreed_no so_far.asked it));
+          told = subst (λ l. FoldsTo (tells tell) hearing l q) (sym (agreed_no so_far.asked it)) so_far.told;
+          map_is = so_far.map_is ∙ ap (recovered mode (old case)) (sym (agreed_no so_far.asked it));
           shut = λ e. absurd (opens e);
           number = number_then false;
           -- the recovery goes on to the next question or to its end, over the same words
@@ -237,12 +259,8 @@ module _ {F S : Type 0} (step : F → ℕ → ℕ → Bool → F → Type 0) (te
               recovers.LoadsCounterAgain))
               tt ws)
               (sym stopped.same)
-              (halts want recover_after mode (suc (suc (length stopped.rest))) (StopsAt capacity so_far.g so_far.cells left_then)
-              (at_recover (first_recover capacity)
-              (if nat_lt (stopped.index + 1) capacity then recovers.LoadsCell (stopped.index + 1) else
-              recovers.LoadsCounterAgain))
-              (so_far.g ∷ so_far.cells) (omega arith)
-              (recovers_on capacity mode so_far.g so_far.cells long stopped.rest (stopped.index + 1) left_then stopped.rest_is refl));
+              (halts (suc (suc (length stopped.rest))) (StopsAt capacity so_far.g so_far.cells left_then) (omega arith)
+              (recovers_on capacity mode so_far.g so_far.cells long stopped.rest (stopped.index + 1) stopped.rest_is refl));
         }
 
     -- the cells with this one emptied
@@ -256,7 +274,7 @@ module _ {F S : Type 0} (step : F → ℕ → ℕ → Bool → F → Type 0) (te
     -- after a yes, of which the other closure was told, the recovery is under way with one question more, and
     -- goes on to empty the cell
     on_yes : (p₂ : F) (q₂ : S) → step p stopped.owner stopped.index true p₂ → tell q stopped.owner stopped.index q₂
-        → Recovering (done + 1) (at_recover (first_recover capacity) (recovers.EmptiesCell stopped.index stopped.owner)) p₂ q₂ last
+        → Recovering case (done + 1) (at_recover (first_recover capacity) (recovers.EmptiesCell stopped.index stopped.owner)) p₂ q₂ last
     on_yes p₂ q₂ called heard =
         let size = short in
         let few = so_far.fits.few in
@@ -269,14 +287,14 @@ module _ {F S : Type 0} (step : F → ℕ → ℕ → Bool → F → Type 0) (te
           asked = so_far.asked ++ an_answer it true ∷ [];
           left = left_then;
           joined = joined_then true;
-          answers = folds_more (asks step) f p p₂ so_far.asked (an_answer it true) so_far.answers called;
+          answers = folds_more (asks step) answering p p₂ so_far.asked (an_answer it true) so_far.answers called;
           -- the other closure was told of one index more, and the map is without that index
-          told = subst (λ l. FoldsTo (tells tell) s l q₂) (sym (agreed_yes so_far.asked it))
-              (folds_more (tells tell) s q q₂ (agreed so_far.asked) it so_far.told heard);
+          told = subst (λ l. FoldsTo (tells tell) hearing l q₂) (sym (agreed_yes so_far.asked it))
+              (folds_more (tells tell) hearing q q₂ (agreed so_far.asked) it so_far.told heard);
           map_is = sym (given_back_is mode so_far.g so_far.cells stopped.index)
               ∙ (ap (λ m. given_back mode m stopped.index) so_far.map_is
-              ∙ (sym (fold-append (λ m (o : Owned). given_back mode m o.index) old (agreed so_far.asked) (it ∷ []))
-              ∙ ap (recovered mode old) (sym (agreed_yes so_far.asked it))));
+              ∙ (sym (fold-append (λ m (o : Owned). given_back mode m o.index) (old case) (agreed so_far.asked) (it ∷ []))
+              ∙ ap (recovered mode (old case)) (sym (agreed_yes so_far.asked it))));
           -- where giving the index back locks the set, no other cell has an owner, so nothing is left to ask
           shut =
               λ e. ap (λ r. taken_from (stopped.index + 1) (map owner_in r))
@@ -290,19 +308,16 @@ module _ {F S : Type 0} (step : F → ℕ → ℕ → Bool → F → Type 0) (te
               (λ s room vs. StopsAt capacity (counter_then mode so_far.g emptied) emptied left_then s vs)
               (at_recover (first_recover capacity) (recovers.EmptiesCell stopped.index stopped.owner)) tt ws)
               (sym stopped.same)
-              (halts want recover_after mode
-              (suc (suc (suc (rounds capacity so_far.g so_far.cells so_far.fits.small long so_far.fits.few opens stopped.index stopped.rest stopped.rest_is))))
+              (halts
+              (suc (suc (suc (rounds so_far.cells so_far.fits.small long so_far.fits.few opens stopped.index stopped.rest_is))))
               (StopsAt capacity (counter_then mode so_far.g emptied) emptied left_then)
-              (at_recover (first_recover capacity) (recovers.EmptiesCell stopped.index stopped.owner))
-              (so_far.g ∷ so_far.cells)
               (omega (
                 arith,
                 plus_sum (plus (suc (suc (suc (length emptied)))) 1) (suc (suc (length stopped.rest))),
                 plus_sum
                     (suc (suc (suc (length emptied)))) 1,
               ))
-              (frees_on capacity so_far.g so_far.cells so_far.fits.small long so_far.fits.few opens stopped.index stopped.rest stopped.rest_is mode
-              stopped.owner stopped.word_is));
+              (frees_on so_far.cells so_far.fits.small long so_far.fits.few opens stopped.index stopped.rest_is mode stopped.word_is));
         }
 
     -- ---- as the question was matched
@@ -327,7 +342,7 @@ module _ {F S : Type 0} (step : F → ℕ → ℕ → Bool → F → Type 0) (te
     pub no_value : (index : ℕ) (unit : Unit {0}) → question ≡ questions.Value index unit → ⊥
     no_value index unit asks = subst is_owned (sym stopped.asks ∙ asks) tt
 
-    module _ (owner index : ℕ) (is : question ≡ questions.Owned owner index) where
+    module _ {owner index : ℕ} (is : question ≡ questions.Owned owner index) where
       -- the owner of the question is the one at which the recovery stopped
       owner_is : owner ≡ stopped.owner
       owner_is = ap owner_of (sym is ∙ stopped.asks)
@@ -337,13 +352,13 @@ module _ {F S : Type 0} (step : F → ℕ → ℕ → Bool → F → Type 0) (te
       index_is = ap index_in (sym is ∙ stopped.asks)
 
       -- the closure may be asked about the question's owner and index
-      pub may_ask : {pre : F → ℕ → ℕ → Type 0} → TakesQuestions pre step (to_recover old) f → pre p owner index
+      pub may_ask : {pre : F → ℕ → ℕ → Type 0} → TakesQuestions pre step (to_recover (old case)) answering → pre p owner index
       may_ask {pre} may =
           subst (λ (z : ℕ × ℕ). pre p z.0 z.1) (λ i. (sym owner_is i, sym index_is i))
           (may.at so_far.asked p it left_then so_far.answers asked_so)
 
       -- after a yes the other closure may be told of the question's owner and index
-      pub may_tell : {pre : S → ℕ → ℕ → Type 0} → TakesFreed step pre tell (to_recover old) f s → (p₂ : F) (b : Bool)
+      pub may_tell : {pre : S → ℕ → ℕ → Type 0} → TakesFreed step pre tell (to_recover (old case)) answering hearing → (p₂ : F) (b : Bool)
           → step p owner index b p₂ → IsTrue b → pre q owner index
       may_tell {pre} may p₂ true called agrees =
           subst (λ (z : ℕ × ℕ). pre q z.0 z.1) (λ i. (sym owner_is i, sym index_is i))
@@ -351,88 +366,93 @@ module _ {F S : Type 0} (step : F → ℕ → ℕ → Bool → F → Type 0) (te
           asked_so so_far.told)
       may_tell {pre} may p₂ false called agrees = absurd (subst holds_none agrees tt)
 
-      -- what an answer has led to: the recovery is under way with one question more; it does not end
-      -- before a further step
-      abbrev pub Onward : F → S → After Recover ReleaseState → Type 0
-      Onward p₂ q₂ (GoOn next) = Recovering (done + 1) next p₂ q₂ last
-      Onward p₂ q₂ (Done state) = ⊥
-
       -- after the question was answered, and the other closure told of a yes, the recovery is under way
       onward : (b : Bool) (p₂ : F) (q₂ : S) → step p owner index b p₂ → (IsTrue b → tell q owner index q₂) → (IsFalse b → q₂ ≡ q)
-          → Onward p₂ q₂ (recover_after put mode (if b then 1 else 0))
+          → Onward case (done + 1) p₂ q₂ (recover_after put mode (if b then 1 else 0)) last
       onward = grind (arith, on_yes, owner_is, index_is, on_no)
+
+      -- what the closures made of the question: one answered, and the other was told of a yes
+      pub record IsAnswered (agrees : Bool) (p₂ : F) (q₂ : S) : Type 0 where
+        pub called : step p owner index agrees p₂
+        pub told : IsTrue agrees → tell q owner index q₂
+        pub passed : IsFalse agrees → q₂ ≡ q
 
       -- after the question was answered and the call was handed the answer as a number, the
       -- recovery is under way
-      pub onward_so : (agrees : Bool) (p₂ : F) (q₂ : S) → step p owner index agrees p₂ → (IsTrue agrees → tell q owner index q₂) → (IsFalse agrees → q₂ ≡ q)
-          → (answer : ℕ) → answer ≡ (if agrees then 1 else 0) → (b : After Recover ReleaseState) → b ≡ recover_after put mode answer → Onward p₂ q₂ b
-      onward_so = grind (arith, onward)
+      pub onward_so : (agrees : Bool) (p₂ : F) (q₂ : S) → IsAnswered agrees p₂ q₂ → {answer : ℕ} → answer ≡ (if agrees then 1 else 0)
+          → {b : After Recover ReleaseState} → b ≡ recover_after put mode answer → Onward case (done + 1) p₂ q₂ b last
+      onward_so agrees p₂ q₂ answered {answer} answer_is {b} goes =
+          subst (λ z. Onward case (done + 1) p₂ q₂ z last) (sym (goes ∙ ap (recover_after put mode) answer_is))
+          (onward agrees p₂ q₂ answered.called answered.told answered.passed)
 
 -- ---- as it begins
 
-module _ {F S : Type 0} (step : F → ℕ → ℕ → Bool → F → Type 0) (tell : S → ℕ → ℕ → S → Type 0) (mode : ReleaseMode)
-    (f : F) (s : S) (capacity : ℕ) where
-  -- from its begin the recovery stops at the first taken index, or at its end
-  begin_walk : (g : ℕ) (cells : List ℕ) → length cells ≡ capacity
-      → Walks (λ c. recover_want c) (λ c old. recover_after c mode old) (suc (suc (suc (length cells))))
-      (StopsAt capacity g cells (to_recover (owners_in (g ∷ cells)))) (first_recover capacity) (g ∷ cells)
-  begin_walk g cells long =
-      by_eq (λ a. WalksOn (λ c. recover_want c) (λ c old. recover_after c mode old) (suc (suc (length cells)))
-      (StopsAt capacity g cells (to_recover (owners_in (g ∷ cells)))) a (g ∷ cells))
-      g locked _ _
-      (λ e. (
-        ap (λ b. if b then [] else taken (owners_in (g ∷ cells))) (eq-eqb g locked e),
-        sym (ap (λ b. if b then Locked else Unlocked) (eq-eqb g locked e)),
-        refl,
-      ))
-      (λ other. recovers_on capacity mode g cells long cells 0 (to_recover (owners_in (g ∷ cells))) refl
-      (ap (λ b. if b then [] else taken (owners_in (g ∷ cells))) (ne_eqb g locked other)))
+-- from its begin the recovery stops at the first taken index, or at its end
+begin_walk : (mode : ReleaseMode) (capacity g : ℕ) (cells : List ℕ) → length cells ≡ capacity
+    → Walks (λ c. recover_want c) (λ c old. recover_after c mode old) (suc (suc (suc (length cells))))
+    (StopsAt capacity g cells (to_recover (owners_in (g ∷ cells)))) (first_recover capacity) (g ∷ cells)
+begin_walk mode capacity g cells long =
+    by_eq (λ a. WalksOn (λ c. recover_want c) (λ c old. recover_after c mode old) (suc (suc (length cells)))
+    (StopsAt capacity g cells (to_recover (owners_in (g ∷ cells)))) a (g ∷ cells))
+    g locked _ _
+    (λ e. (
+      ap (λ b. if b then [] else taken (owners_in (g ∷ cells))) (eq-eqb g locked e),
+      sym (ap (λ b. if b then Locked else Unlocked) (eq-eqb g locked e)),
+      refl,
+    ))
+    (λ other. recovers_on capacity mode g cells long cells 0 refl
+    (ap (λ b. if b then [] else taken (owners_in (g ∷ cells))) (ne_eqb g locked other)))
+
+-- there are no more questions than cells
+asks_few : (capacity : ℕ) (words : List ℕ) → Represents capacity words → length (to_recover (owners_in words)) ≤ capacity
+asks_few capacity [] fits = let e : 0 ≡ 1 + capacity = fits.long in absurd (omega arith)
+asks_few capacity (g ∷ cells) fits =
+    let e : suc (length cells) ≡ 1 + capacity = fits.long in
+    by_test (λ l. length l ≤ capacity) (g == locked) [] (taken (owners_in (g ∷ cells)))
+    (λ _. omega arith)
+    (λ _. omega (arith, taken_most 0 (map owner_in cells), length-map cells owner_in))
+
+module _ {F S : Type 0} (case : RecoverCase F S) where
+  open case use {mode, capacity, words, answering, hearing}
 
   -- a recovery that begins has asked nothing yet
-  pub starts : (first : List ℕ) (call : Recover) → call ≡ first_recover capacity → Represents capacity first
-      → Recovering step tell mode f s capacity first 0 call f s first
-  starts [] call at_first fits = let e : 0 ≡ 1 + capacity = fits.long in absurd (omega arith)
-  starts (g ∷ cells) call at_first fits =
-      let long : length cells ≡ capacity = let e : suc (length cells) ≡ 1 + capacity = fits.long in omega arith in
+  pub starts : (call : Recover) → call ≡ first_recover capacity → Represents capacity words → Recovering case 0 call answering hearing words
+  starts call at_first fits =
       let few = fits.few in
+      let front : words ≡ head_or 0 words ∷ tail_of words = split capacity fits.long in
+      let g : ℕ = head_or 0 words in
+      let cells : List ℕ = tail_of words in
+      let long : length cells ≡ capacity = (let e : suc (length cells) ≡ 1 + capacity = sym (ap length front) ∙ fits.long in omega arith) in
       record {
         g = g;
         cells = cells;
-        fits = fits;
+        fits = subst (Represents capacity) front fits;
         asked = [];
         left = to_recover (owners_in (g ∷ cells));
-        joined = refl;
+        joined = ap (λ ws. to_recover (owners_in ws)) (sym front);
         answers = refl;
         told = refl;
-        map_is = refl;
+        map_is = ap owners_in (sym front);
         shut = λ e. ap (λ b. if b then [] else taken (owners_in (g ∷ cells))) (eq-eqb g locked e);
         number = refl;
         -- the call halts at the first filled cell, or at its end
         run =
-            subst (λ c. Halts (λ c (given : ReleaseMode). recover_want c) recover_after (λ c (room : Unit {0}) old. room) mode
-            (λ s room vs. StopsAt capacity g cells (to_recover (owners_in (g ∷ cells))) s vs) c tt (g ∷ cells))
-            (sym at_first)
-            (halts (λ c (given : ReleaseMode). recover_want c) recover_after mode (suc (suc (suc (length cells))))
-            (StopsAt capacity g cells (to_recover (owners_in (g ∷ cells)))) (first_recover capacity) (g ∷ cells)
-            (omega arith) (begin_walk g cells long));
+            subst (λ (z : Recover × List ℕ). Halts want recover_after kept mode
+            (λ s room vs. StopsAt capacity g cells (to_recover (owners_in (g ∷ cells))) s vs) z.0 tt z.1)
+            (λ i. (sym at_first i, sym front i))
+            (halts (suc (suc (suc (length cells)))) (StopsAt capacity g cells (to_recover (owners_in (g ∷ cells)))) (omega arith)
+            (begin_walk mode capacity g cells long));
       }
 
 -- a recovery asks fewer questions than a driver counts
-pub few_rounds : {F S : Type 0} (step : F → ℕ → ℕ → Bool → F → Type 0) (tell : S → ℕ → ℕ → S → Type 0) (mode : ReleaseMode)
-    (f : F) (s : S) (capacity : ℕ) (first : List ℕ) → Represents capacity first → (done : ℕ) (call : Recover) (p : F) (q : S) (words : List ℕ)
-    → Recovering step tell mode f s capacity first done call p q words → done < 2 ^ 64 - 1
-few_rounds step tell mode f s capacity [] fits done call p q words recovering = let e : 0 ≡ 1 + capacity = fits.long in absurd (omega arith)
-few_rounds step tell mode f s capacity (g ∷ cells) fits done call p q words recovering =
-    let e : suc (length cells) ≡ 1 + capacity = fits.long in
+pub few_rounds : {F S : Type 0} {case : RecoverCase F S} {done : ℕ} {call : Recover} {p : F} {q : S} {words : List ℕ}
+    → Represents case.capacity case.words → Recovering case done call p q words → done < 2 ^ 64 - 1
+few_rounds {F} {S} {case} {done} fits recovering =
     let few = fits.few in
-    let all : length (said.questions recovering.asked) + length recovering.left ≡ length (to_recover (owners_in (g ∷ cells))) =
+    let all : length (said.questions recovering.asked) + length recovering.left ≡ length (to_recover (owners_in case.words)) =
     sym (length-append (said.questions recovering.asked) recovering.left) ∙ ap length recovering.joined in
     let number : length (said.questions recovering.asked) ≡ done = length-map recovering.asked (λ (a : Asked). a.of) ∙ recovering.number in
-    let most : length (to_recover (owners_in (g ∷ cells))) ≤ length cells =
-    by_test (λ l. length l ≤ length cells) (g == locked) [] (taken (owners_in (g ∷ cells)))
-    (λ _. omega arith)
-    (λ _. omega (arith, taken_most 0 (map owner_in cells), length-map cells owner_in)) in
-    omega arith
+    omega (arith, asks_few case.capacity case.words fits)
 
 -- `TakesQuestions` of one list is `TakesQuestions` of an equal one
 pub questions_at : {F : Type 0} {pre : F → ℕ → ℕ → Type 0} {step : F → ℕ → ℕ → Bool → F → Type 0} {a b : List Owned} {f : F}

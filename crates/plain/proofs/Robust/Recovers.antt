@@ -14,7 +14,7 @@ use Rattle.steps.specs.Objects.Owners.{Owned, taken_from, next_generation}
 use Rattle.plain.specs.declared.drive.Stop.{Stop}
 use Rattle.plain.specs.declared.drive.Stop.TheVariants.{Asked, Ended}
 use Rattle.plain.specs.Robust.{owner_in}
-use Rattle.plain.proofs.Walks.{plus, Walks, WalksOn, goes_longer, part_walks}
+use Rattle.plain.proofs.Walks.{plus, Walks, WalksOn, goes_longer, part_walks, any_low}
 use Rattle.plain.proofs.Robust.Parts.{here, past, next_cell, next_set, next_small, owner_free, owner_some, raise_walks, lock_walks, locking, state_number}
 use Rattle.plain.proofs.Robust.Releases.{counter_then}
 
@@ -54,12 +54,12 @@ module _ (capacity : ℕ) (mode : ReleaseMode) where
 
   -- From this index on, with these cells left, the recovery stops at the next index that has an owner, or at
   -- its end. The cases are whether a cell is left, and whether it is empty.
-  pub recovers_on : (g : ℕ) (cells : List ℕ) → length cells ≡ capacity → (rest : List ℕ) (index : ℕ) (left : List Owned)
+  pub recovers_on : (g : ℕ) (cells : List ℕ) → length cells ≡ capacity → (rest : List ℕ) (index : ℕ) {left : List Owned}
       → drop index cells ≡ rest → left ≡ taken_from index (map owner_in rest)
       → WalksOn want after (suc (suc (length rest))) (StopsAt capacity g cells left) (recover_comes_to first index) (g ∷ cells)
-  recovers_on g cells long [] index left dropped all = grind (arith, past, by_test, at_recover, nat_lt, nat_tests)
+  recovers_on g cells long [] index {left} dropped all = grind (arith, past, by_test, at_recover, nat_lt, nat_tests)
   -- a cell is left: the recovery loads it
-  recovers_on g cells long (c ∷ rest) index left dropped all =
+  recovers_on g cells long (c ∷ rest) index {left} dropped all =
       let at = here cells index c rest dropped in
       let near = at.near in
       let word = next_cell g index cells ∙ at.word_is in
@@ -69,7 +69,7 @@ module _ (capacity : ℕ) (mode : ReleaseMode) where
       (λ _. by_eq (λ a. WalksOn want after (suc (suc (length rest))) (StopsAt capacity g cells left) a (g ∷ cells))
       (slice_index (g ∷ cells) (cell_word index)) empty _ _
       -- the cell is empty: the recovery goes on to the next one
-      (λ e. recovers_on g cells long rest (index + 1) left at.rest_is
+      (λ e. recovers_on g cells long rest (index + 1) at.rest_is
       (all ∙ ap (λ o. taken_from index (o ∷ map owner_in rest)) (owner_free c (sym word ∙ e))))
       -- the cell has an owner: the recovery asks about it
       (λ n. record {
@@ -89,8 +89,9 @@ module _ (capacity : ℕ) (mode : ReleaseMode) where
 
 -- ---- an index is given back
 
-module _ (capacity g : ℕ) (cells : List ℕ) (small : g < 2 ^ 64) (long : length cells ≡ capacity) (few : capacity < 2 ^ 32) (opens : g ≢ locked)
-    (index : ℕ) (rest : List ℕ) (rest_is : drop (index + 1) cells ≡ rest) where
+-- The words are a counter of 64 bits that is not locked, and as many cells as the capacity; `rest` are the cells behind the index.
+module _ {capacity g : ℕ} (cells : List ℕ) (small : g < 2 ^ 64) (long : length cells ≡ capacity) (few : capacity < 2 ^ 32) (opens : g ≢ locked)
+    (index : ℕ) {rest : List ℕ} (rest_is : drop (index + 1) cells ≡ rest) where
   -- the cells with this one emptied
   abbrev pub emptied : List ℕ
   emptied = slice_set cells index empty
@@ -132,10 +133,21 @@ module _ (capacity g : ℕ) (cells : List ℕ) (small : g < 2 ^ 64) (long : leng
   locks_on : (counter : ℕ) → counter < 2 ^ 64
       → RecoveryStops LockIfLastIndex rounds (locking counter emptied) (at (recovers.Locks index first_lock)) (counter ∷ emptied)
   locks_on counter low =
-      part_walks (λ c. recover_want c) (λ c old. recover_after c LockIfLastIndex old) lock_want (lock_after capacity)
-      (λ l. at (recovers.Locks index l)) (recover_locked (first_recover capacity) index)
-      (λ d. refl) (λ d old. refl) (λ d. refl) (plus (suc (suc (suc (length emptied)))) 1) scan
-      (StopsAt capacity (locking counter emptied) emptied left_then) first_lock (counter ∷ emptied)
+      part_walks
+      (record {
+        want = λ c. recover_want c;
+        after = λ c old. recover_after c LockIfLastIndex old;
+        part_want = lock_want;
+        part_after = lock_after capacity;
+        within = λ l. at (recovers.Locks index l);
+        lift = recover_locked (first_recover capacity) index;
+        Low = λ d. Unit {0};
+        low_on = λ d old low. any_low ((lock_after capacity) d old);
+        wants_so = λ d. refl;
+        goes_so = λ d old low. refl;
+        lifts = λ d. refl;
+      })
+      (plus (suc (suc (suc (length emptied)))) 1) scan (StopsAt capacity (locking counter emptied) emptied left_then) first_lock (counter ∷ emptied) tt
       (lock_walks capacity counter emptied low emptied_long few _ (then_on LockIfLastIndex (locking counter emptied)))
 
   -- In either mode the recovery raises the counter, in the mode that locks also tries to lock, and goes on to
@@ -143,22 +155,44 @@ module _ (capacity g : ℕ) (cells : List ℕ) (small : g < 2 ^ 64) (long : leng
   raises_on : (mode : ReleaseMode)
       → RecoveryStops mode (suc (suc rounds)) (counter_then mode g emptied) (at (recovers.Raises index raises.LoadsCounter)) (g ∷ emptied)
   raises_on Default =
-      part_walks (λ c. recover_want c) (λ c old. recover_after c Default old) raise_want raise_after
-      (λ r. at (recovers.Raises index r)) (recover_raised (first_recover capacity) index Default)
-      (λ d. refl) (λ d old. refl) (λ d. refl) 2 rounds
-      (StopsAt capacity (next_generation g) emptied left_then) raises.LoadsCounter (g ∷ emptied)
+      part_walks
+      (record {
+        want = λ c. recover_want c;
+        after = λ c old. recover_after c Default old;
+        part_want = raise_want;
+        part_after = raise_after;
+        within = λ r. at (recovers.Raises index r);
+        lift = recover_raised (first_recover capacity) index Default;
+        Low = λ d. Unit {0};
+        low_on = λ d old low. any_low (raise_after d old);
+        wants_so = λ d. refl;
+        goes_so = λ d old low. refl;
+        lifts = λ d. refl;
+      })
+      2 rounds (StopsAt capacity (next_generation g) emptied left_then) raises.LoadsCounter (g ∷ emptied) tt
       (raise_walks g emptied small _ (λ e. absurd (opens e))
       (λ _. goes_longer (λ c. recover_want c) (λ c old. recover_after c Default old) (plus (suc (suc (suc (length emptied)))) 1) scan
       (StopsAt capacity (next_generation g) emptied left_then) (recover_comes_to (first_recover capacity) (index + 1)) (next_generation g ∷ emptied)
       (then_on Default (next_generation g))))
   raises_on LockIfLastIndex =
-      part_walks (λ c. recover_want c) (λ c old. recover_after c LockIfLastIndex old) raise_want raise_after
-      (λ r. at (recovers.Raises index r)) (recover_raised (first_recover capacity) index LockIfLastIndex)
-      (λ d. refl) (λ d old. refl) (λ d. refl) 2 rounds
-      (StopsAt capacity (locking (next_generation g) emptied) emptied left_then) raises.LoadsCounter (g ∷ emptied)
+      part_walks
+      (record {
+        want = λ c. recover_want c;
+        after = λ c old. recover_after c LockIfLastIndex old;
+        part_want = raise_want;
+        part_after = raise_after;
+        within = λ r. at (recovers.Raises index r);
+        lift = recover_raised (first_recover capacity) index LockIfLastIndex;
+        Low = λ d. Unit {0};
+        low_on = λ d old low. any_low (raise_after d old);
+        wants_so = λ d. refl;
+        goes_so = λ d old low. refl;
+        lifts = λ d. refl;
+      })
+      2 rounds (StopsAt capacity (locking (next_generation g) emptied) emptied left_then) raises.LoadsCounter (g ∷ emptied) tt
       (raise_walks g emptied small _ (λ e. absurd (opens e)) (λ _. locks_on (next_generation g) (next_small g small)))
 
   -- after a yes the recovery empties the cell, raises the counter and goes on to where it stops next
-  pub frees_on : (mode : ReleaseMode) (owner : ℕ) → slice_index (g ∷ cells) (cell_word index) ≡ owner
+  pub frees_on : (mode : ReleaseMode) {owner : ℕ} → slice_index (g ∷ cells) (cell_word index) ≡ owner
       → RecoveryStops mode (suc (suc (suc rounds))) (counter_then mode g emptied) (at (recovers.EmptiesCell index owner)) (g ∷ cells)
   frees_on = grind (arith, by_eq, suc, empty, eq-eqb, next_set, raises_on)

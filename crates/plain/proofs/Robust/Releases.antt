@@ -14,7 +14,7 @@ use Rattle.plain.specs.Alone.{BehavesAs}
 use Rattle.steps.specs.Objects.Owners.{Owners, next_generation, has, owns, without, given_back, release_state, released, after_release}
 use Rattle.plain.specs.Robust.{owner_in, owners_in, Represents}
 use Rattle.plain.proofs.Alone.{Runs}
-use Rattle.plain.proofs.Walks.{plus, plus_sum, Walks, WalksOn, OnEnd, part_walks, runs}
+use Rattle.plain.proofs.Walks.{plus, plus_sum, Walks, WalksOn, OnEnd, part_walks, runs, any_low}
 use Rattle.plain.proofs.Robust.Parts.{number, next_cell, next_set, raise_walks, next_small, lock_walks, locking, locking_small, owner_free}
 
 -- ---- what giving an index back makes of the counter
@@ -93,19 +93,55 @@ module _ (capacity index owner g : ℕ) (cells : List ℕ) (small : g < 2 ^ 64) 
   raises_on : (mode : ReleaseMode) (P : Released → List ℕ → Type 0) → P (answer mode) (counter_then mode g emptied ∷ emptied)
       → ReleaseEnds mode (suc (suc fuel)) P (at_release first (releases.Raises raises.LoadsCounter)) (g ∷ emptied)
   raises_on Default P holds =
-      part_walks (λ c. release_want c (given Default)) (λ c old. release_after c (given Default) old) raise_want raise_after
-      (λ r. at_release first (releases.Raises r)) (release_raised first Default)
-      (λ d. refl) (λ d old. refl) (λ d. refl) 2 fuel (OnEnd P) raises.LoadsCounter (g ∷ emptied)
+      part_walks
+      (record {
+        want = λ c. release_want c (given Default);
+        after = λ c old. release_after c (given Default) old;
+        part_want = raise_want;
+        part_after = raise_after;
+        within = λ r. at_release first (releases.Raises r);
+        lift = release_raised first Default;
+        Low = λ d. Unit {0};
+        low_on = λ d old low. any_low (raise_after d old);
+        wants_so = λ d. refl;
+        goes_so = λ d old low. refl;
+        lifts = λ d. refl;
+      })
+      2 fuel (OnEnd P) raises.LoadsCounter (g ∷ emptied) tt
       (raise_walks g emptied small _ (λ _. holds) (λ _. holds))
   raises_on LockIfLastIndex P holds =
       let locks_on : ReleaseEnds LockIfLastIndex fuel P (at_release first (releases.Locks first_lock)) (next_generation g ∷ emptied) =
-      part_walks (λ c. release_want c (given LockIfLastIndex)) (λ c old. release_after c (given LockIfLastIndex) old) lock_want (lock_after capacity)
-      (λ l. at_release first (releases.Locks l)) (release_locked first)
-      (λ d. refl) (λ d old. refl) (λ d. refl) (plus (suc (suc (suc (length emptied)))) 1) 0 (OnEnd P) first_lock (next_generation g ∷ emptied)
+      part_walks
+      (record {
+        want = λ c. release_want c (given LockIfLastIndex);
+        after = λ c old. release_after c (given LockIfLastIndex) old;
+        part_want = lock_want;
+        part_after = lock_after capacity;
+        within = λ l. at_release first (releases.Locks l);
+        lift = release_locked first;
+        Low = λ d. Unit {0};
+        low_on = λ d old low. any_low ((lock_after capacity) d old);
+        wants_so = λ d. refl;
+        goes_so = λ d old low. refl;
+        lifts = λ d. refl;
+      })
+      (plus (suc (suc (suc (length emptied)))) 1) 0 (OnEnd P) first_lock (next_generation g ∷ emptied) tt
       (lock_walks capacity (next_generation g) emptied (next_small g small) emptied_long few _ holds) in
-      part_walks (λ c. release_want c (given LockIfLastIndex)) (λ c old. release_after c (given LockIfLastIndex) old) raise_want raise_after
-      (λ r. at_release first (releases.Raises r)) (release_raised first LockIfLastIndex)
-      (λ d. refl) (λ d old. refl) (λ d. refl) 2 fuel (OnEnd P) raises.LoadsCounter (g ∷ emptied)
+      part_walks
+      (record {
+        want = λ c. release_want c (given LockIfLastIndex);
+        after = λ c old. release_after c (given LockIfLastIndex) old;
+        part_want = raise_want;
+        part_after = raise_after;
+        within = λ r. at_release first (releases.Raises r);
+        lift = release_raised first LockIfLastIndex;
+        Low = λ d. Unit {0};
+        low_on = λ d old low. any_low (raise_after d old);
+        wants_so = λ d. refl;
+        goes_so = λ d old low. refl;
+        lifts = λ d. refl;
+      })
+      2 fuel (OnEnd P) raises.LoadsCounter (g ∷ emptied) tt
       (raise_walks g emptied small _ (λ _. locks_on) (λ _. locks_on))
 
   -- ---- what it makes of the map
@@ -156,7 +192,7 @@ module _ (capacity index owner g : ℕ) (cells : List ℕ) (small : g < 2 ^ 64) 
   pub give_runs : (mode : ReleaseMode) → 1 ≤ capacity
       → Runs release_want release_after (λ c (room : Unit {0}) old. room) (given mode) (λ e room ws. GaveBack mode e ws) first tt (g ∷ cells)
   give_runs mode some =
-      runs release_want release_after (given mode) (suc (suc (suc fuel))) (GaveBack mode) first (g ∷ cells)
+      runs (suc (suc (suc fuel))) (GaveBack mode)
       (omega (arith, plus_sum (plus (suc (suc (suc (length emptied)))) 1) 0, plus_sum (suc (suc (suc (length emptied)))) 1, emptied_long))
       (give_walks mode some)
 

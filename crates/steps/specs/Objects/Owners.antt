@@ -84,7 +84,8 @@ borrowed s = if is_locked s then 0 else length (taken s)
 
 -- ---- acquire
 
--- the lowest index without an owner, where there is one
+-- the lowest index without an owner, or why none is handed out: the set is locked, the generation is at its end, or each
+-- index has an owner
 abbrev pub acquired : Owners → Result ℕ UniqueIndexSetAcquireFailure
 acquired s =
     if is_locked s

@@ -24,18 +24,13 @@ recover-state-requires-clause-freed g c free =
 
 pub returns-clause-recovered : goal.returns-clause-recovered
 returns-clause-recovered g c =
-    recovers_owner _ (λ f. (asked.captures f).owner) c.args.owner (λ p o i b q k. search rules) _ c.args.mode c.recover-state.result _ _ _ _
-    (view c.args.pass.now) (view c.recover-state.new.pass) (search rules) c.recover-state.ensures.recovered.recovered
+    recovers_owner (λ f. (asked.captures f).owner) c.args.owner (λ p o i b q k. search rules) (search rules) c.recover-state.ensures.recovered.recovered
 
 -- the number that is answered is that of the owner's indices that were freed
 pub returns-clause-counted : goal.returns-clause-counted
 returns-clause-counted g c =
-    let v = view c.args.pass.now in
-    let w = view c.recover-state.new.pass in
-    let more =
-    freed_his _ (λ f. (asked.captures f).owner) c.args.owner (λ p o i b q k. search rules) _ c.args.mode c.recover-state.result _ _ _ _ v w
-    (search rules) c.recover-state.ensures.recovered.recovered
-    in
+    let more = freed_his (λ f. (asked.captures f).owner) c.args.owner (λ p o i b q k. search rules)
+    (search rules) c.recover-state.ensures.recovered.recovered in
     let all = counted _ (λ f. f.0.ghost_name) (λ f. (told.captures f).freed) (λ s x t k. search rules) _ _ _
     c.recover-state.ensures.recovered.recovered.visited.told in
     let name = all.0 in
@@ -45,11 +40,8 @@ returns-clause-counted g c =
 -- no index of another owner was freed
 pub returns-clause-others : goal.returns-clause-others
 returns-clause-others g c =
-    let v = view c.args.pass.now in
-    let w = view c.recover-state.new.pass in
-    freed_no_other c.args.owner c.args.mode c.recover-state.result v w
-    (recovers_owner _ (λ f. (asked.captures f).owner) c.args.owner (λ p o i b q k. search rules) _ c.args.mode c.recover-state.result _ _ _ _ v w
-    (search rules) c.recover-state.ensures.recovered.recovered)
+    freed_no_other
+    (recovers_owner (λ f. (asked.captures f).owner) c.args.owner (λ p o i b q k. search rules) (search rules) c.recover-state.ensures.recovered.recovered)
 
 -- the recovery answers right for this owner
 pub returns-clause-answered : goal.returns-clause-answered
@@ -57,6 +49,5 @@ returns-clause-answered g c =
     let v = view c.args.pass.now in
     let w = view c.recover-state.new.pass in
     owner_answered c.args.owner c.args.mode c.recover-state.result v w
-    (recovers_owner _ (λ f. (asked.captures f).owner) c.args.owner (λ p o i b q k. search rules) _ c.args.mode c.recover-state.result _ _ _ _ v w
-    (search rules) c.recover-state.ensures.recovered.recovered)
+    (recovers_owner (λ f. (asked.captures f).owner) c.args.owner (λ p o i b q k. search rules) (search rules) c.recover-state.ensures.recovered.recovered)
     c.recover-state.ensures.recovered.answered

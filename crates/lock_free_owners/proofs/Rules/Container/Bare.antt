@@ -25,6 +25,8 @@ unchanged count found = grind (arith, by_eq)
 abbrev pub one_more : {T : Type 0} → View T → View T
 one_more v = record v { asked = v.asked + 1; aside = v.aside + 1 }
 
+-- The seat `id` has the view v. It counts one operation more, which is no step of a call, and what the seats know of the
+-- events stays true.
 module _ {T : Type 0} (views : List (View T)) (events : List (Event T)) (id : ℕ) (v : View T) (at : get_elem? views id ≡ some v)
     (k : Known views events) where
   -- with one operation more asked for, each seat without a share has still made nothing, and has
@@ -82,6 +84,7 @@ asked_on views steps id v at h =
     subst (λ n. HaveAsked (set views id (one_more v)) n) (no_more steps)
     (have_more views id v (one_more v) steps 0 at h (omega arith) (λ none. (let same = h.spent id v at none in omega arith)))
 
+-- A seat has the view v, at a table of a container of capacity `key`.
 module _ {T : Type 0} (code : Coding T) (key slots id : ℕ) (v : View T) where
   -- an operation that leaves each word as it is leaves the table its machine, with a view that has
   -- asked for one operation more

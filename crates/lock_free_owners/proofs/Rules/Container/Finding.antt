@@ -5,7 +5,7 @@ use Rattle.lock_free_owners.proofs.Names.{[], ◌∷◌, ◌++◌, length, refl,
 use Rattle.lock_free_owners.proofs.Names.{Contains, All, FoldsTo, FoldsTo-push, map-append, All-push}
 use Rattle.lock_free_owners.proofs.Names.{All-weaker, Contains-push, Contains-append_left, all_pairs_push, by_test}
 use Rattle.lock_free_owners.proofs.Names.{by_eq, After, GoOn, Done, CallbackProgression, Continue, Stop}
-use Rattle.lock_free_owners.proofs.Names.{ContainerHandle, is_even, find_keeps, copies_after, Ascends}
+use Rattle.lock_free_owners.proofs.Names.{ContainerHandle, Coding, View, is_even, find_keeps, copies_after, Ascends}
 use Rattle.steps.specs.declared.container.find.Find.{Find}
 use Rattle.steps.specs.declared.container.find.FindStage as finds
 use Rattle.steps.specs.Indices.Robust.Parts.{one_more}
@@ -14,7 +14,23 @@ use Rattle.lock_free_owners.specs.Container.Callable.{Visit, VisitsAscend, goes_
 use Rattle.lock_free_owners.specs.Container.Visits.{FindStage, FindAsks, IsNamed, named, visits_of}
 use Rattle.lock_free_owners.proofs.Rules.Robust.Finding.{ascend_push, below_push, below_more}
 
-module _ {T F : Type 0} (step : F → T → ContainerHandle → CallbackProgression → F → Type 0) (cap owner id : ℕ) (f : F) where
+-- A find of a container: its closure, the container and the owner, and the view in which it began.
+pub record FindCase (T F : Type 0) : Type 1 where
+  -- how a value is coded in words
+  pub code : Coding T
+  -- how the closure answers when it is called with a value and its handle, and what becomes of it
+  pub step : F → T → ContainerHandle → CallbackProgression → F → Type 0
+  -- how many indices the container has, whose values the find looks for, and the container's number
+  pub capacity : ℕ
+  pub owner : ℕ
+  pub id : ℕ
+  -- the view in which the find began, and the closure as it was then
+  pub base : View T
+  pub visit : F
+
+module _ {T F : Type 0} (find : FindCase T F) where
+  open find use {code, step, capacity as cap, owner, id, visit as f}
+
   -- the handle is one that the find may visit
   abbrev mine : ContainerHandle → Type 0
   mine = IsNamed cap owner id
@@ -84,8 +100,8 @@ module _ {T F : Type 0} (step : F → T → ContainerHandle → CallbackProgress
   came_on low n visits p came = grind (arith, below_more, higher)
 
   -- what was visited below an index lies below any index that is no lower
-  pub widen : (low high n : ℕ) (visits : List (Visit T)) (p : F) → low ≤ high → Came low n visits p → Came high n visits p
-  widen low high n visits p up h =
+  pub widen : {low high n : ℕ} {visits : List (Visit T)} {p : F} → Came low n visits p → low ≤ high → Came high n visits p
+  widen {low} {high} {visits} h up =
       record {
         indices = h.indices;
         ascend = h.ascend;
@@ -115,8 +131,8 @@ module _ {T F : Type 0} (step : F → T → ContainerHandle → CallbackProgress
       }
 
   -- A find that has come past all indices has found what `HasFound` says, with the capacity as the bound.
-  pub found_all : (low n : ℕ) (visits : List (Visit T)) (p : F) → Came low n visits p → HasFound step cap mine f n cap visits p
-  found_all low n visits p came = grind arith
+  pub found_all : {low n : ℕ} {visits : List (Visit T)} {p : F} → Came low n visits p → HasFound step cap mine f n cap visits p
+  found_all came = grind arith
 
   -- a step at a word, which leaves it
   abbrev pub IsQuiet : finds.FindStage → Type 0
@@ -160,9 +176,9 @@ module _ {T F : Type 0} (step : F → T → ContainerHandle → CallbackProgress
 
   -- An answer to stop ends the find: the closure was called with these visits, and at the last of them
   -- it said to stop.
-  found_last : (low n found : ℕ) (value : T) (visits : List (Visit T)) (p q : F) → low < cap → n + 1 ≡ found → step p value (named low owner id) Stop q
+  found_last : {low n found : ℕ} {value : T} {visits : List (Visit T)} {p q : F} → low < cap → n + 1 ≡ found → step p value (named low owner id) Stop q
       → Came low n visits p → HasFound step cap mine f found (low + 1) (visits ++ at_index low value ∷ []) q
-  found_last low n found value visits p q within more hit h =
+  found_last {low} {n} {value} {visits} {p} within more hit h =
       let longer = length-append h.indices (low ∷ []) in
       let count = h.count in
       record {
@@ -186,13 +202,13 @@ module _ {T F : Type 0} (step : F → T → ContainerHandle → CallbackProgress
       }
 
   -- the closure may be called at the index that it has come to
-  pub may_ask : {pre : F → T → ContainerHandle → Type 0} → TakesVisits pre step mine f → (size : ℕ) (stage : finds.FindStage)
-      → FindStage size cap stage → (copies : List (ℕ × T)) (value : T) (p : F) → SoFar stage copies value p → FindAsks pre owner id stage value p
-  may_ask takes size (finds.TheVariants.LoadsCell index found) at copies value p so = tt
-  may_ask takes size (finds.TheVariants.LoadsCount index found) at copies value p so = tt
-  may_ask takes size (finds.TheVariants.LoadsWord index found count place) at copies value p so = tt
-  may_ask takes size (finds.TheVariants.ChecksCount index found count) at copies value p so = tt
-  may_ask takes size (finds.TheVariants.Asks index found) at copies value p so =
+  pub may_ask : {pre : F → T → ContainerHandle → Type 0} → TakesVisits pre step mine f → (stage : finds.FindStage)
+      → FindStage code.size cap stage → (copies : List (ℕ × T)) (value : T) (p : F) → SoFar stage copies value p → FindAsks pre owner id stage value p
+  may_ask takes (finds.TheVariants.LoadsCell index found) at copies value p so = tt
+  may_ask takes (finds.TheVariants.LoadsCount index found) at copies value p so = tt
+  may_ask takes (finds.TheVariants.LoadsWord index found count place) at copies value p so = tt
+  may_ask takes (finds.TheVariants.ChecksCount index found count) at copies value p so = tt
+  may_ask takes (finds.TheVariants.Asks index found) at copies value p so =
       let came = so.2.2 in
       takes.at (told so.0) p (at_index index value) came.calls came.visits_ascend came.visits_below (own index at.0)
 
@@ -202,7 +218,7 @@ module _ {T F : Type 0} (step : F → T → ContainerHandle → CallbackProgress
     Onward (GoOn d) copies value q = SoFar d.stage copies value q
     Onward (Done n) copies value q = HasFound step cap mine f n cap (told copies) q
 
-    module _ (size : ℕ) (c : Find T R) where
+    module _ (c : Find T R) where
       -- A find that comes to an index, or behind the last one, has called its closure at lower indices only.
       comes : (index found : ℕ) (copies : List (ℕ × T)) (value : T) (q : F) → Came index found (told copies) q
           → Onward (find_comes_to c index found) copies value q
@@ -220,25 +236,25 @@ module _ {T F : Type 0} (step : F → T → ContainerHandle → CallbackProgress
         -- after the answer k the closure was called as the find's next stage, or its end, says
         abbrev pub StepsOnward : finds.FindStage → List (ℕ × T) → R → ℕ → F → Type 0
         StepsOnward stage copies room k p =
-            Onward (find_takes size c stage owner k) (copies_after stage k (value_of room) copies) (value_of (find_keeps with_word stage room k)) p
+            Onward (find_takes code.size c stage owner k) (copies_after stage k (value_of room) copies) (value_of (find_keeps with_word stage room k)) p
 
         -- A step at a word calls no closure, so what the closure was called with fits the next stage.
-        pub quietly : cap < 2 ^ 32 → (stage : finds.FindStage) → IsQuiet stage → FindStage size cap stage → (copies : List (ℕ × T)) (room : R) (p : F) (k : ℕ)
-            → SoFar stage copies (value_of room) p → StepsOnward stage copies room k p
+        pub quietly : cap < 2 ^ 32 → (stage : finds.FindStage) → IsQuiet stage → FindStage code.size cap stage → (copies : List (ℕ × T)) (room : R) (p : F)
+            (k : ℕ) → SoFar stage copies (value_of room) p → StepsOnward stage copies room k p
         quietly cap_below stage quiet find_stage copies room p k so_far =
             grind (arith, by_eq, at_find, one_more, find_comes_to, comes, came_on, by_test, is_even, passes)
 
       -- Where the closure says Continue at an index, the find goes on behind it, or ends, with the
       -- closure at q.
-      pub told_on : (index found : ℕ) (copies : List (ℕ × T)) (value : T) (p q : F) → index < cap → step p value (named index owner id) Continue q
+      pub told_on : (index found : ℕ) {copies : List (ℕ × T)} {value : T} {p q : F} → index < cap → step p value (named index owner id) Continue q
           → SoFar (finds.TheVariants.Asks index found) copies value p → Onward (find_comes_to c (index + 1) found) copies value q
-      told_on index found copies value p q index_below_cap step_holds so_far = grind (arith, told_push, comes, came_more)
+      told_on index found {copies} {value} {p} {q} index_below_cap step_holds so_far = grind (arith, told_push, comes, came_more)
 
   -- Where the closure says Stop at an index, the find has ended: it counted `found` indices below index
   -- + 1, and the closure is at q.
-  pub told_to_stop : (index found : ℕ) (copies : List (ℕ × T)) (value : T) (p q : F) → index < cap → step p value (named index owner id) Stop q
+  pub told_to_stop : (index found : ℕ) {copies : List (ℕ × T)} {value : T} {p q : F} → index < cap → step p value (named index owner id) Stop q
       → SoFar (finds.TheVariants.Asks index found) copies value p → HasFound step cap mine f found (index + 1) (told copies) q
-  told_to_stop index found copies value p q within hit so =
+  told_to_stop index found {copies} {value} {q} within hit so =
       let h = so.2 in
       let visits : told so.0 ++ at_index index value ∷ [] ≡ told copies = sym (ap told so.1 ∙ told_push so.0 index value) in
-      subst (λ vs. HasFound step cap mine f found (index + 1) vs q) visits (found_last index h.0 found value (told so.0) p q within h.1 hit h.2)
+      subst (λ vs. HasFound step cap mine f found (index + 1) vs q) visits (found_last within h.1 hit h.2)

@@ -3,7 +3,7 @@ use Rattle.lock_free_owners.proofs.Names.{◌≡◌, ℕ, ◌+◌, ◌<◌, ◌�
 use Rattle.lock_free_owners.proofs.Names.{refl, sym, subst, ◌∙◌, arith, nat_tests, written, by_test, by_eq, After}
 use Rattle.lock_free_owners.proofs.Names.{Done, change_word, count_word, element_word, total_words, is_even}
 use Rattle.lock_free_owners.proofs.Names.{Numbers, Showing, at_look, look_asks, look_want, look_comes_to, look_finds}
-use Rattle.lock_free_owners.proofs.Names.{look_takes, look_after, look_kept, Owes, KeepsRule, View, IsMachine, Coding}
+use Rattle.lock_free_owners.proofs.Names.{look_takes, look_after, look_kept, Owes, KeepsRule, View, IsMachine, Coding, Allows, moves}
 use Rattle.steps.specs.declared.ask.Op.TheVariants as ops
 use Rattle.steps.specs.declared.container.look.Look.{Look}
 use Rattle.steps.specs.declared.container.look.LookStage as looks
@@ -31,6 +31,11 @@ module _ {T : Type 0} (code : Coding T) (value_of : List ℕ → T) (size : ℕ)
   says : (k : ℕ) → Here (after c k) → Says v k (one_more v)
   says = still_tells (LookStands size) LookEnds v (λ base e n same h. counted_on base v same) after (look_kept value_of size) c room
 
+  -- The rule allows an operation that leaves each word unchanged, where the look goes on by it as `Here` says.
+  word_kept : (word : ℕ) (f : ℕ → ℕ) → ((k : ℕ) → f k ≡ k) → ((k : ℕ) → Here (after c k))
+      → Allows (IsMachine code kinds.Container cap) slots id (v, []) word f (λ found new. moves (λ (z : View T). z.asked) Says (v, []) found new)
+  word_kept word f same_word goes_on = leaves code cap slots id v word f same_word Says (λ k. says k (goes_on k))
+
   -- The table has the words of a container and one more.
   full : words ≡ total_words c.capacity size + 1
   full = subst (λ z. words ≡ total_words z size + 1) (sym (same ∙ known)) sized
@@ -49,31 +54,31 @@ module _ {T : Type 0} (code : Coding T) (value_of : List ℕ → T) (size : ℕ)
       → Owes (λ (z : View T). z.asked) (IsMachine code kinds.Container cap) words slots id Says (look_asks size c.capacity stage) (v, [])
   stage_owes looks.TheVariants.LoadsChange is at = (
     change_fits c.capacity size words full,
-    leaves code cap slots id v (change_word c.capacity) (λ x. x) (λ k. refl) Says
-        (λ k. says k (subst Here (is k)
-        (by_eq Here k seen.change (Done false) (look_comes_to c 0) (λ e n. counted_one v) (λ ne. comes 0)))),
+    word_kept (change_word c.capacity) (λ x. x) (λ k. refl)
+        (λ k. subst Here (is k)
+        (by_eq Here k seen.change (Done false) (look_comes_to c 0) (λ e n. counted_one v) (λ ne. comes 0))),
   )
   stage_owes (looks.TheVariants.LoadsCount index) is at = (
     count_fits c.capacity size words full index (let l = at in omega arith),
-    leaves code cap slots id v (count_word c.capacity index) (λ x. x) (λ k. refl) Says
-        (λ k. says k (subst Here (is k)
+    word_kept (count_word c.capacity index) (λ x. x) (λ k. refl)
+        (λ k. subst Here (is k)
         (by_eq Here k (slice_index_or seen.counts index 0) (look_comes_to c (index + 1)) (look_finds c index k) (λ e. comes (index + 1))
-        (λ ne. finds index k at)))),
+        (λ ne. finds index k at))),
   )
   stage_owes (looks.TheVariants.LoadsWord index count place) is at = (
     element_fits c.capacity size words full index place (let l = at.0 in omega arith) at.1,
-    leaves code cap slots id v (element_word c.capacity size index place) (λ x. x) (λ k. refl) Says
-        (λ k. says k (subst Here (is k)
+    word_kept (element_word c.capacity size index place) (λ x. x) (λ k. refl)
+        (λ k. subst Here (is k)
         (by_test Here (nat_lt (place + 1) size) (at_look c (looks.TheVariants.LoadsWord index count (place + 1)))
         (at_look c (looks.TheVariants.ChecksCount index count))
         (λ t n. (counted_one v, (same, (at.0, (let l : place + 1 < size = grind (arith, nat_tests) in l)))))
-        (λ t n. (counted_one v, (same, at.0)))))),
+        (λ t n. (counted_one v, (same, at.0))))),
   )
   stage_owes (looks.TheVariants.ChecksCount index count) is at = (
     count_fits c.capacity size words full index (let l = at in omega arith),
-    leaves code cap slots id v (count_word c.capacity index) (written (ops.Exchange count count)) (unchanged count) Says
-        (λ k. says k (subst Here (is k)
-        (by_eq Here k count (look_comes_to c (index + 1)) (look_finds c index k) (λ e. comes (index + 1)) (λ ne. finds index k at)))),
+    word_kept (count_word c.capacity index) (written (ops.Exchange count count)) (unchanged count)
+        (λ k. subst Here (is k)
+        (by_eq Here k count (look_comes_to c (index + 1)) (look_finds c index k) (λ e. comes (index + 1)) (λ ne. finds index k at))),
   )
 
 -- each step of a look that leaves what is known keeps the rule of a container's table

@@ -4,7 +4,7 @@ use Rattle.lock_free_owners.proofs.Names.{◌≡◌, ℕ, ◌+◌, ◌<◌, ◌�
 use Rattle.lock_free_owners.proofs.Names.{None, List, [], ◌∷◌, ◌++◌, length, append-nil, refl, sym, ap, ◌∙◌, subst}
 use Rattle.lock_free_owners.proofs.Names.{arith, if◌then◌else◌, length-append, All, FoldsTo, FoldsTo-push}
 use Rattle.lock_free_owners.proofs.Names.{All-push, All-weaker, all_pairs_push, by_test, by_eq, After, GoOn, Done}
-use Rattle.lock_free_owners.proofs.Names.{ReleaseMode, ReleaseState, DeadOwner}
+use Rattle.lock_free_owners.proofs.Names.{ReleaseMode, ReleaseState, DeadOwner, Coding, View, is_locked}
 use Rattle.lock_free_owners.proofs.Names.{locked, raise_after, first_lock, lock_after, is_even, goes_to, recover_sees}
 use Rattle.lock_free_owners.proofs.Names.{recover_ends, recover_raises, recover_keeps, HasFound, MayCome, with_last}
 use Rattle.lock_free_owners.proofs.Names.{told, freed, hides, came_locked, seen_under, IsToFree, IsFreed, by_bool}
@@ -24,7 +24,26 @@ use Rattle.lock_free_owners.specs.Container.Questions.{Answered, AnswersAscend, 
 use Rattle.lock_free_owners.specs.Container.RecoverContract.{question_at, questions_of, AreVisits}
 use Rattle.lock_free_owners.specs.Container.RecoverTurns.{RecoverAsks}
 
-module _ {T F : Type 0} (step : F → T → Bool → F → Type 0) (cap : ℕ) (shut : Bool) (given : DeadOwner) (f : F) where
+-- A recovery of a container: its closure, the container, the dead owner, and the view in which it began.
+pub record RecoveryCase (T F : Type 0) : Type 1 where
+  -- how a value is coded in words
+  pub code : Coding T
+  -- how the closure answers when it is asked about a value, and what becomes of it
+  pub step : F → T → Bool → F → Type 0
+  -- how many indices the container has, and whose indices are freed, in which mode
+  pub capacity : ℕ
+  pub given : DeadOwner
+  -- the view in which the recovery began, and the closure as it was then
+  pub base : View T
+  pub predicate : F
+
+module _ {T F : Type 0} (recovery : RecoveryCase T F) where
+  open recovery use {code, step, capacity as cap, given, base, predicate as f}
+
+  -- The container was seen locked when the recovery began.
+  abbrev shut : Bool
+  shut = is_locked base.seen
+
   -- what the recovery did at the indices that it came to, the last one first
   abbrev Visits : Type 0
   Visits = List (ℕ × Came T)
@@ -57,8 +76,8 @@ module _ {T F : Type 0} (step : F → T → Bool → F → Type 0) (cap : ℕ) (
   higher low high up (visit ∷ before) h = ((let l = h.0 in omega arith), h.1, h.2)
 
   -- What the closure was asked about indices below one, it was asked about indices below each higher one.
-  pub widen : (low high : ℕ) (visits : Visits) (p : F) → low ≤ high → Asked low visits p → Asked high visits p
-  widen low high visits p low_up_to_high asked = grind (arith, higher, questions_of)
+  pub widen : {low high : ℕ} {visits : Visits} {p : F} → Asked low visits p → low ≤ high → Asked high visits p
+  widen {visits} asked low_up_to_high = grind (arith, higher, questions_of)
 
   -- other visits with the same questions led the closure to p too
   with_same : (low : ℕ) (xs ys : Visits) (p : F) → questions_of xs ≡ questions_of ys → AreVisits given.mode low ys → Asked low xs p → Asked low ys p
@@ -75,10 +94,10 @@ module _ {T F : Type 0} (step : F → T → Bool → F → Type 0) (cap : ℕ) (
 
   -- A visit whose value the closure was asked about adds one question with its answer, and the closure
   -- goes from p to q.
-  more : (index : ℕ) (value : T) (answer : Bool) (came : Came T) (before : Visits) (p q : F)
+  more : (index : ℕ) (came : Came T) {value : T} {answer : Bool} {before : Visits} {p q : F}
       → question_at index came ≡ record { index = index; value = value; yes = answer } ∷ [] → MayCome given.mode came → shut ≡ false → index < cap
       → step p value answer q → Asked index before p → Asked (index + 1) ((index, came) ∷ before) q
-  more index value answer came before p q is may free within hit h =
+  more index came {value} {answer} {before} {p} {q} is may free within hit h =
       let a : Answered T = record { index = index; value = value; yes = answer } in
       let asked : List (Answered T) = questions_of before in
       let longer = length-append asked (a ∷ []) in
@@ -123,23 +142,23 @@ module _ {T F : Type 0} (step : F → T → Bool → F → Type 0) (cap : ℕ) (
   Knows stage = Unit {0}
 
   -- the closure may be asked about the value
-  pub may_ask : {pre : F → T → Type 0} (size : ℕ) → (shut ≡ false → TakesValues pre step cap f) → (stage : RecoverStage)
-      → RecoverIn size cap given.mode stage → Knows stage
+  pub may_ask : {pre : F → T → Type 0} → (shut ≡ false → TakesValues pre step cap f) → (stage : RecoverStage)
+      → RecoverIn code.size cap given.mode stage → Knows stage
       → (visits : Visits) (value : T) (p : F) → SoFar stage visits value p → RecoverAsks pre stage value p
-  may_ask size takes recovers.LoadsCounter at free visits value p so = tt
-  may_ask size takes (recovers.LoadsCell index) at free visits value p so = tt
-  may_ask size takes (recovers.LoadsCount index) at free visits value p so = tt
-  may_ask size takes (recovers.LoadsWord index count place) at free visits value p so = tt
-  may_ask size takes (recovers.ChecksCount index count) at free visits value p so = tt
-  may_ask size takes (recovers.Asks index count) at free visits value p so =
+  may_ask takes recovers.LoadsCounter at free visits value p so = tt
+  may_ask takes (recovers.LoadsCell index) at free visits value p so = tt
+  may_ask takes (recovers.LoadsCount index) at free visits value p so = tt
+  may_ask takes (recovers.LoadsWord index count place) at free visits value p so = tt
+  may_ask takes (recovers.ChecksCount index count) at free visits value p so = tt
+  may_ask takes (recovers.Asks index count) at free visits value p so =
       let h = so.2 in
       (takes free).at (questions_of so.0) p index value h.questions h.ascend h.below at.0 (let l = h.few in let within = at.0 in omega arith)
-  may_ask size takes (recovers.EmptiesCell index count) at free visits value p so = tt
-  may_ask size takes (recovers.Hides index count) at free visits value p so = tt
-  may_ask size takes (recovers.Raises index raise) at free visits value p so = tt
-  may_ask size takes (recovers.Locks index lock) at free visits value p so = tt
-  may_ask size takes recovers.LoadsCounterAgain at free visits value p so = tt
-  may_ask size takes (recovers.AddsChange state) at free visits value p so = tt
+  may_ask takes (recovers.EmptiesCell index count) at free visits value p so = tt
+  may_ask takes (recovers.Hides index count) at free visits value p so = tt
+  may_ask takes (recovers.Raises index raise) at free visits value p so = tt
+  may_ask takes (recovers.Locks index lock) at free visits value p so = tt
+  may_ask takes recovers.LoadsCounterAgain at free visits value p so = tt
+  may_ask takes (recovers.AddsChange state) at free visits value p so = tt
 
   -- The recovery stands at a word of the container, not at a question, so its step calls no closure.
   abbrev pub IsQuiet : RecoverStage → Type 0
@@ -152,7 +171,7 @@ module _ {T F : Type 0} (step : F → T → Bool → F → Type 0) (cap : ℕ) (
     Onward (GoOn d) visits value p = SoFar d.stage visits value p
     Onward (Done state) visits value p = Asked cap visits p
 
-    module _ (size : ℕ) (c : Recover T R) where
+    module _ (c : Recover T R) where
       -- `Onward` holds of an equal next stage and equal visits too.
       so_then : (value : T) (p : F) (r s : After (Recover T R) ReleaseState) (xs ys : Visits) → r ≡ s → xs ≡ ys → Onward s ys value p → Onward r xs value p
       so_then value p r s xs ys r_is_s xs_are_ys onward = grind arith
@@ -164,7 +183,7 @@ module _ {T F : Type 0} (step : F → T → Bool → F → Type 0) (cap : ℕ) (
           by_test (λ stage. Onward (goes_to c stage) visits value p) (nat_lt index c.capacity) (recovers.LoadsCell index)
           recovers.LoadsCounterAgain
           (λ t. h)
-          (λ t. widen index cap visits p within h)
+          (λ t. widen h within)
 
       -- When the recovery sees the change number of an index, it has asked the closure about
       -- lower indices only.
@@ -197,11 +216,11 @@ module _ {T F : Type 0} (step : F → T → Bool → F → Type 0) (cap : ℕ) (
         -- after the answer k the closure was asked as the recovery's next stage, or its end, says
         abbrev pub StepsOnward : RecoverStage → Visits → R → ℕ → F → Type 0
         StepsOnward stage visits room k p =
-            Onward (recover_takes size c stage given k) (visits_after given.owner stage k (value_of room) visits)
+            Onward (recover_takes code.size c stage given k) (visits_after given.owner stage k (value_of room) visits)
             (value_of (recover_keeps with_word stage room k)) p
 
         -- a step at a word leaves what the closure was asked
-        pub quietly : (stage : RecoverStage) → IsQuiet stage → RecoverIn size cap given.mode stage → (visits : Visits) (room : R) (p : F) (k : ℕ)
+        pub quietly : (stage : RecoverStage) → IsQuiet stage → RecoverIn code.size cap given.mode stage → (visits : Visits) (room : R) (p : F) (k : ℕ)
             → SoFar stage visits (value_of room) p → StepsOnward stage visits room k p
         quietly recovers.LoadsCounter still at visits room p k so =
             by_eq (λ z. Onward z visits (value_of room) p) k locked (recover_ends c Locked) (recover_comes_to c 0)
@@ -215,21 +234,21 @@ module _ {T F : Type 0} (step : F → T → Bool → F → Type 0) (cap : ℕ) (
         quietly (recovers.LoadsCell index) still at visits room p k so =
             by_eq (λ z. Onward z visits (value_of room) p) k given.owner (goes_to c (recovers.LoadsCount index)) (recover_comes_to c (index + 1))
             (λ e. so)
-            (λ ne. comes (index + 1) visits (value_of room) p (omega arith) (widen index (index + 1) visits p (omega arith) so))
+            (λ ne. comes (index + 1) visits (value_of room) p (omega arith) (widen so (omega arith)))
         quietly (recovers.LoadsCount index) still at visits room p k so = sees_count index k visits (value_of room) p so
         -- at a word of the value: the room has one word more
         quietly (recovers.LoadsWord index count place) still at visits room p k so =
-            by_test (λ z. Onward z visits (value_of (with_word room place k)) p) (nat_lt (place + 1) size)
+            by_test (λ z. Onward z visits (value_of (with_word room place k)) p) (nat_lt (place + 1) code.size)
             (goes_to c (recovers.LoadsWord index count (place + 1))) (goes_to c (recovers.ChecksCount index count)) (λ t. so) (λ t. so)
         -- at the check of the number: it has stayed, so the recovery asks about the copied
         -- value, or it copies again
         quietly (recovers.ChecksCount index count) still at visits room p k so =
             by_bool (k == count)
-            (λ e. so_then (value_of room) p (recover_takes size c (recovers.ChecksCount index count) given k)
+            (λ e. so_then (value_of room) p (recover_takes code.size c (recovers.ChecksCount index count) given k)
             (goes_to c (recovers.Asks index count))
             (visits_after given.owner (recovers.ChecksCount index count) k (value_of room) visits) ((index, came.HasAsked (value_of room)) ∷ visits)
             (rw e refl) (rw e refl) (visits, refl, so))
-            (λ e. so_then (value_of room) p (recover_takes size c (recovers.ChecksCount index count) given k) (recover_sees c index k)
+            (λ e. so_then (value_of room) p (recover_takes code.size c (recovers.ChecksCount index count) given k) (recover_sees c index k)
             (visits_after given.owner (recovers.ChecksCount index count) k (value_of room) visits) (seen_under index k visits)
             (rw e refl) (rw e refl) (sees_count index k visits (value_of room) p so))
         quietly (recovers.Asks index count) still at visits room p k so = absurd still
@@ -238,11 +257,11 @@ module _ {T F : Type 0} (step : F → T → Bool → F → Type 0) (cap : ℕ) (
             let now = so.0 in
             let before = so.1 in
             by_bool (k == given.owner)
-            (λ e. so_then (value_of room) p (recover_takes size c (recovers.EmptiesCell index count) given k)
+            (λ e. so_then (value_of room) p (recover_takes code.size c (recovers.EmptiesCell index count) given k)
             (if is_even count then recover_raises c index else goes_to c (recovers.Hides index count))
             (visits_after given.owner (recovers.EmptiesCell index count) k (value_of room) visits) ((index, freed now) ∷ before)
             (rw e refl) (rw e (ap (with_last freed) so.2)) (freed_on index count now before (value_of room) p so.3 so.4))
-            (λ e. so_then (value_of room) p (recover_takes size c (recovers.EmptiesCell index count) given k) (recover_comes_to c (index + 1))
+            (λ e. so_then (value_of room) p (recover_takes code.size c (recovers.EmptiesCell index count) given k) (recover_comes_to c (index + 1))
             (visits_after given.owner (recovers.EmptiesCell index count) k (value_of room) visits) ((index, told now) ∷ before)
             (rw e refl) (rw e (ap (with_last told) so.2)) (comes (index + 1) ((index, told now) ∷ before) (value_of room) p (omega arith) so.4))
         -- at the exchange that hides the value, which asks nothing
@@ -268,7 +287,7 @@ module _ {T F : Type 0} (step : F → T → Bool → F → Type 0) (cap : ℕ) (
             let before = so.0.2 in
             let next : Came T = HasFreed found hid true in
             by_bool (k == counter)
-            (λ e. so_then (value_of room) p (recover_takes size c (recovers.Locks index (locks.ExchangesCounter counter)) given k)
+            (λ e. so_then (value_of room) p (recover_takes code.size c (recovers.Locks index (locks.ExchangesCounter counter)) given k)
             (recover_comes_to c (index + 1))
             (visits_after given.owner
             (recovers.Locks index (locks.ExchangesCounter counter)) k (value_of room)
@@ -277,7 +296,7 @@ module _ {T F : Type 0} (step : F → T → Bool → F → Type 0) (cap : ℕ) (
             (rw e refl) (rw e (ap (with_last came_locked) so.0.3))
             (comes (index + 1) ((index, next) ∷ before) (value_of room) p (omega arith)
             (further index (HasFreed found hid false) next before p refl (so.0.4, (λ t. at.0)) (subst (λ vs. Asked (index + 1) vs p) so.0.3 so.1))))
-            (λ e. so_then (value_of room) p (recover_takes size c (recovers.Locks index (locks.ExchangesCounter counter)) given k)
+            (λ e. so_then (value_of room) p (recover_takes code.size c (recovers.Locks index (locks.ExchangesCounter counter)) given k)
             (recover_locked c index (GoOn first_lock))
             (visits_after given.owner (recovers.Locks index (locks.ExchangesCounter counter)) k (value_of room) visits) visits
             (rw e refl) (rw e refl) so)
@@ -286,12 +305,12 @@ module _ {T F : Type 0} (step : F → T → Bool → F → Type 0) (cap : ℕ) (
 
       -- An answer of the closure adds one question to the visits, and the recovery goes on with the
       -- closure at q: to free the index after a yes, past it after a no.
-      pub answered : (index count : ℕ) (visits : Visits) (value : T) (answer : Bool) (p q : F) → shut ≡ false → (index < cap) × (is_even count ≡ false)
+      pub answered : (index count : ℕ) {visits : Visits} {value : T} (answer : Bool) {p q : F} → shut ≡ false → (index < cap) × (is_even count ≡ false)
           → step p value answer q → SoFar (recovers.Asks index count) visits value p
-          → Onward (recover_takes size c (recovers.Asks index count) given (if answer then 1 else 0)) visits value q
-      answered index count visits value true p q free at hit so =
-          (came.HasAsked value, so.0, so.1, at.1, more index value true (HasFound (Some value)) so.0 p q refl tt free at.0 hit so.2)
-      answered index count visits value false p q free at hit so =
+          → Onward (recover_takes code.size c (recovers.Asks index count) given (if answer then 1 else 0)) visits value q
+      answered index count {value} true free at hit so =
+          (came.HasAsked value, so.0, so.1, at.1, more index (HasFound (Some value)) refl tt free at.0 hit so.2)
+      answered index count {visits} {value} false {q} free at hit so =
           let low = at.0 in
           comes (index + 1) visits value q (omega arith)
-          (subst (λ vs. Asked (index + 1) vs q) (sym so.1) (more index value false (came.HasAsked value) so.0 p q refl tt free at.0 hit so.2))
+          (subst (λ vs. Asked (index + 1) vs q) (sym so.1) (more index (came.HasAsked value) refl tt free at.0 hit so.2))

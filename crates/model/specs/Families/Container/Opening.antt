@@ -54,7 +54,7 @@ module _ {T : Type 0} where
   names_owner (Recover owner mode) = robust.is_owner owner
   names_owner start = true
 
-  -- the call that begins on a machine of this kind
+  -- the call that begins on a machine of this kind, if that is a container and the owner that it names may be one
   abbrev pub call_of : Kind → ℕ → ContainerStart T → Option (ContainerFlight T)
   call_of kind capacity start =
       if is_container kind && names_owner start then Some (first capacity start) else None

@@ -9,22 +9,18 @@ use Rattle.plain.proofs.bits.empty.Goals as goal
 -- its call of `visit_element` meets the requirement `takes`
 pub visit_element-requires-clause-takes : goal.visit_element-requires-clause-takes
 visit_element-requires-clause-takes g c =
-    takes_element (given.F-pre g) (given.F-step g) c.args.capacity c.args.words.now.items c.args.visit.now c.loop.counter
-    c.loop.first c.loop.call c.loop.words.items c.loop.visit c.loop.invariant
-    (let test = c.loop-test.true in let e = c.elements-end.ensures in omega arith)
-    c.swap_next-found.result c.swap_next-found.ensures.answer c.end_of_element-end.result
+    takes_element (given.F-pre g) (given.F-step g) c.args.capacity c.args.words.now.items c.args.visit.now c.loop.invariant
+    (let test = c.loop-test.true in let e = c.elements-end.ensures in omega arith) c.swap_next-found.ensures.answer c.end_of_element-end.result
     c.end_of_element-end.ensures.order c.end_of_element-end.ensures.below c.end_of_element-end.ensures.near
     c.end_of_element-end.ensures.far
 
 -- each iteration keeps the invariant of the loop
 pub loop-preserved : goal.loop-preserved
 loop-preserved g c =
-    empties_one (given.F-pre g) (given.F-step g) c.args.capacity c.args.words.now.items c.args.visit.now c.loop.counter
-    c.loop.first c.loop.call c.loop.words.items c.loop.visit c.loop.invariant
-    (let test = c.loop-test.true in let e = c.elements-end.ensures in omega arith)
-    c.swap_next-found.result c.swap_next-found.ensures.answer c.end_of_element-end.result
+    empties_one (given.F-pre g) (given.F-step g) c.args.capacity c.args.words.now.items c.args.visit.now c.loop.invariant
+    (let test = c.loop-test.true in let e = c.elements-end.ensures in omega arith) c.swap_next-found.ensures.answer c.end_of_element-end.result
     c.end_of_element-end.ensures.order c.end_of_element-end.ensures.below c.end_of_element-end.ensures.near
-    c.end_of_element-end.ensures.far c.swap_next-found.new.call c.swap_next-found.new.words.items
+    c.end_of_element-end.ensures.far
     c.visit_element.new.visit c.swap_next-found.ensures.words c.swap_next-found.ensures.call
     c.visit_element.ensures
 
@@ -34,7 +30,6 @@ returns-clause-places g c =
     let end : c.loop.counter ≡ elements c.args.capacity =
     let test = c.loop-test.false in let e = c.elements-end.ensures in let most = c.loop.auto.counter-end in omega arith in
     all_emptied (given.F-pre g) (given.F-step g) c.args.capacity c.args.words.now.items c.args.visit.now
-    c.loop.first c.loop.call c.loop.words.items c.loop.visit
     (subst (λ n. Emptying (given.F-pre g) (given.F-step g) c.args.capacity c.args.words.now.items c.args.visit.now n
     c.loop.first c.loop.call c.loop.words.items c.loop.visit)
     end c.loop.invariant)
@@ -45,7 +40,6 @@ returns-clause-calls g c =
     let end : c.loop.counter ≡ elements c.args.capacity =
     let test = c.loop-test.false in let e = c.elements-end.ensures in let most = c.loop.auto.counter-end in omega arith in
     all_called (given.F-pre g) (given.F-step g) c.args.capacity c.args.words.now.items c.args.visit.now
-    c.loop.first c.loop.call c.loop.words.items c.loop.visit
     (subst (λ n. Emptying (given.F-pre g) (given.F-step g) c.args.capacity c.args.words.now.items c.args.visit.now n
     c.loop.first c.loop.call c.loop.words.items c.loop.visit)
     end c.loop.invariant)

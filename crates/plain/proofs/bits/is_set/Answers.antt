@@ -7,12 +7,12 @@ use Rattle.plain.proofs.bits.is_set.Goals as goal
 -- the call that `is_set` drives can end, as `drive` requires
 pub drive-requires : goal.drive-requires
 drive-requires c = record {
-  ends = can_end _ _ _ _ _ _ _ _
+  ends = can_end
       (look_runs c.args.capacity c.args.place c.requires.below c.args.words.now.items c.requires.fits _);
 }
 
 -- `is_set` returns whether the place stands
 pub returns : goal.returns
-returns c = ends_so _ _ _ _ _ _ _ _
+returns c = ends_so
     (look_runs c.args.capacity c.args.place c.requires.below c.args.words.now.items c.requires.fits _)
-    _ _ _ c.drive.ensures.alone
+    c.drive.ensures.alone

@@ -7,12 +7,12 @@ use Rattle.plain.proofs.bits.reset_next.Goals as goal
 -- the call that `reset_next` drives can end, as `drive` requires
 pub drive-requires : goal.drive-requires
 drive-requires c = record {
-  ends = can_end _ _ _ _ _ _ _ _
+  ends = can_end
       (reset_runs c.args.capacity c.args.words.now.items c.requires c.new.result c.new.ensures);
 }
 
 -- `reset_next` returns the next place that stood, or None
 pub returns : goal.returns
-returns c = ends_so _ _ _ _ _ _ _ _
+returns c = ends_so
     (reset_runs c.args.capacity c.args.words.now.items c.requires c.new.result c.new.ensures)
-    _ _ _ c.drive.ensures.alone
+    c.drive.ensures.alone

@@ -7,12 +7,12 @@ use Rattle.plain.proofs.bits.set.Goals as goal
 -- the call that `set` drives can end, as `drive` requires
 pub drive-requires : goal.drive-requires
 drive-requires c = record {
-  ends = can_end _ _ _ _ _ _ _ _
+  ends = can_end
       (set_runs c.args.capacity c.args.place c.requires.below c.args.words.now.items c.requires.fits c.new.result c.new.ensures);
 }
 
 -- `set` returns whether the place was clear
 pub returns : goal.returns
-returns c = ends_so _ _ _ _ _ _ _ _
+returns c = ends_so
     (set_runs c.args.capacity c.args.place c.requires.below c.args.words.now.items c.requires.fits c.new.result c.new.ensures)
-    _ _ _ c.drive.ensures.alone
+    c.drive.ensures.alone

@@ -3,15 +3,29 @@ use Rattle.plain.proofs.Alone.{can_end, ends_so}
 use Rattle.plain.proofs.Elements.Adds.{add_at}
 use Rattle.plain.proofs.Elements.Filled.{still, values_long, filled_add}
 use Rattle.plain.specs.Contents.{added, after_add, contents_in}
+use Rattle.plain.proofs.Elements.Values.{Codes}
+use Rattle.plain.proofs.container.add.Given.{Over}
 use Rattle.plain.proofs.container.add.Goals as goal
+
+-- how the values of the container are stored
+abbrev codes : (g : Over) → Codes g.row.T.Denot
+codes g =
+    record {
+      words_of = g.T.Words.words_of;
+      value_of = g.T.Words.value_of;
+      size = g.T.Words.WORDS;
+      sized = g.met.T.Words.sized;
+      given_back = g.met.T.Words.given_back;
+      some = g.met.T.Words.some;
+      wide = g.met.T.Words.few;
+    }
 
 -- the call that `add` drives is as `drive` requires
 pub drive-requires : goal.drive-requires
 drive-requires g c = record {
-  ends = can_end _ _ _ _ _ _ _ _
-      (add_at g.T.Words.words_of g.T.Words.value_of g.T.Words.WORDS g.met.T.Words.sized g.met.T.Words.given_back
-      g.met.T.Words.some g.met.T.Words.few c.args.capacity c.args.id c.args.given.now c.value.result
-      c.value.ensures.number c.value.ensures.named c.new.result c.new.ensures c.args.words.now.items c.requires.0);
+  ends = can_end
+      (add_at (codes g)
+      c.args.capacity c.args.id c.args.given.now c.value.ensures.number c.value.ensures.named c.new.ensures c.requires.0);
 }
 
 -- where the answer is `Ok`, its return meets what it ensures
@@ -21,14 +35,12 @@ returns-in-Ok g c =
     (λ s. after_add s c.args.given.now.owner c.args.given.now.value) c.args.words.now.items
     (filled_add c.args.given.now.owner c.args.given.now.value
     (contents_in g.T.Words.value_of g.T.Words.WORDS c.args.capacity c.args.id c.args.words.now.items)
-    (values_long g.T.Words.value_of g.T.Words.WORDS c.args.capacity c.args.id c.args.words.now.items c.requires.0)
+    (values_long g.T.Words.value_of c.args.id c.requires.0)
     c.requires.1)
-    _ _
-    (ends_so _ _ _ _ _ _ _ _
-    (add_at g.T.Words.words_of g.T.Words.value_of g.T.Words.WORDS g.met.T.Words.sized g.met.T.Words.given_back
-    g.met.T.Words.some g.met.T.Words.few c.args.capacity c.args.id c.args.given.now c.value.result
-    c.value.ensures.number c.value.ensures.named c.new.result c.new.ensures c.args.words.now.items c.requires.0)
-    _ _ _ c.in-Ok.ensures.alone)
+    (ends_so
+    (add_at (codes g)
+    c.args.capacity c.args.id c.args.given.now c.value.ensures.number c.value.ensures.named c.new.ensures c.requires.0)
+    c.in-Ok.ensures.alone)
 
 -- where the answer is `Err`, its return meets what it ensures
 pub returns-in-Err : goal.returns-in-Err
@@ -37,11 +49,9 @@ returns-in-Err g c =
     (λ s. after_add s c.args.given.now.owner c.args.given.now.value) c.args.words.now.items
     (filled_add c.args.given.now.owner c.args.given.now.value
     (contents_in g.T.Words.value_of g.T.Words.WORDS c.args.capacity c.args.id c.args.words.now.items)
-    (values_long g.T.Words.value_of g.T.Words.WORDS c.args.capacity c.args.id c.args.words.now.items c.requires.0)
+    (values_long g.T.Words.value_of c.args.id c.requires.0)
     c.requires.1)
-    _ _
-    (ends_so _ _ _ _ _ _ _ _
-    (add_at g.T.Words.words_of g.T.Words.value_of g.T.Words.WORDS g.met.T.Words.sized g.met.T.Words.given_back
-    g.met.T.Words.some g.met.T.Words.few c.args.capacity c.args.id c.args.given.now c.value.result
-    c.value.ensures.number c.value.ensures.named c.new.result c.new.ensures c.args.words.now.items c.requires.0)
-    _ _ _ c.in-Err.ensures.alone)
+    (ends_so
+    (add_at (codes g)
+    c.args.capacity c.args.id c.args.given.now c.value.ensures.number c.value.ensures.named c.new.ensures c.requires.0)
+    c.in-Err.ensures.alone)

@@ -9,8 +9,8 @@ use Rattle.plain.proofs.container.count.Goals as goal
 -- the call that `count` drives can end, as `drive` requires
 pub drive-requires : goal.drive-requires
 drive-requires g c = record {
-  ends = can_end _ _ _ _ _ _ _ _
-      (count_at g.T.Words.value_of g.T.Words.WORDS c.args.capacity c.args.id c.new.result c.new.ensures c.args.words.now.items c.requires.0);
+  ends = can_end
+      (count_at g.T.Words.value_of g.T.Words.WORDS c.args.capacity c.args.id c.new.ensures c.requires.0);
 }
 
 -- what `count` returns and leaves is as its clause says
@@ -18,7 +18,6 @@ pub returns : goal.returns
 returns g c =
     still g.T.Words.value_of g.T.Words.WORDS c.args.capacity c.args.id (number) (counted) c.args.words.now.items
     (filled_counted (contents_in g.T.Words.value_of g.T.Words.WORDS c.args.capacity c.args.id c.args.words.now.items) c.requires.1)
-    _ _
-    (ends_so _ _ _ _ _ _ _ _
-    (count_at g.T.Words.value_of g.T.Words.WORDS c.args.capacity c.args.id c.new.result c.new.ensures c.args.words.now.items c.requires.0)
-    _ _ _ c.drive.ensures.alone)
+    (ends_so
+    (count_at g.T.Words.value_of g.T.Words.WORDS c.args.capacity c.args.id c.new.ensures c.requires.0)
+    c.drive.ensures.alone)

@@ -9,14 +9,14 @@ use Rattle.plain.proofs.container.look.Goals as goal
 -- the call that `look` drives can end, as `drive` requires
 pub drive-requires : goal.drive-requires
 drive-requires g c = record {
-  ends = can_end _ _ _ _ _ _ _ _
-      (look_at g.T.Words.value_of g.T.Words.WORDS c.args.capacity c.args.id _ c.args.words.now.items c.requires.0);
+  ends = can_end
+      (look_at g.T.Words.value_of g.T.Words.WORDS c.args.capacity c.args.id c.requires.0);
 }
 
 -- what `look` returns and leaves is as its clause says
 pub returns : goal.returns
 returns g c =
-    still g.T.Words.value_of g.T.Words.WORDS c.args.capacity c.args.id (is_locked) (λ s. s) c.args.words.now.items (c.requires.1) _ _
-    (ends_so _ _ _ _ _ _ _ _
-    (look_at g.T.Words.value_of g.T.Words.WORDS c.args.capacity c.args.id _ c.args.words.now.items c.requires.0)
-    _ _ _ c.drive.ensures.alone)
+    still g.T.Words.value_of g.T.Words.WORDS c.args.capacity c.args.id (is_locked) (λ s. s) c.args.words.now.items c.requires.1
+    (ends_so
+    (look_at g.T.Words.value_of g.T.Words.WORDS c.args.capacity c.args.id c.requires.0)
+    c.drive.ensures.alone)

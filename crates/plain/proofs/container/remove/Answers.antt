@@ -4,15 +4,30 @@ use Rattle.plain.proofs.Alone.{can_end, ends_so}
 use Rattle.plain.proofs.Elements.Removes.{remove_at}
 use Rattle.plain.proofs.Elements.Filled.{still, filled_remove}
 use Rattle.plain.specs.Contents.{removed, after_remove}
+use Rattle.plain.proofs.Elements.Values.{Codes}
+use Rattle.plain.proofs.container.remove.Given.{Over}
 use Rattle.plain.proofs.container.remove.Goals as goal
+
+-- how the values of the container are stored
+abbrev codes : (g : Over) → Codes g.row.T.Denot
+codes g =
+    record {
+      words_of = g.T.Words.words_of;
+      value_of = g.T.Words.value_of;
+      size = g.T.Words.WORDS;
+      sized = g.met.T.Words.sized;
+      given_back = g.met.T.Words.given_back;
+      some = g.met.T.Words.some;
+      wide = g.met.T.Words.few;
+    }
 
 -- the call that `remove` drives is as `drive` requires
 pub drive-requires : goal.drive-requires
 drive-requires g c = record {
-  ends = can_end _ _ _ _ _ _ _ _
-      (remove_at g.T.Words.value_of g.T.Words.WORDS g.met.T.Words.few c.args.capacity c.args.handle.container
-      c.args.handle.index c.args.handle.owner c.args.mode c.value.result c.value.ensures.number
-      c.value.ensures.named c.new.result c.new.ensures c.args.words.now.items c.requires.0);
+  ends = can_end
+      (remove_at (codes g)
+      c.args.capacity c.args.handle.container (record { index = c.args.handle.index; owner = c.args.handle.owner; mode = c.args.mode })
+      c.value.ensures.number c.value.ensures.named c.new.ensures c.requires.0);
 }
 
 -- what `remove` returns and leaves is as its clause says
@@ -20,9 +35,9 @@ pub returns : goal.returns
 returns g c =
     still g.T.Words.value_of g.T.Words.WORDS c.args.capacity c.args.handle.container
     (λ s. removed s c.args.handle c.args.mode) (λ s. after_remove s c.args.handle c.args.mode)
-    c.args.words.now.items (filled_remove c.args.handle c.args.mode _ c.requires.1) _ _
-    (ends_so _ _ _ _ _ _ _ _
-    (remove_at g.T.Words.value_of g.T.Words.WORDS g.met.T.Words.few c.args.capacity c.args.handle.container
-    c.args.handle.index c.args.handle.owner c.args.mode c.value.result c.value.ensures.number c.value.ensures.named
-    c.new.result c.new.ensures c.args.words.now.items c.requires.0)
-    _ _ _ c.drive.ensures.alone)
+    c.args.words.now.items (filled_remove c.args.handle c.args.mode _ c.requires.1)
+    (ends_so
+    (remove_at (codes g)
+    c.args.capacity c.args.handle.container (record { index = c.args.handle.index; owner = c.args.handle.owner; mode = c.args.mode })
+    c.value.ensures.number c.value.ensures.named c.new.ensures c.requires.0)
+    c.drive.ensures.alone)

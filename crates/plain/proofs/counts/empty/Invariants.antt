@@ -6,4 +6,12 @@ use Rattle.plain.proofs.counts.empty.Given as given
 -- the words before this place are 0, and their counts are handed out
 abbrev pub invariant-loop-place : given.invariant-loop-place
 invariant-loop-place g l =
-    Emptying (given.F-pre g) (given.F-step g) l.capacity l.fn.words.items l.fn.visit l.place l.call l.words.items l.visit
+    Emptying
+    (record {
+      capacity = l.capacity;
+      before = l.fn.words.items;
+      pre = given.F-pre g;
+      step = given.F-step g;
+      first = l.fn.visit;
+    })
+    l.place l.call l.words.items l.visit

@@ -9,14 +9,14 @@ use Rattle.plain.proofs.overflowing.len.Goals as goal
 -- the call that `len` drives can end, as `drive` requires
 pub drive-requires : goal.drive-requires
 drive-requires c = record {
-  ends = can_end _ _ _ _ _ _ _ _
+  ends = can_end
       (over_count_runs c.args.capacity c.new.result c.new.ensures c.args.words.now.items c.requires);
 }
 
 -- what `len` returns and leaves is as its clause says
 pub returns : goal.returns
 returns c =
-    let so = ends_so _ _ _ _ _ _ _ _
+    let so = ends_so
     (over_count_runs c.args.capacity c.new.result c.new.ensures c.args.words.now.items c.requires)
-    _ _ _ c.drive.ensures.alone in
+    c.drive.ensures.alone in
     (subst (Represents c.args.capacity) (sym so.1) c.requires, so.0, ap (list_in c.args.capacity) so.1)

@@ -8,14 +8,14 @@ use Rattle.plain.proofs.overflowing.pop.Goals as goal
 -- the call that `pop` drives can end, as `drive` requires
 pub drive-end-requires : goal.drive-end-requires
 drive-end-requires c = record {
-  ends = can_end _ _ _ _ _ _ _ _
+  ends = can_end
       (pop_runs c.args.capacity (record { 0 = 0 }) c.args.words.now.items c.new.result c.new.ensures c.requires);
 }
 
 -- what `pop` returns and leaves is as its clause says
 pub returns : goal.returns
 returns c =
-    let so = ends_so _ _ _ _ _ _ _ _
+    let so = ends_so
     (pop_runs c.args.capacity (record { 0 = 0 }) c.args.words.now.items c.new.result c.new.ensures c.requires)
-    _ _ _ c.drive-end.ensures.alone in
+    c.drive-end.ensures.alone in
     (so.0, c.answer.ensures ∙ so.1, so.2)

@@ -6,7 +6,7 @@ use Rattle.plain.proofs.queues.push.Goals as goal
 -- the call that `push` drives is as `drive` requires
 pub drive-requires : goal.drive-requires
 drive-requires g c = record {
-  ends = can_end _ _ _ _ _ _ _ _
+  ends = can_end
       (push_runs g.T.Words.words_of g.T.Words.value_of g.T.Words.WORDS g.met.T.Words.sized g.met.T.Words.given_back
       g.met.T.Words.some g.met.T.Words.few c.args.capacity c.args.value.now c.new.result c.new.ensures
       c.args.words.now.items c.requires);
@@ -14,8 +14,8 @@ drive-requires g c = record {
 
 -- what `push` returns and leaves is as its clause says
 pub returns : goal.returns
-returns g c = ends_so _ _ _ _ _ _ _ _
+returns g c = ends_so
     (push_runs g.T.Words.words_of g.T.Words.value_of g.T.Words.WORDS g.met.T.Words.sized g.met.T.Words.given_back
     g.met.T.Words.some g.met.T.Words.few c.args.capacity c.args.value.now c.new.result c.new.ensures
     c.args.words.now.items c.requires)
-    _ _ _ c.drive.ensures.alone
+    c.drive.ensures.alone

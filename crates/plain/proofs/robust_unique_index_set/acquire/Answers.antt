@@ -7,14 +7,14 @@ use Rattle.plain.proofs.robust_unique_index_set.acquire.Goals as goal
 -- the call that `acquire` drives is as `drive` requires
 pub drive-requires : goal.drive-requires
 drive-requires c = record {
-  ends = can_end _ _ _ _ _ _ _ _
+  ends = can_end
       (take_at c.args.capacity c.args.owner c.value.result c.value.ensures.number c.value.ensures.named c.new.result
       c.new.ensures c.args.words.now.items c.requires);
 }
 
 -- what `acquire` returns and leaves is as its clause says
 pub returns : goal.returns
-returns c = ends_so _ _ _ _ _ _ _ _
+returns c = ends_so
     (take_at c.args.capacity c.args.owner c.value.result c.value.ensures.number c.value.ensures.named c.new.result
     c.new.ensures c.args.words.now.items c.requires)
-    _ _ _ c.drive.ensures.alone
+    c.drive.ensures.alone

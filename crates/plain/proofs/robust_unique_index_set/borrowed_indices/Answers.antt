@@ -7,11 +7,11 @@ use Rattle.plain.proofs.robust_unique_index_set.borrowed_indices.Goals as goal
 -- the call that `borrowed_indices` drives can end, as `drive` requires
 pub drive-requires : goal.drive-requires
 drive-requires c = record {
-  ends = can_end _ _ _ _ _ _ _ _ (borrowed_at c.args.capacity c.new.result c.new.ensures c.args.words.now.items c.requires);
+  ends = can_end (borrowed_at c.args.capacity c.new.result c.new.ensures c.args.words.now.items c.requires);
 }
 
 -- `borrowed_indices` returns how many indices have an owner
 pub returns : goal.returns
-returns c = ends_so _ _ _ _ _ _ _ _
+returns c = ends_so
     (borrowed_at c.args.capacity c.new.result c.new.ensures c.args.words.now.items c.requires)
-    _ _ _ c.drive.ensures.alone
+    c.drive.ensures.alone

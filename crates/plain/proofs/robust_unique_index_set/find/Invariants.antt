@@ -5,4 +5,12 @@ use Rattle.plain.proofs.robust_unique_index_set.find.Given as given
 
 abbrev pub invariant-loop : given.invariant-loop
 invariant-loop g l =
-    Searching (λ p x a q. given.F-step g p x a q) l.fn.visit l.fn.capacity l.fn.owner l.fn.words.items l.counter l.call l.visit l.words.items
+    Searching
+    (record {
+      capacity = l.fn.capacity;
+      owner = l.fn.owner;
+      words = l.fn.words.items;
+      step = λ p x a q. given.F-step g p x a q;
+      first = l.fn.visit;
+    })
+    l.counter l.call l.visit l.words.items

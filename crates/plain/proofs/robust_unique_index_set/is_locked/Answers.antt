@@ -7,11 +7,11 @@ use Rattle.plain.proofs.robust_unique_index_set.is_locked.Goals as goal
 -- the call that `is_locked` drives can end, as `drive` requires
 pub drive-requires : goal.drive-requires
 drive-requires c = record {
-  ends = can_end _ _ _ _ _ _ _ _ (looked_at c.args.capacity _ c.args.words.now.items c.requires);
+  ends = can_end (looked_at c.args.capacity _ c.args.words.now.items c.requires);
 }
 
 -- `is_locked` returns whether the set is locked
 pub returns : goal.returns
-returns c = ends_so _ _ _ _ _ _ _ _
+returns c = ends_so
     (looked_at c.args.capacity _ c.args.words.now.items c.requires)
-    _ _ _ c.drive.ensures.alone
+    c.drive.ensures.alone

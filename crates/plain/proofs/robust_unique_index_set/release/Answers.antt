@@ -6,14 +6,14 @@ use Rattle.plain.proofs.robust_unique_index_set.release.Goals as goal
 -- the call that `release` drives is as `drive` requires
 pub drive-requires : goal.drive-requires
 drive-requires c = record {
-  ends = can_end _ _ _ _ _ _ _ _
+  ends = can_end
       (give_at c.args.capacity c.args.index c.args.owner c.args.mode c.value.result c.value.ensures.number
       c.value.ensures.named c.new.result c.new.ensures c.args.words.now.items c.requires.fits c.requires.index);
 }
 
 -- what `release` returns and leaves is as its clause says
 pub returns : goal.returns
-returns c = ends_so _ _ _ _ _ _ _ _
+returns c = ends_so
     (give_at c.args.capacity c.args.index c.args.owner c.args.mode c.value.result c.value.ensures.number
     c.value.ensures.named c.new.result c.new.ensures c.args.words.now.items c.requires.fits c.requires.index)
-    _ _ _ c.drive.ensures.alone
+    c.drive.ensures.alone

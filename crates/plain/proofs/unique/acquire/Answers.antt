@@ -5,7 +5,7 @@ use Rattle.plain.proofs.Stacks.Acquires.{take_runs}
 use Rattle.plain.proofs.unique.acquire.Goals as goal
 
 pub drive-requires : goal.drive-requires
-drive-requires c = record { ends = can_end _ _ _ _ _ _ _ _ (take_runs c.args.capacity c.new.result c.new.ensures c.args.words.now.items c.requires) }
+drive-requires c = record { ends = can_end (take_runs c.args.capacity c.new.result c.new.ensures c.args.words.now.items c.requires) }
 
 pub returns : goal.returns
-returns c = ends_so _ _ _ _ _ _ _ _ (take_runs c.args.capacity c.new.result c.new.ensures c.args.words.now.items c.requires) _ _ _ c.drive.ensures.alone
+returns c = ends_so (take_runs c.args.capacity c.new.result c.new.ensures c.args.words.now.items c.requires) c.drive.ensures.alone

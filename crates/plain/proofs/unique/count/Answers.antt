@@ -5,7 +5,7 @@ use Rattle.plain.proofs.Stacks.Looks.{count_runs}
 use Rattle.plain.proofs.unique.count.Goals as goal
 
 pub drive-requires : goal.drive-requires
-drive-requires c = record { ends = can_end _ _ _ _ _ _ _ _ (count_runs c.args.capacity c.args.words.now.items _ c.requires) }
+drive-requires c = record { ends = can_end (count_runs c.args.capacity c.args.words.now.items _ c.requires) }
 
 pub returns : goal.returns
-returns c = ends_so _ _ _ _ _ _ _ _ (count_runs c.args.capacity c.args.words.now.items _ c.requires) _ _ _ c.drive.ensures.alone
+returns c = ends_so (count_runs c.args.capacity c.args.words.now.items _ c.requires) c.drive.ensures.alone

@@ -9,4 +9,4 @@ pub drive-requires : goal.drive-requires
 drive-requires = grind (arith, can_end, look_runs)
 
 pub returns : goal.returns
-returns c = ends_so _ _ _ _ _ _ _ _ (look_runs c.args.capacity c.args.words.now.items _ c.requires) _ _ _ c.drive.ensures.alone
+returns c = ends_so (look_runs c.args.capacity c.args.words.now.items _ c.requires) c.drive.ensures.alone

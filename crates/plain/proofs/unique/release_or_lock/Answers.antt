@@ -9,12 +9,12 @@ pub drive-requires : goal.drive-requires
 drive-requires c =
     record {
       ends =
-          can_end _ _ _ _ _ _ _ _
+          can_end
           (lock_runs LockMode c.args.capacity c.args.index c.args.words.now.items c.requires.fits c.requires.out c.new.result c.new.ensures);
     }
 
 pub returns : goal.returns
 returns c =
-    ends_so _ _ _ _ _ _ _ _
+    ends_so
     (lock_runs LockMode c.args.capacity c.args.index c.args.words.now.items c.requires.fits c.requires.out c.new.result c.new.ensures)
-    _ _ _ c.drive.ensures.alone
+    c.drive.ensures.alone

@@ -1,7 +1,7 @@
 -- `load` (src/value.rt): its call of `drive` can end, and its return is the value; the words still represent it.
-use Rattle.std.proofs.Common.{refl, set, arith, ◌∙◌}
-use Rattle.plain.proofs.Names.{Buffer}
+use Rattle.std.proofs.Common.{arith, ◌∙◌}
 use Rattle.plain.proofs.Alone.{can_end, ends_so}
+use Rattle.plain.proofs.Words.{buffer}
 use Rattle.plain.proofs.Values.{load_runs}
 use Rattle.plain.proofs.value.load.Goals as goal
 
@@ -10,19 +10,17 @@ pub drive-requires : goal.drive-requires
 drive-requires g c =
     let few = g.met.T.Words.few in
     record {
-      ends = can_end _ _ _ _ _ _ _ _
-          (load_runs g.T.Words.value_of g.T.Words.WORDS g.met.T.Words.some few (λ (x : Buffer 128). x.words)
-          (λ x at word. record x { words = set x.words at word }) (λ x at word. refl) c.args.words.now.items
-          c.new.result c.new.ensures c.new-room.result (let long = c.new-room.ensures in omega arith) c.requires);
+      ends = can_end
+          (load_runs g.T.Words.value_of g.T.Words.WORDS g.met.T.Words.some few buffer c.args.words.now.items
+          c.new.ensures c.new-room.result (let long = c.new-room.ensures in omega arith) c.requires);
     }
 
 -- what `load` returns and leaves is as its clause says
 pub returns : goal.returns
 returns g c =
     let few = g.met.T.Words.few in
-    let so = ends_so _ _ _ _ _ _ _ _
-    (load_runs g.T.Words.value_of g.T.Words.WORDS g.met.T.Words.some few (λ (x : Buffer 128). x.words)
-    (λ x at word. record x { words = set x.words at word }) (λ x at word. refl) c.args.words.now.items c.new.result
-    c.new.ensures c.new-room.result (let long = c.new-room.ensures in omega arith) c.requires)
-    _ _ _ c.drive.ensures.alone in
+    let so = ends_so
+    (load_runs g.T.Words.value_of g.T.Words.WORDS g.met.T.Words.some few buffer c.args.words.now.items c.new.ensures c.new-room.result
+    (let long = c.new-room.ensures in omega arith) c.requires)
+    c.drive.ensures.alone in
     (so.0, c.answer.ensures ∙ so.1, so.2)

@@ -7,7 +7,8 @@ ghost use Rattle.steps.specs.Indices.Robust.Parts.{first_lock, lock_want, lock_a
 use crate::ask::{After, Ask, Op, Want};
 use crate::indices::enums::ReleaseState;
 
-/// The word of the counter, which opens at 0. Each acquire, release and recovery that changes a cell raises it.
+/// The word of the counter, which opens at 0. Each count raises it, and so does each acquire, release and recovery that
+/// changes a cell. Where it says that the set is locked, or is at its end, it stays.
 pub const COUNTER: usize = 0;
 /// The word of the cell of index 0.
 pub const FIRST_CELL: usize = 1;

@@ -1,9 +1,9 @@
 -- `Container::add` (src/mpmc/container/calls.rt): its call of `drive_on` meets the requirements `rule` and `at`, and its return meets
 -- the clauses `same`, `added`, `lock`, `refused` and `steps`.
 use Rattle.lock_free_owners.proofs.Names.{◌≡◌, ◌<◌, Ok, Err, rules, refl, sym, ap, subst, ◌∙◌, true≢false, first_add}
-use Rattle.lock_free_owners.proofs.Names.{Owned, Coding, IsCoding, coding_by, seen, SetId, adds_value}
+use Rattle.lock_free_owners.proofs.Names.{Owned, Coding, IsCoding, coding_by, seen, SetId}
 use Rattle.steps.specs.declared.container.enums.ContainerAddFailure.TheVariants as failures
-use Rattle.lock_free_owners.specs.Container.Turns.{BeginsAdd, AddAt, AddEnds}
+use Rattle.lock_free_owners.specs.Container.Turns.{AddAt, AddEnds}
 use Rattle.lock_free_owners.proofs.ContainerSet.Begins.{add_keeps, add_begins}
 use Rattle.lock_free_owners.proofs.ContainerSet.Facts.{goes, few_aside, has_added, filled_so, granted_so, within_so, open_so, refused_so, shut}
 use Rattle.lock_free_owners.proofs.ContainerSet.States.{add_leaves}
@@ -42,8 +42,8 @@ returns-in-Ok-clause-same g c =
     record {
       container = search rules;
       idle = c.drive_on-end.ensures.end.over.idle;
-      goes = (goes code (BeginsAdd given) (adds_value g.T.Words.WORDS given) v w c.drive_on-end.result c.drive_on-end.ensures.end);
-      aside = (few_aside code (BeginsAdd given) (adds_value g.T.Words.WORDS given) v w c.drive_on-end.result c.drive_on-end.ensures.end);
+      goes = (goes code c.drive_on-end.ensures.end);
+      aside = (few_aside code c.drive_on-end.ensures.end);
       keeps = add_leaves code v w given c.drive_on-end.result c.drive_on-end.ensures.end;
     }
 
@@ -57,8 +57,8 @@ returns-in-Err-clause-same g c =
     record {
       container = search rules;
       idle = c.drive_on-end.ensures.end.over.idle;
-      goes = (goes code (BeginsAdd given) (adds_value g.T.Words.WORDS given) v w c.drive_on-end.result c.drive_on-end.ensures.end);
-      aside = (few_aside code (BeginsAdd given) (adds_value g.T.Words.WORDS given) v w c.drive_on-end.result c.drive_on-end.ensures.end);
+      goes = (goes code c.drive_on-end.ensures.end);
+      aside = (few_aside code c.drive_on-end.ensures.end);
       keeps = add_leaves code v w given c.drive_on-end.result c.drive_on-end.ensures.end;
     }
 

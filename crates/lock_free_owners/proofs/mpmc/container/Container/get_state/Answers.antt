@@ -28,7 +28,8 @@ bring_up-requires-clause-begins g c =
         subst (λ (n : ℕ). state.shown ≡ shows_nothing g.T.Words.value_of g.T.Words.WORDS n) (sym size) c.in_ok-state.ensures.shown,
       );
       at = subst (λ (n : ℕ). LookAt code GetState v state.shown state.seen v (first_look n) state.shown) mine.known
-          (look_begins code law GetState v state.shown state.seen mine.idle mine.alone mine.some.0);
+          (look_begins (record { code = code; law = law; which = GetState; from = v; shown = state.shown; seen = state.seen })
+          mine.idle mine.alone mine.some.0);
     }
 
 -- the state that is returned is what clause `got` says: the look is a call of the history, and the pass
@@ -60,7 +61,7 @@ returns-clause-got g c =
       got = made_as starts.GetState (Number (shown_number m.elements)) (λ by es. HasLookedAll v.capacity by c.bring_up.result es)
           (λ by es. HasCopied by 0 v.capacity es) v w (λ by es h. some_copied g.row.T.Denot v.capacity by c.bring_up.result es h)
           (look_made code GetState v w state.seen c.bring_up.result m ends);
-      latest = latest_so code v GetState w c.bring_up.result state c.bring_up.new.state (c.in_ok-state.ensures.capacity ∙ sym size)
+      latest = latest_so code v GetState state c.bring_up.new.state (c.in_ok-state.ensures.capacity ∙ sym size)
           c.bring_up.ensures.state ends;
       shows = ends.over.2;
       state = search rules;

@@ -1,7 +1,6 @@
 -- `Container::is_locked` (src/mpmc/container/calls.rt): its call of `drive` meets the requirements `rule` and `at`, and its return meets
 -- the clauses `same`, `looked` and `steps`.
-use Rattle.lock_free_owners.proofs.Names.{rules, Coding, coding_by, seen, sees_lock}
-use Rattle.lock_free_owners.specs.Container.Turns.{BeginsLock}
+use Rattle.lock_free_owners.proofs.Names.{rules, Coding, coding_by, seen}
 use Rattle.lock_free_owners.proofs.ContainerSet.Begins.{lock_keeps, lock_begins}
 use Rattle.lock_free_owners.proofs.ContainerSet.Facts.{goes, few_aside, looked, looked_answered, looked_lock}
 use Rattle.lock_free_owners.proofs.ContainerSet.States.{lock_leaves}
@@ -27,8 +26,8 @@ returns-clause-same g c =
     record {
       container = search rules;
       idle = c.drive.ensures.end.over.idle;
-      goes = (goes code BeginsLock sees_lock v w c.drive.result c.drive.ensures.end);
-      aside = (few_aside code BeginsLock sees_lock v w c.drive.result c.drive.ensures.end);
+      goes = (goes code c.drive.ensures.end);
+      aside = (few_aside code c.drive.ensures.end);
       keeps = lock_leaves code v w c.drive.result c.drive.ensures.end;
     }
 

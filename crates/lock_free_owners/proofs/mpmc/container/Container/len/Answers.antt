@@ -1,9 +1,8 @@
 -- `Container::len` (src/mpmc/container/calls.rt): its call of `count_all` meets the requirement `at`, and its return meets the clauses
 -- `same`, `counted` and `steps`.
 use Rattle.lock_free_owners.proofs.Names.{◌≤◌, rules, ap, subst, ◌∙◌, first_borrowed, Coding, coding_by, seen, SetId}
-use Rattle.lock_free_owners.proofs.Names.{counts_values}
 use Rattle.model.specs.declared.families.container.calls.CountOf.TheVariants as counts
-use Rattle.lock_free_owners.specs.Container.Turns.{BeginsCount, CountAt}
+use Rattle.lock_free_owners.specs.Container.Turns.{CountAt}
 use Rattle.lock_free_owners.proofs.ContainerSet.Begins.{count_begins}
 use Rattle.lock_free_owners.proofs.ContainerSet.Facts.{goes, few_aside, counted, counted_answered, counted_most, counted_none}
 use Rattle.lock_free_owners.proofs.ContainerSet.States.{count_leaves}
@@ -29,8 +28,8 @@ returns-clause-same g c =
     record {
       container = search rules;
       idle = c.count_all.ensures.ends.over.idle;
-      goes = (goes code BeginsCount (counts_values counts.Len) v w c.count_all.result c.count_all.ensures.ends);
-      aside = (few_aside code BeginsCount (counts_values counts.Len) v w c.count_all.result c.count_all.ensures.ends);
+      goes = (goes code c.count_all.ensures.ends);
+      aside = (few_aside code c.count_all.ensures.ends);
       keeps = count_leaves code v w counts.Len c.count_all.result c.count_all.ensures.ends;
     }
 

@@ -44,8 +44,8 @@ returns-clause-same g c =
     record {
       container = search rules;
       idle = ends.1.over.idle;
-      goes = (recovered_goes code law dead v w c.free_all.result ends.0 ends.1);
-      aside = (recovered_aside code law dead v w c.free_all.result ends.0 ends.1);
+      goes = (recovered_goes code law dead ends.1);
+      aside = (recovered_aside code law dead ends.1);
       keeps = recover_leaves code v w dead c.free_all.result ends.0 ends.1;
     }
 

@@ -1,8 +1,8 @@
 -- `Container::remove` (src/mpmc/container/calls.rt): its call of `drive_on` meets the requirements `rule` and `at`, and its return meets
 -- the clauses `same`, `removed`, `refused` and `steps`.
 use Rattle.lock_free_owners.proofs.Names.{◌<◌, rules, sym, ap, subst, ◌∙◌, arith, first_remove, GiveBack, Coding}
-use Rattle.lock_free_owners.proofs.Names.{coding_by, seen, SetId, removes_value}
-use Rattle.lock_free_owners.specs.Container.Turns.{BeginsRemove, RemoveAt}
+use Rattle.lock_free_owners.proofs.Names.{coding_by, seen, SetId}
+use Rattle.lock_free_owners.specs.Container.Turns.{RemoveAt}
 use Rattle.lock_free_owners.proofs.ContainerSet.Begins.{remove_keeps, remove_begins}
 use Rattle.lock_free_owners.proofs.ContainerSet.Facts.{goes, few_aside}
 use Rattle.lock_free_owners.proofs.ContainerSet.States.{remove_leaves}
@@ -44,8 +44,8 @@ returns-clause-same g c =
       keeps = λ is_own. record {
         container = search rules;
         idle = c.drive_on.ensures.end.over.idle;
-        goes = goes code (BeginsRemove given) (removes_value given) v w c.drive_on.result c.drive_on.ensures.end;
-        aside = few_aside code (BeginsRemove given) (removes_value given) v w c.drive_on.result c.drive_on.ensures.end;
+        goes = goes code c.drive_on.ensures.end;
+        aside = few_aside code c.drive_on.ensures.end;
         keeps = remove_leaves code v w given c.drive_on.result c.drive_on.ensures.end;
       };
       foreign = λ other. absurd (other own);

@@ -1,8 +1,8 @@
 -- `Container::replace` (src/mpmc/container/calls.rt): its call of `drive` meets the requirements `rule` and `at`, and its return meets
 -- the clauses `same`, `replaced`, `refused` and `steps`.
 use Rattle.lock_free_owners.proofs.Names.{◌<◌, rules, sym, ap, subst, ◌∙◌, arith, first_replace, Replacement, Coding}
-use Rattle.lock_free_owners.proofs.Names.{IsCoding, coding_by, seen, SetId, replaces_value}
-use Rattle.lock_free_owners.specs.Container.Turns.{BeginsReplace, ReplaceAt}
+use Rattle.lock_free_owners.proofs.Names.{IsCoding, coding_by, seen, SetId}
+use Rattle.lock_free_owners.specs.Container.Turns.{ReplaceAt}
 use Rattle.lock_free_owners.proofs.ContainerSet.Begins.{replace_keeps, replace_begins}
 use Rattle.lock_free_owners.proofs.ContainerSet.Facts.{goes, few_aside}
 use Rattle.lock_free_owners.proofs.ContainerSet.States.{replace_leaves}
@@ -47,8 +47,8 @@ returns-clause-same g c =
       keeps = λ is_own. record {
         container = search rules;
         idle = c.drive.ensures.end.over.idle;
-        goes = goes code (BeginsReplace given) (replaces_value g.T.Words.WORDS given) v w c.drive.result c.drive.ensures.end;
-        aside = few_aside code (BeginsReplace given) (replaces_value g.T.Words.WORDS given) v w c.drive.result c.drive.ensures.end;
+        goes = goes code c.drive.ensures.end;
+        aside = few_aside code c.drive.ensures.end;
         keeps = replace_leaves code v w given c.drive.result c.drive.ensures.end;
       };
       foreign = λ other. absurd (other own);

@@ -7,13 +7,15 @@ use Rattle.threaded.specs.declared.share.Share.{Share}
 use Rattle.history.specs.History.{Knows}
 use Rattle.lock_free_owners.specs.Container.LookTurns.{LookAt}
 use Rattle.lock_free_owners.proofs.ContainerSet.Looks.{look_answered, look_begins, look_idle, look_goes, look_aside, look_made}
-use Rattle.lock_free_owners.proofs.ContainerSet.Looks.{latest_so, on_history, of_history, left_so, knows_so}
+use Rattle.lock_free_owners.proofs.ContainerSet.Looks.{latest_so, on_history, of_history, left_so, knows_so, Left}
 use Rattle.lock_free_owners.proofs.ContainerSet.Began.{history_of}
 use Rattle.lock_free_owners.proofs.ContainerSet.UpdateAnswers.{has_met}
 use Rattle.lock_free_owners.proofs.ContainerSet.SameStates.{decide}
 use Rattle.lock_free_owners.specs.Container.Steps.{LookTakes}
 use Rattle.lock_free_owners.proofs.ContainerSet.Steps.{look_takes}
+use Rattle.lock_free_owners.proofs.mpmc.container.Container.update_state.Goals.{After-bring_up}
 use Rattle.lock_free_owners.proofs.mpmc.container.Container.update_state.Goals as goal
+use Rattle.lock_free_owners.proofs.mpmc.container.Container.update_state.Given as given
 
 -- the look may begin with the state as it is given, whether the pass has this state or not
 pub bring_up-requires-clause-begins : goal.bring_up-requires-clause-begins
@@ -29,59 +31,41 @@ bring_up-requires-clause-begins g c =
       from_is = refl;
       decided = decide code law v v.capacity state.seen state.shown;
       at = subst (λ (n : ℕ). LookAt code UpdateState v state.shown state.seen v (first_look n) state.shown) mine.known
-          (look_begins code law UpdateState v state.shown state.seen mine.idle mine.alone mine.some.0);
+          (look_begins (record { code = code; law = law; which = UpdateState; from = v; shown = state.shown; seen = state.seen })
+          mine.idle mine.alone mine.some.0);
     }
+
+-- What is known of the pass behind the look that brought the state up.
+left : (g : given.Over) (c : After-bring_up g) → Left (seen c.args.pass.now.token.seated) (seen c.bring_up.new.seat)
+left g c =
+    let met = g.met.T.Words in
+    let code : Coding g.row.T.Denot = coding_by g.T.Words in
+    let law : IsCoding code = record { some = met.some; few = met.few; sized = met.sized; given_back = met.given_back } in
+    let mine = c.args.pass.now.token in
+    let v = seen mine.seated in
+    let state = c.args.state.now in
+    left_so code UpdateState state.shown state.seen (decide code law v v.capacity state.seen state.shown) mine.idle mine.alone c.bring_up.ensures.over
 
 -- after the call the pass keeps its fact `known`: its view has the capacity of the container
 pub invariant_of-pass-clause-known : goal.invariant_of-pass-clause-known
 invariant_of-pass-clause-known g c =
-    let met = g.met.T.Words in
-    let code : Coding g.row.T.Denot = coding_by g.T.Words in
-    let law : IsCoding code = record { some = met.some; few = met.few; sized = met.sized; given_back = met.given_back } in
-    let mine = c.args.pass.now.token in
-    let v = seen mine.seated in
-    let state = c.args.state.now in
-    (left_so code UpdateState v state.shown state.seen c.bring_up.result c.bring_up.new.state.shown (seen c.bring_up.new.seat)
-    (decide code law v v.capacity state.seen state.shown) mine.idle mine.alone c.bring_up.ensures.over).capacity
-    ∙ mine.known
+    (left g (goal.at.invariant_of-pass-clause-known g c).After-bring_up).capacity ∙ c.args.pass.now.token.known
 
 -- after the call the pass keeps its fact `idle`: it has no call under way, unless a find rests
 pub invariant_of-pass-clause-idle : goal.invariant_of-pass-clause-idle
 invariant_of-pass-clause-idle g c =
-    let met = g.met.T.Words in
-    let code : Coding g.row.T.Denot = coding_by g.T.Words in
-    let law : IsCoding code = record { some = met.some; few = met.few; sized = met.sized; given_back = met.given_back } in
-    let mine = c.args.pass.now.token in
-    let v = seen mine.seated in
-    let state = c.args.state.now in
-    (left_so code UpdateState v state.shown state.seen c.bring_up.result c.bring_up.new.state.shown (seen c.bring_up.new.seat)
-    (decide code law v v.capacity state.seen state.shown) mine.idle mine.alone c.bring_up.ensures.over).idle
+    (left g (goal.at.invariant_of-pass-clause-idle g c).After-bring_up).idle
 
 -- after the call the pass keeps its fact `alone`: it knows one history
 pub invariant_of-pass-clause-alone : goal.invariant_of-pass-clause-alone
 invariant_of-pass-clause-alone g c =
-    let met = g.met.T.Words in
-    let code : Coding g.row.T.Denot = coding_by g.T.Words in
-    let law : IsCoding code = record { some = met.some; few = met.few; sized = met.sized; given_back = met.given_back } in
-    let mine = c.args.pass.now.token in
-    let v = seen mine.seated in
-    let state = c.args.state.now in
-    (left_so code UpdateState v state.shown state.seen c.bring_up.result c.bring_up.new.state.shown (seen c.bring_up.new.seat)
-    (decide code law v v.capacity state.seen state.shown) mine.idle mine.alone c.bring_up.ensures.over).alone
+    (left g (goal.at.invariant_of-pass-clause-alone g c).After-bring_up).alone
 
 -- after the call the pass keeps its fact `some`: it has a share
 pub invariant_of-pass-clause-some : goal.invariant_of-pass-clause-some
 invariant_of-pass-clause-some g c =
-    let met = g.met.T.Words in
-    let code : Coding g.row.T.Denot = coding_by g.T.Words in
-    let law : IsCoding code = record { some = met.some; few = met.few; sized = met.sized; given_back = met.given_back } in
-    let mine = c.args.pass.now.token in
-    let v = seen mine.seated in
-    let state = c.args.state.now in
-    let left = left_so code UpdateState v state.shown state.seen c.bring_up.result c.bring_up.new.state.shown (seen c.bring_up.new.seat)
-    (decide code law v v.capacity state.seen state.shown) mine.idle mine.alone c.bring_up.ensures.over
-    in
-    subst (λ (z : Share). (0 < z.part) × (0 < z.parts)) (sym left.share) mine.some
+    subst (λ (z : Share). (0 < z.part) × (0 < z.parts))
+    (sym (left g (goal.at.invariant_of-pass-clause-some g c).After-bring_up).share) c.args.pass.now.token.some
 
 -- after the call the pass keeps its fact `knows`: what it knows is a run of the machine
 pub invariant_of-pass-clause-knows : goal.invariant_of-pass-clause-knows
@@ -93,8 +77,7 @@ invariant_of-pass-clause-knows g c =
     let v = seen mine.seated in
     let state = c.args.state.now in
     subst (λ n. Knows code kinds.Container n (seen c.bring_up.new.seat)) mine.known
-    (knows_so code UpdateState v state.shown state.seen c.bring_up.result c.bring_up.new.state.shown (seen c.bring_up.new.seat)
-    (decide code law v v.capacity state.seen state.shown)
+    (knows_so code UpdateState state.shown state.seen (decide code law v v.capacity state.seen state.shown)
     (subst (λ n. Knows code kinds.Container n v) (sym mine.known) mine.knows) c.bring_up.ensures.over)
 
 -- an update of the state that the pass has is a call of the history, and answers right (clause `updated`)
@@ -119,8 +102,8 @@ returns-clause-updated g c latest =
       };
       updated = look_made code UpdateState v w state.seen c.bring_up.result m ends;
       met = has_met code c.bring_up.result v w (look_answered code UpdateState v w state.seen c.bring_up.result m ends)
-          (history_of code v ends.from ends.settled (looking code UpdateState v.capacity state.seen) w c.bring_up.result m ends.over.0);
-      latest = latest_so code v UpdateState w c.bring_up.result state c.bring_up.new.state e c.bring_up.ensures.state ends;
+          (history_of ends.settled (looking code UpdateState v.capacity state.seen) ends.over.0);
+      latest = latest_so code v UpdateState state c.bring_up.new.state e c.bring_up.ensures.state ends;
       shows = ends.over.2;
     }
 

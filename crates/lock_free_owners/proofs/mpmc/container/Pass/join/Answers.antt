@@ -31,10 +31,10 @@ look-requires-clause-owes g c =
     let code : Coding g.row.T.Denot = coding_by g.T.Words in
     let other = c.args.other.token in
     let s = other.seated in
+    let table = table_of s in
     let below : 0 < (table_of s).words = (let size = other.sized in omega arith) in
-    subst (λ (xs : List (ℕ × Unit {0})). Settles code (key_of s) (table_of s).words (table_of s).slots s.seat.id (seen s) xs) (sym s.bare)
-    (owes_settling code (key_of s) (table_of s).words (table_of s).slots s.seat.id 0 (seen s) below (other.known ∙ sym other.keyed) other.idle
-    other.alone other.some.0)
+    subst (λ (xs : List (ℕ × Unit {0})). Settles code (key_of s) table.words table.slots s.seat.id (seen s) xs) (sym s.bare)
+    (owes_settling code table.slots s.seat.id (seen s) below (other.known ∙ sym other.keyed) other.idle other.alone other.some.0)
 
 -- a look leaves the capacity that the pass knows (requirement `capacity`)
 pub look-requires-clause-capacity : goal.look-requires-clause-capacity
@@ -49,7 +49,8 @@ join-requires-clause-joins g c =
     let other = c.args.other.token in
     let x = c.look.new.self.seat.me.0 in
     let s = settled_once code other.seated.seat.me.0 x other.alone other.some.0 other.some.1 c.look.ensures.told in
-    joins code kinds.Container _ mine.seated.seat.id c.look.new.self.seat.id mine.seated.seat.me.0 x mine.some.0 s.part s.idle mine.alone s.fresh
+    let seats_join = joins code kinds.Container _ mine.seated.seat.id c.look.new.self.seat.id mine.seated.seat.me.0 x in
+    seats_join mine.some.0 s.part s.idle mine.alone s.fresh
 
 -- what a look owes, where the seat knows this
 abbrev Owed : {T : Type 0} → Coding T → ℕ → ℕ → ℕ → ℕ → View T → List (ℕ × Unit {0}) → Type 0

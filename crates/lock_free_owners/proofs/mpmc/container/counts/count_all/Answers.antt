@@ -20,9 +20,8 @@ returns-in-Done-clause-ends g c =
     let at_all = CountAt code g.W.Counting.which in
     let over_all = CountEnds code g.W.Counting.which in
     let base = seen c.args.seat.now in
-    has_ended at_all over_all base base (seen c.step_count-first.new.seat) c.new.result c.in-Done.filled c.step_count-first.result
-    c.step_count-first.ensures.goes
-    c.in-Done.is (subst (λ d. at_all base base d tt) (sym c.new.ensures) c.requires.at)
+    has_ended at_all over_all c.step_count-first.ensures.goes c.in-Done.is
+    (subst (λ d. at_all base base d tt) (sym c.new.ensures) c.requires.at)
 
 -- where `count_next` is called the count is under way
 pub count_next-cells-requires-clause-at : goal.count_next-cells-requires-clause-at
@@ -32,9 +31,8 @@ count_next-cells-requires-clause-at g c =
     let over_all = CountEnds code g.W.Counting.which in
     let base = seen c.args.seat.now in (
       base,
-      gone_on at_all over_all base base (seen c.step_count-first.new.seat) c.new.result c.in-GoOn.next c.step_count-first.result
-          c.step_count-first.ensures.goes
-          c.in-GoOn.is (subst (λ d. at_all base base d tt) (sym c.new.ensures) c.requires.at),
+      gone_on at_all over_all c.step_count-first.ensures.goes c.in-GoOn.is
+          (subst (λ d. at_all base base d tt) (sym c.new.ensures) c.requires.at),
     )
 
 -- where the steps over the first cells have ended the count, clause `ends` holds of its end
@@ -44,12 +42,9 @@ returns-in-Done-cells-clause-ends g c =
     let at_all = CountAt code g.W.Counting.which in
     let over_all = CountEnds code g.W.Counting.which in
     let base = seen c.args.seat.now in
-    has_ended at_all over_all base (seen c.step_count-first.new.seat)
-    (seen c.count_next-cells.new.seat) c.in-GoOn.next c.in-Done-cells.filled c.count_next-cells.result
-    c.count_next-cells.ensures.goes c.in-Done-cells.is
-    (gone_on at_all over_all base base (seen c.step_count-first.new.seat) c.new.result c.in-GoOn.next c.step_count-first.result
-    c.step_count-first.ensures.goes
-    c.in-GoOn.is (subst (λ d. at_all base base d tt) (sym c.new.ensures) c.requires.at))
+    let under_way = gone_on at_all over_all c.step_count-first.ensures.goes c.in-GoOn.is
+    (subst (λ d. at_all base base d tt) (sym c.new.ensures) c.requires.at) in
+    has_ended at_all over_all c.count_next-cells.ensures.goes c.in-Done-cells.is under_way
 
 -- the invariant of the loop holds before its first iteration
 pub loop-init : goal.loop-init
@@ -57,14 +52,11 @@ loop-init g c =
     let code : Coding g.row.T.Denot = coding_by g.T.Words in
     let at_all = CountAt code g.W.Counting.which in
     let over_all = CountEnds code g.W.Counting.which in
-    let base = seen c.args.seat.now in (
+    let base = seen c.args.seat.now in
+    let under_way = gone_on at_all over_all c.step_count-first.ensures.goes c.in-GoOn.is
+    (subst (λ d. at_all base base d tt) (sym c.new.ensures) c.requires.at) in (
       stays_then c.step_count-first.ensures.stays c.count_next-cells.ensures.stays,
-      gone_on at_all over_all base (seen c.step_count-first.new.seat)
-          (seen c.count_next-cells.new.seat) c.in-GoOn.next c.in-GoOn-cells.next c.count_next-cells.result
-          c.count_next-cells.ensures.goes c.in-GoOn-cells.is
-          (gone_on at_all over_all base base (seen c.step_count-first.new.seat) c.new.result c.in-GoOn.next c.step_count-first.result
-          c.step_count-first.ensures.goes
-          c.in-GoOn.is (subst (λ d. at_all base base d tt) (sym c.new.ensures) c.requires.at)),
+      gone_on at_all over_all c.count_next-cells.ensures.goes c.in-GoOn-cells.is under_way,
     )
 
 -- an iteration after which the loop goes on keeps its invariant
@@ -73,13 +65,10 @@ loop-preserved g c =
     let code : Coding g.row.T.Denot = coding_by g.T.Words in
     let at_all = CountAt code g.W.Counting.which in
     let over_all = CountEnds code g.W.Counting.which in
-    let base = seen c.args.seat.now in
     let so_far = c.loop.invariant in
     let called = c.count_next-after in (
       stays_then so_far.0 called.ensures.stays,
-      gone_on at_all over_all base (seen c.loop.seat) (seen called.new.seat) c.loop.call c.in-GoOn-after.next called.result called.ensures.goes
-          c.in-GoOn-after.is
-          so_far.1,
+      gone_on at_all over_all called.ensures.goes c.in-GoOn-after.is so_far.1,
     )
 
 -- where the steps of an iteration have ended the count, clause `ends` holds of its end
@@ -88,8 +77,5 @@ returns-in-Done-after-clause-ends g c =
     let code : Coding g.row.T.Denot = coding_by g.T.Words in
     let at_all = CountAt code g.W.Counting.which in
     let over_all = CountEnds code g.W.Counting.which in
-    let base = seen c.args.seat.now in
     let called = c.count_next-after in
-    has_ended at_all over_all base (seen c.loop.seat) (seen called.new.seat) c.loop.call c.in-Done-after.filled called.result called.ensures.goes
-    c.in-Done-after.is
-    c.loop.invariant.1
+    has_ended at_all over_all called.ensures.goes c.in-Done-after.is c.loop.invariant.1

@@ -3,7 +3,7 @@
 use Rattle.lock_free_owners.proofs.Names.{◌∙◌, sym, subst, Coding, coding_by, seen}
 use Rattle.steps.specs.declared.indices.robust.looks.BorrowedIndices.{BorrowedIndices}
 use Rattle.lock_free_owners.specs.Container.Turns.{CountAt, CountEnds}
-use Rattle.lock_free_owners.proofs.RobustSet.Turns.{gone_on, has_ended, loads_next, loads}
+use Rattle.lock_free_owners.proofs.RobustSet.Turns.{gone_on, has_ended, loads_next}
 use Rattle.lock_free_owners.proofs.ContainerSet.Stays.{stays_then}
 use Rattle.lock_free_owners.proofs.mpmc.container.counts.count_cells.Goals as goal
 
@@ -19,14 +19,11 @@ cells-preserved g c =
     let over_all = CountEnds code g.W.Counting.which in
     let so_far = c.cells.invariant in
     let called = c.step_count in
-    let here = loads c.args.capacity c.args.counter c.cells.cell c.cells.found c.cells.cell c.cells.found in
-    let next = loads_next c.args.capacity c.args.counter c.cells.cell c.cells.found called.ensures.after.0 _ c.in-LoadsCell.index c.in-LoadsCell.filled
-    c.in-GoOn.next
+    let next = loads_next c.args.capacity c.args.counter c.cells.cell c.cells.found called.ensures.after.0
     (sym called.ensures.after.1 ∙ c.in-GoOn.is) c.in-LoadsCell.is in (
       stays_then so_far.0 called.ensures.stays,
       λ base at. subst (λ (d : BorrowedIndices). at_all base (seen called.new.seat) d tt) next.0
-          (gone_on at_all over_all base (seen c.cells.seat) (seen called.new.seat) here c.in-GoOn.next called.result called.ensures.goes
-          c.in-GoOn.is (so_far.1 base at)),
+          (gone_on at_all over_all called.ensures.goes c.in-GoOn.is (so_far.1 base at)),
     )
 
 -- where a step leads the count to another stage, clause `goes` holds
@@ -36,9 +33,7 @@ returns-in_default-clause-goes g c base at =
     let at_all = CountAt code g.W.Counting.which in
     let over_all = CountEnds code g.W.Counting.which in
     let called = c.step_count in
-    gone_on at_all over_all base (seen c.cells.seat) (seen called.new.seat)
-    (loads c.args.capacity c.args.counter c.cells.cell c.cells.found c.cells.cell c.cells.found) c.in-GoOn.next called.result called.ensures.goes
-    c.in-GoOn.is (c.cells.invariant.1 base at)
+    gone_on at_all over_all called.ensures.goes c.in-GoOn.is (c.cells.invariant.1 base at)
 
 -- where a step ends the count, clause `goes` holds of its end
 pub returns-in-Done-clause-goes : goal.returns-in-Done-clause-goes
@@ -47,6 +42,4 @@ returns-in-Done-clause-goes g c base at =
     let at_all = CountAt code g.W.Counting.which in
     let over_all = CountEnds code g.W.Counting.which in
     let called = c.step_count in
-    has_ended at_all over_all base (seen c.cells.seat) (seen called.new.seat)
-    (loads c.args.capacity c.args.counter c.cells.cell c.cells.found c.cells.cell c.cells.found) c.in-Done.end called.result called.ensures.goes
-    c.in-Done.is (c.cells.invariant.1 base at)
+    has_ended at_all over_all called.ensures.goes c.in-Done.is (c.cells.invariant.1 base at)

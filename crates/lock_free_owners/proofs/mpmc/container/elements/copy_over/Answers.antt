@@ -21,5 +21,5 @@ elements-preserved g c =
     record {
       stays = stays_then c.elements.invariant.stays (stays_then passed.ensures.stays (stays_then copied.ensures.stays after.ensures.stays));
       at = subst (λ (d : Look g.row.T.Denot). LookOnAt code b.which b.from b.shown numbers (seen after.new.seat) d after.new.room) is
-          (gone_on code b.which b.from b.shown numbers (seen after.new.seat) after.new.room after.result call c.in-GoOn-after.is after.ensures.goes);
+          (gone_on code b.which b.from b.shown numbers (seen after.new.seat) after.new.room c.in-GoOn-after.is after.ensures.goes);
     }

@@ -23,5 +23,5 @@ elements-preserved g c =
     record {
       stays = stays_then so_far.stays after.ensures.stays;
       at = subst (λ (d : Look g.row.T.Denot). LookOnAt code b.which b.from b.shown numbers (seen after.new.seat) d after.new.room) is.0
-          (gone_on code b.which b.from b.shown numbers (seen after.new.seat) after.new.room after.result next c.in-GoOn.is after.ensures.goes);
+          (gone_on code b.which b.from b.shown numbers (seen after.new.seat) after.new.room c.in-GoOn.is after.ensures.goes);
     }

@@ -10,7 +10,8 @@ step-requires-clause-rule g c =
     let met = g.met.T.Words in
     let code : Coding g.row.T.Denot = coding_by g.T.Words in
     let law : IsCoding code = record { some = met.some; few = met.few; sized = met.sized; given_back = met.given_back } in
-    look_on_keeps code law g.B.Beginning.which g.B.Beginning.from g.B.Beginning.shown c.args.given.now c.requires.may_step.decided
+    let b = g.B.Beginning in
+    look_on_keeps (record { code = code; law = law; which = b.which; from = b.from; shown = b.shown; seen = c.args.given.now }) c.requires.may_step.decided
 
 pub step-requires-clause-at : goal.step-requires-clause-at
 step-requires-clause-at g c = (g.B.Beginning.from, c.requires.may_step.at)

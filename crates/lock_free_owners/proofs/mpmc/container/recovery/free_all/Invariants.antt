@@ -8,6 +8,11 @@ use Rattle.lock_free_owners.proofs.mpmc.container.recovery.free_all.Given as giv
 abbrev pub invariant-loop : given.invariant-loop
 invariant-loop g l =
     StaysAtBoard g.T.Words.WORDS l.fn.seat l.seat
-    × Standing (coding_by g.T.Words) (λ p x b q. given.F-step g p x b q) l.fn.capacity
-    (record { owner = l.fn.owner; mode = l.fn.mode }) (seen l.fn.seat)
-    l.fn.predicate (seen l.seat) l.call l.room l.predicate
+    × Standing (record {
+      code = coding_by g.T.Words;
+      step = λ p x b q. given.F-step g p x b q;
+      capacity = l.fn.capacity;
+      given = record { owner = l.fn.owner; mode = l.fn.mode };
+      base = seen l.fn.seat;
+      predicate = l.fn.predicate;
+    }) (seen l.seat) l.call l.room l.predicate

@@ -1,14 +1,12 @@
 -- `load_cell` (src/mpmc/container/recovery.rt): its call of `load_for` meets the requirement `owes`.
-use Rattle.lock_free_owners.proofs.Names.{◌≡◌, ℕ, ◌+◌, List, [], sym, ap, subst, ◌∙◌, total_words, Coding, IsCoding}
-use Rattle.lock_free_owners.proofs.Names.{coding_by, OwesAsk, seen, table_of, key_of, weaker_owes, View, IsMachine}
-use Rattle.steps.specs.Container.Recover.{recover_want}
+use Rattle.lock_free_owners.proofs.Names.{◌≡◌, ℕ, ◌+◌, List, sym, ap, subst, ◌∙◌, total_words, Coding, IsCoding}
+use Rattle.lock_free_owners.proofs.Names.{coding_by, OwesAsk, seen, table_of, key_of, View, IsMachine}
 use Rattle.steps.specs.declared.ask.Op.TheVariants.{Load}
 use Rattle.steps.specs.declared.container.recover.Recover.{Recover}
 use Rattle.model.specs.declared.turn.Kind.TheVariants as kinds
-use Rattle.threaded.specs.Driver.{Told}
 use Rattle.lock_free_owners.proofs.Names.{Buffer}
-use Rattle.lock_free_owners.specs.Container.RecoverTurns.{RecoverAt, RecoverEnds, recover_goes, recover_visiting, RecoverTells, at_cell}
-use Rattle.lock_free_owners.proofs.ContainerSet.RecoverTurns.{recover_keeps, recover_tells}
+use Rattle.lock_free_owners.specs.Container.RecoverTurns.{RecoverTells, at_cell}
+use Rattle.lock_free_owners.proofs.ContainerSet.RecoverTurns.{recover_owes}
 use Rattle.lock_free_owners.proofs.mpmc.container.recovery.load_cell.Goals as goal
 
 -- the load of the cell is one that the rule of the table allows, and it tells what a step of the call tells
@@ -18,19 +16,11 @@ load_for-requires-clause-owes g c =
     let code : Coding g.row.T.Denot = coding_by g.T.Words in
     let law : IsCoding code = record { some = met.some; few = met.few; sized = met.sized; given_back = met.given_back } in
     let s = c.args.seat.now in
-    let at = c.requires.at in
+    let table = table_of s in
     let call : Recover g.row.T.Denot (Buffer 128) = at_cell c.args.capacity c.args.cell in
-    let room = c.args.room.now in
-    let given = c.args.given.now in
-    let told : View g.row.T.Denot → ℕ → View g.row.T.Denot → Type 0 =
-    Told (λ (z : View g.row.T.Denot). z.capacity) (RecoverAt code given) (RecoverEnds code given)
-    (recover_goes code given) (recover_visiting code given) call (room, at.1) in
-    let more : View g.row.T.Denot → ℕ → View g.row.T.Denot → Type 0 = λ v n w. (w.capacity ≡ v.capacity) × RecoverTells code given call room v n w in
+    let more : View g.row.T.Denot → ℕ → View g.row.T.Denot → Type 0 = λ v n w. (w.capacity ≡ v.capacity)
+    × RecoverTells code c.args.given.now call c.args.room.now v n w in
     subst (λ (xs : List (ℕ × Unit {0})). OwesAsk (λ (z : View g.row.T.Denot). z.asked)
-    (IsMachine code kinds.Container (key_of s)) (table_of s).words (table_of s).slots s.seat.id more
-    (1 + c.args.cell) Load (seen s, xs)) (sym s.bare)
-    (weaker_owes (λ (z : View g.row.T.Denot). z.asked) (IsMachine code kinds.Container (key_of s)) (table_of s).words (table_of s).slots s.seat.id told
-    more (recover_want code.size call given) (seen s, [])
-    (λ n w h. recover_tells code law given at.0 (seen s) call room at.1 at.2 n w h)
-    (recover_keeps code law given at.0 (seen s) call (room, at.1) (key_of s) (table_of s).words (table_of s).slots s.seat.id
-    (c.requires.board.0 ∙ ap (λ k. total_words k code.size + 1) (sym c.requires.board.1)) (sym c.requires.board.1) at.2))
+    (IsMachine code kinds.Container (key_of s)) table.words table.slots s.seat.id more (1 + c.args.cell) Load (seen s, xs)) (sym s.bare)
+    (recover_owes code law c.args.given.now c.requires.at.2 table.slots s.seat.id
+    (c.requires.board.0 ∙ ap (λ k. total_words k code.size + 1) (sym c.requires.board.1)) (sym c.requires.board.1))

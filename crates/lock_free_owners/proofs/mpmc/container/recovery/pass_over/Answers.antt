@@ -21,7 +21,7 @@ returns-then-found-owner-clause-goes g c base visits began =
     let given = c.args.given.now in
     let room = c.args.room.now in
     subst (λ (d : Recover g.row.T.Denot (Buffer 128)). RecoverAt code given base (seen found.new.seat) d (room, visits)) (sym c.at_stage.ensures)
-    (comes_own code given c.args.capacity c.cells.cell base (seen found.new.seat) room visits found.result
+    (comes_own code given c.args.capacity c.cells.cell
     (c.if-found-owner.true ∙ c.value-owner.ensures.number)
     (found.ensures.goes base visits (c.cells.invariant.goes base visits began)))
 
@@ -35,7 +35,7 @@ returns-then-cell-capacity-clause-goes g c base visits began =
     let past = c.if-cell-capacity.true in
     subst (λ (d : Recover g.row.T.Denot (Buffer 128)). RecoverAt code given base (seen found.new.seat) d (room, visits))
     (sym c.at_stage-then-cell-capacity.ensures)
-    (comes_past code given c.args.capacity c.cells.cell base (seen found.new.seat) room visits found.result
+    (comes_past code given c.args.capacity c.cells.cell
     (λ e. c.if-found-owner.false (e ∙ sym c.value-owner.ensures.number)) (omega arith)
     (found.ensures.goes base visits (c.cells.invariant.goes base visits began)))
 
@@ -52,7 +52,7 @@ cells-preserved g c =
       within = omega arith;
       onward = omega arith;
       goes = λ base visits began.
-          comes_next code c.args.given.now c.args.capacity c.cells.cell base (seen found.new.seat) c.args.room.now visits found.result
+          comes_next code c.args.given.now c.args.capacity c.cells.cell
           (λ e. c.if-found-owner.false (e ∙ sym c.value-owner.ensures.number)) (omega arith)
           (found.ensures.goes base visits (so_far.goes base visits began));
     }

@@ -9,9 +9,15 @@ use Rattle.lock_free_owners.proofs.mpmc.container.visits.find_all.Given as given
 abbrev pub invariant-loop-next : given.invariant-loop-next
 invariant-loop-next g l =
     StaysAtBoard g.T.Words.WORDS l.fn.seat l.seat
-    × Searching (coding_by g.T.Words)
-    (λ p x h a q. given.F-step g p x h a q) l.fn.capacity l.fn.owner l.fn.id (seen l.fn.seat)
-    l.fn.visit (seen l.seat) l.call l.room l.visit
+    × Searching (record {
+      code = coding_by g.T.Words;
+      step = λ p x h a q. given.F-step g p x h a q;
+      capacity = l.fn.capacity;
+      owner = l.fn.owner;
+      id = l.fn.id;
+      base = seen l.fn.seat;
+      visit = l.fn.visit;
+    }) (seen l.seat) l.call l.room l.visit
 
 -- Each iteration leaves the find fewer steps: the measure is how many it has left at its stage.
 abbrev pub decreases-loop-next : given.decreases-loop-next

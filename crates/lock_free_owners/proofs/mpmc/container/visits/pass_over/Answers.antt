@@ -20,7 +20,7 @@ returns-then-stands-number-clause-goes g c base copies began =
     let stands = c.load_cell-stands in
     let room = c.args.room.now in
     subst (λ (d : Find g.row.T.Denot (Buffer 128)). FindAt code c.args.owner base (seen stands.new.seat) d (room, copies)) (sym c.at_stage.ensures)
-    (comes_own code c.args.owner c.args.capacity c.cells.cell c.args.found base (seen stands.new.seat) room copies stands.result
+    (comes_own code c.args.owner c.args.capacity c.cells.cell c.args.found
     (c.if-stands-number.true ∙ c.value-number.ensures.number)
     (stands.ensures.goes base copies (c.cells.invariant.goes base copies began)))
 
@@ -41,7 +41,7 @@ returns-then-cell-capacity-clause-goes g c base copies began =
     let code : Coding g.row.T.Denot = coding_by g.T.Words in
     let stands = c.load_cell-stands in
     let past = c.if-cell-capacity.true in
-    comes_past code c.args.owner c.args.capacity c.cells.cell c.args.found base (seen stands.new.seat) c.args.room.now copies stands.result
+    comes_past code c.args.owner c.args.capacity c.cells.cell c.args.found
     (λ e. c.if-stands-number.false (e ∙ sym c.value-number.ensures.number)) (omega arith)
     (stands.ensures.goes base copies (c.cells.invariant.goes base copies began))
 
@@ -71,7 +71,7 @@ cells-preserved g c =
       within = omega arith;
       onward = omega arith;
       goes = λ base copies began.
-          comes_next code c.args.owner c.args.capacity c.cells.cell c.args.found base (seen stands.new.seat) c.args.room.now copies stands.result
+          comes_next code c.args.owner c.args.capacity c.cells.cell c.args.found
           (λ e. c.if-stands-number.false (e ∙ sym c.value-number.ensures.number)) (omega arith)
           (stands.ensures.goes base copies (so_far.goes base copies began));
       steps = omega arith;

@@ -12,8 +12,9 @@ use Rattle.lock_free_owners.proofs.mpmc.robust_unique_index_set.Pass.join.Goals 
 pub join-requires-clause-joins : goal.join-requires-clause-joins
 join-requires-clause-joins c =
     let mine = c.args.self.now in
-    joins one_word kinds.Robust _ mine.seated.seat.id c.args.other.seated.seat.id mine.seated.seat.me.0 c.args.other.seated.seat.me.0 mine.some.0
-    c.args.other.some.0 c.args.other.idle mine.alone c.args.other.alone
+    let other = c.args.other in
+    let seats_join = joins one_word kinds.Robust _ mine.seated.seat.id other.seated.seat.id mine.seated.seat.me.0 other.seated.seat.me.0 in
+    seats_join mine.some.0 other.some.0 other.idle mine.alone other.alone
 
 -- what a look owes, where the seat knows this
 abbrev Owed : ℕ → ℕ → ℕ → ℕ → View ℕ → List (ℕ × Unit {0}) → Type 0

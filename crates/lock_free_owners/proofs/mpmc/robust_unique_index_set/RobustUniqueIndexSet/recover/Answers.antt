@@ -42,9 +42,7 @@ returns-clause-recovered g c =
     let idle = c.args.pass.now.idle in
     let ends = called.ensures.ends in
     record {
-      recovered = recovered v w idle c.args.mode called.result ends.0 ends.1
-          (λ p o i b q. given.F-step g p o i b q) (λ s o i t. given.S-step g s o i tt t) c.args.predicate.now called.new.predicate
-          c.args.recover_success.now called.new.recovered ends.2;
+      recovered = recovered idle c.args.mode ends.1 (λ p o i b q. given.F-step g p o i b q) (λ s o i t. given.S-step g s o i tt t) ends.2;
       answered = recovered_answered v w idle c.args.mode called.result ends.0 ends.1;
       lock = recovered_lock v w idle c.args.mode called.result ends.0 ends.1;
     }

@@ -9,61 +9,47 @@ use Rattle.lock_free_owners.proofs.mpmc.robust_unique_index_set.acquires.acquire
 pub returns-in-Done-clause-ends : goal.returns-in-Done-clause-ends
 returns-in-Done-clause-ends g c =
     let base = seen c.args.seat.now in
-    has_ended (AcquireAt c.args.owner) (AcquireEnds c.args.owner) base base
-    (seen c.step_acquire-first.new.seat) c.new.result c.in-Done.end c.step_acquire-first.result c.step_acquire-first.ensures.goes
-    c.in-Done.is (subst (λ d. AcquireAt c.args.owner base base d tt) (sym c.new.ensures) c.requires.at)
+    has_ended (AcquireAt c.args.owner) (AcquireEnds c.args.owner) c.step_acquire-first.ensures.goes c.in-Done.is
+    (subst (λ d. AcquireAt c.args.owner base base d tt) (sym c.new.ensures) c.requires.at)
 
 -- where `acquire_next` is called the acquire is under way
 pub acquire_next-cells-requires-clause-at : goal.acquire_next-cells-requires-clause-at
 acquire_next-cells-requires-clause-at g c =
     let base = seen c.args.seat.now in (
       base,
-      gone_on (AcquireAt c.args.owner) (AcquireEnds c.args.owner) base base
-          (seen c.step_acquire-first.new.seat) c.new.result c.in-GoOn.next c.step_acquire-first.result c.step_acquire-first.ensures.goes
-          c.in-GoOn.is (subst (λ d. AcquireAt c.args.owner base base d tt) (sym c.new.ensures) c.requires.at),
+      gone_on (AcquireAt c.args.owner) (AcquireEnds c.args.owner) c.step_acquire-first.ensures.goes c.in-GoOn.is
+          (subst (λ d. AcquireAt c.args.owner base base d tt) (sym c.new.ensures) c.requires.at),
     )
 
 -- where the steps over the first cells have ended the acquire, clause `ends` holds of its end
 pub returns-in-Done-cells-clause-ends : goal.returns-in-Done-cells-clause-ends
 returns-in-Done-cells-clause-ends g c =
     let base = seen c.args.seat.now in
-    has_ended (AcquireAt c.args.owner) (AcquireEnds c.args.owner) base (seen c.step_acquire-first.new.seat)
-    (seen c.acquire_next-cells.new.seat) c.in-GoOn.next c.in-Done-cells.end c.acquire_next-cells.result
-    c.acquire_next-cells.ensures.goes c.in-Done-cells.is
-    (gone_on (AcquireAt c.args.owner) (AcquireEnds c.args.owner) base base
-    (seen c.step_acquire-first.new.seat) c.new.result c.in-GoOn.next c.step_acquire-first.result c.step_acquire-first.ensures.goes
-    c.in-GoOn.is (subst (λ d. AcquireAt c.args.owner base base d tt) (sym c.new.ensures) c.requires.at))
+    let under_way = gone_on (AcquireAt c.args.owner) (AcquireEnds c.args.owner) c.step_acquire-first.ensures.goes c.in-GoOn.is
+    (subst (λ d. AcquireAt c.args.owner base base d tt) (sym c.new.ensures) c.requires.at) in
+    has_ended (AcquireAt c.args.owner) (AcquireEnds c.args.owner) c.acquire_next-cells.ensures.goes c.in-Done-cells.is under_way
 
 -- the invariant of the loop holds before its first iteration
 pub loop-init : goal.loop-init
 loop-init g c =
-    let base = seen c.args.seat.now in (
+    let base = seen c.args.seat.now in
+    let under_way = gone_on (AcquireAt c.args.owner) (AcquireEnds c.args.owner) c.step_acquire-first.ensures.goes c.in-GoOn.is
+    (subst (λ d. AcquireAt c.args.owner base base d tt) (sym c.new.ensures) c.requires.at) in (
       stays_then c.step_acquire-first.ensures.stays c.acquire_next-cells.ensures.stays,
-      gone_on (AcquireAt c.args.owner) (AcquireEnds c.args.owner) base (seen c.step_acquire-first.new.seat)
-          (seen c.acquire_next-cells.new.seat) c.in-GoOn.next c.in-GoOn-cells.next c.acquire_next-cells.result
-          c.acquire_next-cells.ensures.goes c.in-GoOn-cells.is
-          (gone_on (AcquireAt c.args.owner) (AcquireEnds c.args.owner) base base
-          (seen c.step_acquire-first.new.seat) c.new.result c.in-GoOn.next c.step_acquire-first.result c.step_acquire-first.ensures.goes
-          c.in-GoOn.is (subst (λ d. AcquireAt c.args.owner base base d tt) (sym c.new.ensures) c.requires.at)),
+      gone_on (AcquireAt c.args.owner) (AcquireEnds c.args.owner) c.acquire_next-cells.ensures.goes c.in-GoOn-cells.is under_way,
     )
 
 -- an iteration after which the loop goes on keeps its invariant
 pub loop-preserved : goal.loop-preserved
 loop-preserved g c =
-    let base = seen c.args.seat.now in
     let so_far = c.loop.invariant in
     let called = c.acquire_next-after in (
       stays_then so_far.0 called.ensures.stays,
-      gone_on (AcquireAt c.args.owner) (AcquireEnds c.args.owner) base (seen c.loop.seat)
-          (seen called.new.seat) c.loop.call c.in-GoOn-after.next called.result called.ensures.goes c.in-GoOn-after.is
-          so_far.1,
+      gone_on (AcquireAt c.args.owner) (AcquireEnds c.args.owner) called.ensures.goes c.in-GoOn-after.is so_far.1,
     )
 
 -- where the steps of an iteration have ended the acquire, clause `ends` holds of its end
 pub returns-in-Done-after-clause-ends : goal.returns-in-Done-after-clause-ends
 returns-in-Done-after-clause-ends g c =
-    let base = seen c.args.seat.now in
     let called = c.acquire_next-after in
-    has_ended (AcquireAt c.args.owner) (AcquireEnds c.args.owner) base (seen c.loop.seat)
-    (seen called.new.seat) c.loop.call c.in-Done-after.end called.result called.ensures.goes c.in-Done-after.is
-    c.loop.invariant.1
+    has_ended (AcquireAt c.args.owner) (AcquireEnds c.args.owner) called.ensures.goes c.in-Done-after.is c.loop.invariant.1

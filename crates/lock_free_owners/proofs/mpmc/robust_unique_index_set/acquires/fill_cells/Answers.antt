@@ -3,7 +3,7 @@
 use Rattle.lock_free_owners.proofs.Names.{◌∙◌, sym, subst, seen}
 use Rattle.steps.specs.declared.indices.robust.acquire.Acquire.{Acquire}
 use Rattle.lock_free_owners.specs.Robust.Turns.{AcquireAt, AcquireEnds}
-use Rattle.lock_free_owners.proofs.RobustSet.Turns.{stays_then, gone_on, has_ended, fills_next, fills}
+use Rattle.lock_free_owners.proofs.RobustSet.Turns.{stays_then, gone_on, has_ended, fills_next}
 use Rattle.lock_free_owners.proofs.mpmc.robust_unique_index_set.acquires.fill_cells.Goals as goal
 
 pub step_acquire-requires : goal.step_acquire-requires
@@ -15,27 +15,21 @@ cells-preserved c =
     let so_far = c.cells.invariant in
     let called = c.step_acquire in
     let owner = c.args.owner in
-    let here = fills c.args.capacity c.args.counter c.cells.cell c.cells.cell in
-    let next = fills_next c.args.capacity c.args.counter c.cells.cell called.ensures.after.0 _ c.in-FillsCell.index c.in-GoOn.next
+    let next = fills_next c.args.capacity c.args.counter c.cells.cell called.ensures.after.0
     (sym called.ensures.after.1 ∙ c.in-GoOn.is) c.in-FillsCell.is in (
       stays_then so_far.0 called.ensures.stays,
       λ base at. subst (λ (d : Acquire). AcquireAt owner base (seen called.new.seat) d tt) next.0
-          (gone_on (AcquireAt owner) (AcquireEnds owner) base (seen c.cells.seat) (seen called.new.seat) here c.in-GoOn.next called.result called.ensures.goes
-          c.in-GoOn.is (so_far.1 base at)),
+          (gone_on (AcquireAt owner) (AcquireEnds owner) called.ensures.goes c.in-GoOn.is (so_far.1 base at)),
     )
 
 -- where a step leads the acquire to another stage, clause `goes` holds
 pub returns-in_default-clause-goes : goal.returns-in_default-clause-goes
 returns-in_default-clause-goes c base at =
     let called = c.step_acquire in
-    gone_on (AcquireAt c.args.owner) (AcquireEnds c.args.owner) base (seen c.cells.seat) (seen called.new.seat)
-    (fills c.args.capacity c.args.counter c.cells.cell c.cells.cell) c.in-GoOn.next called.result called.ensures.goes c.in-GoOn.is
-    (c.cells.invariant.1 base at)
+    gone_on (AcquireAt c.args.owner) (AcquireEnds c.args.owner) called.ensures.goes c.in-GoOn.is (c.cells.invariant.1 base at)
 
 -- where a step ends the acquire, clause `goes` holds of its end
 pub returns-in-Done-clause-goes : goal.returns-in-Done-clause-goes
 returns-in-Done-clause-goes c base at =
     let called = c.step_acquire in
-    has_ended (AcquireAt c.args.owner) (AcquireEnds c.args.owner) base (seen c.cells.seat) (seen called.new.seat)
-    (fills c.args.capacity c.args.counter c.cells.cell c.cells.cell) c.in-Done.end called.result called.ensures.goes c.in-Done.is
-    (c.cells.invariant.1 base at)
+    has_ended (AcquireAt c.args.owner) (AcquireEnds c.args.owner) called.ensures.goes c.in-Done.is (c.cells.invariant.1 base at)

@@ -5,7 +5,7 @@ use Rattle.lock_free_owners.proofs.Names.{ℕ, ◌+◌, ◌∙◌, sym, ap, subs
 use Rattle.steps.specs.Indices.Robust.Recover.{recover_comes_to}
 use Rattle.steps.specs.declared.indices.robust.recover.Recover.{Recover}
 use Rattle.lock_free_owners.specs.Robust.Recovering.{LedTo}
-use Rattle.lock_free_owners.proofs.RobustSet.Recoveries.{Heard, asks_at, finds_owner, may_ask_about, yes_leads, no_leads}
+use Rattle.lock_free_owners.proofs.RobustSet.Recoveries.{Heard, began_in, stands_at, asks_at, finds_owner, may_ask_about, yes_leads, no_leads}
 use Rattle.lock_free_owners.proofs.RobustSet.Turns.{passes, stays_then}
 use Rattle.lock_free_owners.proofs.mpmc.robust_unique_index_set.asks.ask_over.Goals as goal
 use Rattle.lock_free_owners.proofs.mpmc.robust_unique_index_set.asks.ask_over.Given as given
@@ -25,11 +25,10 @@ load_cell-found-requires-clause-at g c =
 pub ask_found-answer-requires : goal.ask_found-answer-requires
 ask_found-answer-requires g c low =
     let asks = c.requires.asks in
-    let found = c.load_cell-found in
     let so = c.cells.invariant.goes asks.base asks.f asks.s asks.q asks.idle asks.stands in
-    may_ask_about (λ p o i b r. given.F-step g p o i b r) (λ x o i t. given.S-step g x o i tt t) c.args.mode
-    asks.base asks.idle asks.f asks.s (seen c.cells.seat)
-    (seen found.new.seat) c.args.capacity c.cells.cell found.result found.ensures.goes c.cells.predicate asks.q so asks.takes low
+    let here = began_in (λ p o i b r. given.F-step g p o i b r) (λ x o i t. given.S-step g x o i tt t) c.args.mode asks.base asks.idle asks.f asks.s in
+    let found = c.load_cell-found in
+    may_ask_about here (stands_at here c.cells.predicate asks.q so) found.result (seen found.new.seat) found.ensures.goes asks.takes low
 
 -- by the invariant of the loop the cell is one of the set
 pub passed_next-cell-requires : goal.passed_next-cell-requires
@@ -51,11 +50,8 @@ returns-then-answer-ne0-clause-goes g c base f s q idle began =
     let heard : Heard (λ p o i b r. given.F-step g p o i b r) found.result c.cells.cell asked.result c.cells.predicate asked.new.predicate =
     record { fits = search rules; asked = asked.ensures.asked; passed = asked.ensures.passed } in
     let so = c.cells.invariant.goes base f s q idle began in
-    let yes =
-    yes_leads (λ p o i b r. given.F-step g p o i b r) (λ x o i t. given.S-step g x o i tt t) mode base idle f s
-    (seen c.cells.seat) (seen found.new.seat)
-    c.args.capacity c.cells.cell found.result found.ensures.goes c.cells.predicate q so
-    asked.result asked.new.predicate heard c.if-answer-ne0.true in
+    let here = began_in (λ p o i b r. given.F-step g p o i b r) (λ x o i t. given.S-step g x o i tt t) mode base idle f s in
+    let yes = yes_leads here (stands_at here c.cells.predicate q so) found.result (seen found.new.seat) found.ensures.goes heard c.if-answer-ne0.true in
     let taken = c.answered.ensures (asks_at c.args.capacity c.cells.cell found.result)
     (ap (λ (d : Recover). recover_after d mode found.result) c.at_cell-here.ensures
     ∙ finds_owner c.args.capacity c.cells.cell found.result mode yes.0) in
@@ -72,11 +68,8 @@ returns-then-cell-capacity-clause-goes g c base f s q idle began =
     let heard : Heard (λ p o i b r. given.F-step g p o i b r) found.result c.cells.cell asked.result c.cells.predicate asked.new.predicate =
     record { fits = search rules; asked = asked.ensures.asked; passed = asked.ensures.passed } in
     let so = c.cells.invariant.goes base f s q idle began in
-    let no =
-    no_leads (λ p o i b r. given.F-step g p o i b r) (λ x o i t. given.S-step g x o i tt t) mode base idle f s
-    (seen c.cells.seat) (seen found.new.seat)
-    c.args.capacity c.cells.cell found.result found.ensures.goes c.cells.predicate q so
-    asked.result asked.new.predicate heard c.if-answer-ne0.false in
+    let here = began_in (λ p o i b r. given.F-step g p o i b r) (λ x o i t. given.S-step g x o i tt t) mode base idle f s in
+    let no = no_leads here (stands_at here c.cells.predicate q so) found.result (seen found.new.seat) found.ensures.goes heard c.if-answer-ne0.false in
     let next = c.passed_next-cell.ensures.next in
     let past = c.if-cell-capacity.true in
     subst (λ (a : After Recover ReleaseState). LedTo (λ p o i b r. given.F-step g p o i b r)
@@ -101,11 +94,8 @@ cells-preserved g c =
       stays = stays_then so_far.stays found.ensures.stays;
       within = omega arith;
       goes = λ base f s q idle began. let so = so_far.goes base f s q idle began in
-          let no =
-          no_leads (λ p o i b r. given.F-step g p o i b r) (λ x o i t. given.S-step g x o i tt t) mode base idle f s
-          (seen c.cells.seat) (seen found.new.seat)
-          c.args.capacity c.cells.cell found.result found.ensures.goes c.cells.predicate q so
-          asked.result asked.new.predicate heard c.if-answer-ne0.false in
+          let here = began_in (λ p o i b r. given.F-step g p o i b r) (λ x o i t. given.S-step g x o i tt t) mode base idle f s in
+          let no = no_leads here (stands_at here c.cells.predicate q so) found.result (seen found.new.seat) found.ensures.goes heard c.if-answer-ne0.false in
           subst (λ (a : After Recover ReleaseState). LedTo (λ p o i b r. given.F-step g p o i b r)
           (λ x o i t. given.S-step g x o i tt t) base.capacity mode base f s (seen found.new.seat)
           a asked.new.predicate q) after

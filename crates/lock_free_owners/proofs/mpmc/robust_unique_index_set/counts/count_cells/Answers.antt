@@ -3,7 +3,7 @@
 use Rattle.lock_free_owners.proofs.Names.{◌∙◌, sym, subst, seen}
 use Rattle.steps.specs.declared.indices.robust.looks.BorrowedIndices.{BorrowedIndices}
 use Rattle.lock_free_owners.specs.Robust.Turns.{CountAt, CountEnds}
-use Rattle.lock_free_owners.proofs.RobustSet.Turns.{stays_then, gone_on, has_ended, loads_next, loads}
+use Rattle.lock_free_owners.proofs.RobustSet.Turns.{stays_then, gone_on, has_ended, loads_next}
 use Rattle.lock_free_owners.proofs.mpmc.robust_unique_index_set.counts.count_cells.Goals as goal
 
 -- the step of the count is about to be taken at a cell of the set
@@ -15,28 +15,21 @@ pub cells-preserved : goal.cells-preserved
 cells-preserved c =
     let so_far = c.cells.invariant in
     let called = c.step_count in
-    let here = loads c.args.capacity c.args.counter c.cells.cell c.cells.found c.cells.cell c.cells.found in
-    let next = loads_next c.args.capacity c.args.counter c.cells.cell c.cells.found called.ensures.after.0 _ c.in-LoadsCell.index c.in-LoadsCell.filled
-    c.in-GoOn.next
+    let next = loads_next c.args.capacity c.args.counter c.cells.cell c.cells.found called.ensures.after.0
     (sym called.ensures.after.1 ∙ c.in-GoOn.is) c.in-LoadsCell.is in (
       stays_then so_far.0 called.ensures.stays,
       λ base at. subst (λ (d : BorrowedIndices). CountAt base (seen called.new.seat) d tt) next.0
-          (gone_on CountAt CountEnds base (seen c.cells.seat) (seen called.new.seat) here c.in-GoOn.next called.result called.ensures.goes
-          c.in-GoOn.is (so_far.1 base at)),
+          (gone_on CountAt CountEnds called.ensures.goes c.in-GoOn.is (so_far.1 base at)),
     )
 
 -- where a step leads the count to another stage, clause `goes` holds
 pub returns-in_default-clause-goes : goal.returns-in_default-clause-goes
 returns-in_default-clause-goes c base at =
     let called = c.step_count in
-    gone_on CountAt CountEnds base (seen c.cells.seat) (seen called.new.seat)
-    (loads c.args.capacity c.args.counter c.cells.cell c.cells.found c.cells.cell c.cells.found) c.in-GoOn.next called.result called.ensures.goes
-    c.in-GoOn.is (c.cells.invariant.1 base at)
+    gone_on CountAt CountEnds called.ensures.goes c.in-GoOn.is (c.cells.invariant.1 base at)
 
 -- where a step ends the count, clause `goes` holds of its end
 pub returns-in-Done-clause-goes : goal.returns-in-Done-clause-goes
 returns-in-Done-clause-goes c base at =
     let called = c.step_count in
-    has_ended CountAt CountEnds base (seen c.cells.seat) (seen called.new.seat)
-    (loads c.args.capacity c.args.counter c.cells.cell c.cells.found c.cells.cell c.cells.found) c.in-Done.end called.result called.ensures.goes
-    c.in-Done.is (c.cells.invariant.1 base at)
+    has_ended CountAt CountEnds called.ensures.goes c.in-Done.is (c.cells.invariant.1 base at)

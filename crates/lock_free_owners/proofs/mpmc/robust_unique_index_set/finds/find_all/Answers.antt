@@ -3,17 +3,28 @@
 -- clause `ends`.
 use Rattle.lock_free_owners.proofs.Names.{refl, subst, seen}
 use Rattle.lock_free_owners.specs.Robust.Finding.{GoesDown, Onward}
-use Rattle.lock_free_owners.proofs.RobustSet.Finding.{starts, may_go}
+use Rattle.lock_free_owners.proofs.RobustSet.Finding.{FindCase, starts, may_go}
 use Rattle.lock_free_owners.proofs.RobustSet.Turns.{stays_then}
+use Rattle.lock_free_owners.proofs.mpmc.robust_unique_index_set.finds.find_all.Goals.{Start}
 use Rattle.lock_free_owners.proofs.mpmc.robust_unique_index_set.finds.find_all.Goals as goal
 use Rattle.lock_free_owners.proofs.mpmc.robust_unique_index_set.finds.find_all.Given as given
+
+-- The find that this function makes.
+abbrev find : (g : given.Over) (c : Start g) → FindCase g.row.F.Denot
+find g c =
+    record {
+      step = λ p x a q. given.F-step g p x a q;
+      capacity = c.args.capacity;
+      owner = c.args.owner;
+      base = seen c.args.seat.now;
+      visit = c.args.visit.now;
+    }
 
 -- the invariant of the loop holds before its first iteration
 pub loop-next-init : goal.loop-next-init
 loop-next-init g c = (
   record { same = (refl, refl, refl); board = c.requires.ready.board },
-  starts (λ p x a q. given.F-step g p x a q) c.args.capacity c.args.owner (seen c.args.seat.now) c.args.visit.now c.new-call.result c.new-call.ensures
-      c.requires.ready.known c.requires.ready.may_step c.requires.places,
+  starts (find g (goal.at.loop-next-init g c).Start) c.new-call.ensures c.requires.ready.known c.requires.ready.may_step c.requires.places,
 )
 
 -- the find may take its next turn: its stage is one that there is, and the closure may be called there
@@ -21,8 +32,7 @@ pub find_next-requires-clause-may_turn : goal.find_next-requires-clause-may_turn
 find_next-requires-clause-may_turn g c =
     record {
       standing = c.loop-next.invariant.1.standing;
-      asks = may_go (λ p x a q. given.F-step g p x a q) c.args.capacity c.args.owner (seen c.args.seat.now) c.args.visit.now (seen c.loop-next.seat)
-          c.loop-next.call c.loop-next.visit c.requires.asks c.loop-next.invariant.1;
+      asks = may_go (find g (goal.at.find_next-requires-clause-may_turn g c).Start) c.requires.asks c.loop-next.invariant.1;
     }
 
 pub loop-next-smaller : goal.loop-next-smaller

@@ -27,7 +27,7 @@ returns-after-yes-clause-goes g c =
       k,
       λ base visits idle at. subst (λ (a : After Recover ReleaseState). Next (λ (z : View ℕ). z.capacity) (RecoverAt c.args.mode)
           (RecoverEnds c.args.mode) base a (visits_after c.args.call visits k) (seen c.args.seat.now)) (sym goes)
-          (said_goes c.args.mode base (seen c.args.seat.now) c.args.call visits c.in-Asks.index c.in-Asks.owner c.in-Asks.is c.ask-yes.result at),
+          (said_goes c.args.mode c.in-Asks.is c.ask-yes.result at),
       subst (λ (stage : RecoverStage). RecoverMoves (λ p o i b q. given.F-step g p o i b q)
           (λ s o i t. given.S-step g s o i tt t) c.args.call c.args.mode stage k
           c.args.predicate.now c.args.recovered.now c.take.result c.ask-yes.new.predicate c.args.recovered.now) (sym c.in-Asks.is)

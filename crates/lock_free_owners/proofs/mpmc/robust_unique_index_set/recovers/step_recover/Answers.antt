@@ -13,10 +13,12 @@ pub step_telling-requires-clause-owes : goal.step_telling-requires-clause-owes
 step_telling-requires-clause-owes c =
     let s = c.args.seat.now in
     let at = c.requires.at in
-    let owed = recover_tells one_word c.args.mode at.0 (seen s) c.args.call at.1 (key_of s) (table_of s).words (table_of s).slots s.seat.id
+    let table = table_of s in
+    let tells = recover_tells one_word c.args.mode at.0 (seen s) c.args.call at.1 in
+    let owed = tells (key_of s) table.words table.slots s.seat.id
     (c.requires.board.0 ∙ ap (λ k. size k + 1) (sym c.requires.board.1)) (sym c.requires.board.1) at.2 at.3 in
     subst (λ (xs : List (ℕ × Unit {0})). Owes (λ (z : View ℕ). z.asked) (IsMachine one_word kinds.Robust (key_of s))
-    (table_of s).words (table_of s).slots s.seat.id
+    table.words table.slots s.seat.id
     (RecoverTells c.args.mode c.args.call) (recover_want c.args.call) (seen s, xs)) (sym s.bare) owed
 
 -- a step of the recovery leaves the capacity that the pass knows (requirement `capacity`)

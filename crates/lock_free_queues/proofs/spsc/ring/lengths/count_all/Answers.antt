@@ -10,7 +10,7 @@ count_on-requires-clause-at g c =
     let base = seen c.args.seat.now in
     let once = c.count_once-once in
     let code : Coding g.row.T.Denot = coding_by g.T.Words in
-    (base, gone_on code g.E.Kind.KIND g.W.Measure.WHICH base (seen once.new.seat) once.result once.ensures.goes c.in-GoOn.next c.in-GoOn.is)
+    (base, gone_on code g.E.Kind.KIND g.W.Measure.WHICH base (seen once.new.seat) c.in-GoOn.is once.ensures.goes)
 
 -- where the answer is `GoOn`, its return meets the clause `ends`
 pub returns-in-GoOn-clause-ends : goal.returns-in-GoOn-clause-ends
@@ -19,12 +19,11 @@ returns-in-GoOn-clause-ends g c =
     let once = c.count_once-once in
     let code : Coding g.row.T.Denot = coding_by g.T.Words in
     c.count_on.ensures.ends base
-    (gone_on code g.E.Kind.KIND g.W.Measure.WHICH base (seen once.new.seat) once.result once.ensures.goes c.in-GoOn.next c.in-GoOn.is)
+    (gone_on code g.E.Kind.KIND g.W.Measure.WHICH base (seen once.new.seat) c.in-GoOn.is once.ensures.goes)
 
 -- where the answer is `Done`, its return meets the clause `ends`
 pub returns-in-Done-clause-ends : goal.returns-in-Done-clause-ends
 returns-in-Done-clause-ends g c =
     let once = c.count_once-once in
     let code : Coding g.row.T.Denot = coding_by g.T.Words in
-    has_ended code g.E.Kind.KIND g.W.Measure.WHICH (seen c.args.seat.now) (seen once.new.seat) once.result once.ensures.goes c.in-Done.number
-    c.in-Done.is
+    has_ended code g.E.Kind.KIND g.W.Measure.WHICH (seen c.args.seat.now) (seen once.new.seat) c.in-Done.is once.ensures.goes

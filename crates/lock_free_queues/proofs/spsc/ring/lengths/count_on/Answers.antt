@@ -17,8 +17,8 @@ loop-preserved g c =
     let code : Coding g.row.T.Denot = coding_by g.T.Words in (
       (called.ensures.same.0 ∙ so_far.0.0, called.ensures.same.1 ∙ so_far.0.1, called.ensures.same.2 ∙ so_far.0.2),
       called.ensures.board,
-      λ base at. gone_on code g.E.Kind.KIND g.W.Measure.WHICH base (seen called.new.seat) called.result
-          (called.ensures.goes base (so_far.2 base at)) c.in-GoOn.next c.in-GoOn.is,
+      λ base at. gone_on code g.E.Kind.KIND g.W.Measure.WHICH base (seen called.new.seat) c.in-GoOn.is
+          (called.ensures.goes base (so_far.2 base at)),
     )
 
 -- where the answer is `Done`, its return meets the clause `ends`
@@ -26,5 +26,5 @@ pub returns-in-Done-clause-ends : goal.returns-in-Done-clause-ends
 returns-in-Done-clause-ends g c base at =
     let called = c.step_count in
     let code : Coding g.row.T.Denot = coding_by g.T.Words in
-    has_ended code g.E.Kind.KIND g.W.Measure.WHICH base (seen called.new.seat) called.result
-    (called.ensures.goes base (c.loop.invariant.2 base at)) c.in-Done.number c.in-Done.is
+    has_ended code g.E.Kind.KIND g.W.Measure.WHICH base (seen called.new.seat) c.in-Done.is
+    (called.ensures.goes base (c.loop.invariant.2 base at))

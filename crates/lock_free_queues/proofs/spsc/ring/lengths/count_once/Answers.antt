@@ -14,7 +14,7 @@ returns-in-Done-clause-goes g c =
     let base = seen c.args.seat.now in
     let a = c.step_count-one in
     let code : Coding g.row.T.Denot = coding_by g.T.Words in
-    has_ended code g.E.Kind.KIND g.W.Measure.WHICH base (seen a.new.seat) a.result (a.ensures.goes base c.requires.at) c.in-Done.number c.in-Done.is
+    has_ended code g.E.Kind.KIND g.W.Measure.WHICH base (seen a.new.seat) c.in-Done.is (a.ensures.goes base c.requires.at)
 
 -- its second call of `step_count` meets the requirement `at`
 pub step_count-two-requires-clause-at : goal.step_count-two-requires-clause-at
@@ -22,7 +22,7 @@ step_count-two-requires-clause-at g c =
     let base = seen c.args.seat.now in
     let a = c.step_count-one in
     let code : Coding g.row.T.Denot = coding_by g.T.Words in
-    (base, gone_on code g.E.Kind.KIND g.W.Measure.WHICH base (seen a.new.seat) a.result (a.ensures.goes base c.requires.at) c.in-GoOn.next c.in-GoOn.is)
+    (base, gone_on code g.E.Kind.KIND g.W.Measure.WHICH base (seen a.new.seat) c.in-GoOn.is (a.ensures.goes base c.requires.at))
 
 -- where the second answer is `Done`, its return meets the clause `goes`
 pub returns-in-Done-two-clause-goes : goal.returns-in-Done-two-clause-goes
@@ -31,8 +31,8 @@ returns-in-Done-two-clause-goes g c =
     let a = c.step_count-one in
     let b = c.step_count-two in
     let code : Coding g.row.T.Denot = coding_by g.T.Words in
-    let at = gone_on code g.E.Kind.KIND g.W.Measure.WHICH base (seen a.new.seat) a.result (a.ensures.goes base c.requires.at) c.in-GoOn.next c.in-GoOn.is in
-    has_ended code g.E.Kind.KIND g.W.Measure.WHICH base (seen b.new.seat) b.result (b.ensures.goes base at) c.in-Done-two.number c.in-Done-two.is
+    let at = gone_on code g.E.Kind.KIND g.W.Measure.WHICH base (seen a.new.seat) c.in-GoOn.is (a.ensures.goes base c.requires.at) in
+    has_ended code g.E.Kind.KIND g.W.Measure.WHICH base (seen b.new.seat) c.in-Done-two.is (b.ensures.goes base at)
 
 -- its third call of `step_count` meets the requirement `at`
 pub step_count-three-requires-clause-at : goal.step_count-three-requires-clause-at
@@ -41,8 +41,8 @@ step_count-three-requires-clause-at g c =
     let a = c.step_count-one in
     let b = c.step_count-two in
     let code : Coding g.row.T.Denot = coding_by g.T.Words in
-    let at = gone_on code g.E.Kind.KIND g.W.Measure.WHICH base (seen a.new.seat) a.result (a.ensures.goes base c.requires.at) c.in-GoOn.next c.in-GoOn.is in
-    (base, gone_on code g.E.Kind.KIND g.W.Measure.WHICH base (seen b.new.seat) b.result (b.ensures.goes base at) c.in-GoOn-two.next c.in-GoOn-two.is)
+    let at = gone_on code g.E.Kind.KIND g.W.Measure.WHICH base (seen a.new.seat) c.in-GoOn.is (a.ensures.goes base c.requires.at) in
+    (base, gone_on code g.E.Kind.KIND g.W.Measure.WHICH base (seen b.new.seat) c.in-GoOn-two.is (b.ensures.goes base at))
 
 -- where the third answer is `Done`, its return meets the clause `goes`
 pub returns-in-Done-three-clause-goes : goal.returns-in-Done-three-clause-goes
@@ -52,9 +52,9 @@ returns-in-Done-three-clause-goes g c =
     let b = c.step_count-two in
     let d = c.step_count-three in
     let code : Coding g.row.T.Denot = coding_by g.T.Words in
-    let at = gone_on code g.E.Kind.KIND g.W.Measure.WHICH base (seen a.new.seat) a.result (a.ensures.goes base c.requires.at) c.in-GoOn.next c.in-GoOn.is in
-    let then = gone_on code g.E.Kind.KIND g.W.Measure.WHICH base (seen b.new.seat) b.result (b.ensures.goes base at) c.in-GoOn-two.next c.in-GoOn-two.is in
-    has_ended code g.E.Kind.KIND g.W.Measure.WHICH base (seen d.new.seat) d.result (d.ensures.goes base then) c.in-Done-three.number c.in-Done-three.is
+    let at = gone_on code g.E.Kind.KIND g.W.Measure.WHICH base (seen a.new.seat) c.in-GoOn.is (a.ensures.goes base c.requires.at) in
+    let then = gone_on code g.E.Kind.KIND g.W.Measure.WHICH base (seen b.new.seat) c.in-GoOn-two.is (b.ensures.goes base at) in
+    has_ended code g.E.Kind.KIND g.W.Measure.WHICH base (seen d.new.seat) c.in-Done-three.is (d.ensures.goes base then)
 
 -- its call of `step_count` meets the requirement `at`
 pub step_count-requires-clause-at : goal.step_count-requires-clause-at
@@ -64,9 +64,9 @@ step_count-requires-clause-at g c =
     let b = c.step_count-two in
     let d = c.step_count-three in
     let code : Coding g.row.T.Denot = coding_by g.T.Words in
-    let at = gone_on code g.E.Kind.KIND g.W.Measure.WHICH base (seen a.new.seat) a.result (a.ensures.goes base c.requires.at) c.in-GoOn.next c.in-GoOn.is in
-    let then = gone_on code g.E.Kind.KIND g.W.Measure.WHICH base (seen b.new.seat) b.result (b.ensures.goes base at) c.in-GoOn-two.next c.in-GoOn-two.is in
-    (base, gone_on code g.E.Kind.KIND g.W.Measure.WHICH base (seen d.new.seat) d.result (d.ensures.goes base then) c.in-GoOn-three.next c.in-GoOn-three.is)
+    let at = gone_on code g.E.Kind.KIND g.W.Measure.WHICH base (seen a.new.seat) c.in-GoOn.is (a.ensures.goes base c.requires.at) in
+    let then = gone_on code g.E.Kind.KIND g.W.Measure.WHICH base (seen b.new.seat) c.in-GoOn-two.is (b.ensures.goes base at) in
+    (base, gone_on code g.E.Kind.KIND g.W.Measure.WHICH base (seen d.new.seat) c.in-GoOn-three.is (d.ensures.goes base then))
 
 -- its return meets the clause `goes`
 pub returns-clause-goes : goal.returns-clause-goes
@@ -76,7 +76,7 @@ returns-clause-goes g c =
     let b = c.step_count-two in
     let d = c.step_count-three in
     let code : Coding g.row.T.Denot = coding_by g.T.Words in
-    let at = gone_on code g.E.Kind.KIND g.W.Measure.WHICH base (seen a.new.seat) a.result (a.ensures.goes base c.requires.at) c.in-GoOn.next c.in-GoOn.is in
-    let then = gone_on code g.E.Kind.KIND g.W.Measure.WHICH base (seen b.new.seat) b.result (b.ensures.goes base at) c.in-GoOn-two.next c.in-GoOn-two.is in
+    let at = gone_on code g.E.Kind.KIND g.W.Measure.WHICH base (seen a.new.seat) c.in-GoOn.is (a.ensures.goes base c.requires.at) in
+    let then = gone_on code g.E.Kind.KIND g.W.Measure.WHICH base (seen b.new.seat) c.in-GoOn-two.is (b.ensures.goes base at) in
     c.step_count.ensures.goes base
-    (gone_on code g.E.Kind.KIND g.W.Measure.WHICH base (seen d.new.seat) d.result (d.ensures.goes base then) c.in-GoOn-three.next c.in-GoOn-three.is)
+    (gone_on code g.E.Kind.KIND g.W.Measure.WHICH base (seen d.new.seat) c.in-GoOn-three.is (d.ensures.goes base then))

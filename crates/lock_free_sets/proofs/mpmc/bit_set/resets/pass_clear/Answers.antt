@@ -20,8 +20,7 @@ places-preserved c =
       (called.ensures.same.0 ∙ so_far.0.0, called.ensures.same.1 ∙ so_far.0.1, called.ensures.same.2 ∙ so_far.0.2),
       called.ensures.board,
       λ base at. subst (λ (d : ResetNext). ResetAt base (seen called.new.seat) d tt) next.0
-          (gone_on (seen c.places.seat) (seen called.new.seat) here called.result called.ensures.goes base c.in-GoOn.next
-          c.in-GoOn.is (so_far.2 base at)),
+          (gone_on (seen c.places.seat) (seen called.new.seat) here c.in-GoOn.is called.ensures.goes (so_far.2 base at)),
     )
 
 -- where a step has led to another stage, clause `goes` holds of that stage
@@ -29,11 +28,11 @@ pub returns-in_default-clause-goes : goal.returns-in_default-clause-goes
 returns-in_default-clause-goes c base at =
     let called = c.step_reset in
     gone_on (seen c.places.seat) (seen called.new.seat) (loads c.args.capacity c.args.start c.places.so_many c.places.so_many)
-    called.result called.ensures.goes base c.in-GoOn.next c.in-GoOn.is (c.places.invariant.2 base at)
+    c.in-GoOn.is called.ensures.goes (c.places.invariant.2 base at)
 
 -- where the step has ended the call, clause `goes` holds of its end
 pub returns-in-Done-clause-goes : goal.returns-in-Done-clause-goes
 returns-in-Done-clause-goes c base at =
     let called = c.step_reset in
     has_ended (seen c.places.seat) (seen called.new.seat) (loads c.args.capacity c.args.start c.places.so_many c.places.so_many)
-    called.result called.ensures.goes base c.in-Done.end c.in-Done.is (c.places.invariant.2 base at)
+    c.in-Done.is called.ensures.goes (c.places.invariant.2 base at)

@@ -12,7 +12,7 @@ pub reset_on-requires-clause-at : goal.reset_on-requires-clause-at
 reset_on-requires-clause-at g c =
     let base = seen c.args.seat.now in
     let once = c.reset_once-once in
-    (base, gone_on base (seen once.new.seat) c.args.first once.result once.ensures.goes base c.in-GoOn.next c.in-GoOn.is c.requires.at)
+    (base, gone_on base (seen once.new.seat) c.args.first c.in-GoOn.is once.ensures.goes c.requires.at)
 
 -- a reset that goes on after `reset_once` ends as clause `ends` says
 pub returns-in-GoOn-clause-ends : goal.returns-in-GoOn-clause-ends
@@ -20,11 +20,11 @@ returns-in-GoOn-clause-ends g c =
     let base = seen c.args.seat.now in
     let once = c.reset_once-once in
     c.reset_on.ensures.ends base
-    (gone_on base (seen once.new.seat) c.args.first once.result once.ensures.goes base c.in-GoOn.next c.in-GoOn.is c.requires.at)
+    (gone_on base (seen once.new.seat) c.args.first c.in-GoOn.is once.ensures.goes c.requires.at)
 
 -- where a step has ended the call, its end is as clause `ends` says
 pub returns-in-Done-clause-ends : goal.returns-in-Done-clause-ends
 returns-in-Done-clause-ends g c =
     let base = seen c.args.seat.now in
     let once = c.reset_once-once in
-    has_ended base (seen once.new.seat) c.args.first once.result once.ensures.goes base c.in-Done.end c.in-Done.is c.requires.at
+    has_ended base (seen once.new.seat) c.args.first c.in-Done.is once.ensures.goes c.requires.at

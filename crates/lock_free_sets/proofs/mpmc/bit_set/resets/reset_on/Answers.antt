@@ -15,13 +15,12 @@ loop-preserved g c =
     let called = c.reset_turn-after in (
       (called.ensures.same.0 ∙ so_far.0.0, called.ensures.same.1 ∙ so_far.0.1, called.ensures.same.2 ∙ so_far.0.2),
       called.ensures.board,
-      λ base at. gone_on (seen c.loop.seat) (seen called.new.seat) c.loop.call called.result called.ensures.goes base c.in-GoOn.next
-          c.in-GoOn.is (so_far.2 base at),
+      λ base at. gone_on (seen c.loop.seat) (seen called.new.seat) c.loop.call c.in-GoOn.is called.ensures.goes (so_far.2 base at),
     )
 
 -- where a step has ended the call, its end is as clause `ends` says
 pub returns-in-Done-clause-ends : goal.returns-in-Done-clause-ends
 returns-in-Done-clause-ends g c base at =
     let called = c.reset_turn-after in
-    has_ended (seen c.loop.seat) (seen called.new.seat) c.loop.call called.result called.ensures.goes base c.in-Done.end c.in-Done.is
+    has_ended (seen c.loop.seat) (seen called.new.seat) c.loop.call c.in-Done.is called.ensures.goes
     (c.loop.invariant.2 base at)

@@ -7,29 +7,29 @@ use Rattle.lock_free_sets.proofs.mpmc.bit_set.resets.reset_once.Goals as goal
 pub returns-in-Done-clause-goes : goal.returns-in-Done-clause-goes
 returns-in-Done-clause-goes c base at =
     let a = c.step_reset-loaded in
-    has_ended (seen c.args.seat.now) (seen a.new.seat) c.args.first a.result a.ensures.goes base c.in-Done.end c.in-Done.is at
+    has_ended (seen c.args.seat.now) (seen a.new.seat) c.args.first c.in-Done.is a.ensures.goes at
 
 -- after its first step the reset is under way (requirement `at`)
 pub reset_turn-came-requires-clause-at : goal.reset_turn-came-requires-clause-at
 reset_turn-came-requires-clause-at c =
     let a = c.step_reset-loaded in
-    may_go_on (seen c.args.seat.now) (seen a.new.seat) c.args.first a.result a.ensures.goes c.in-GoOn.next c.in-GoOn.is c.requires.at
+    may_go_on (seen c.args.seat.now) (seen a.new.seat) c.args.first c.in-GoOn.is a.ensures.goes c.requires.at
 
 -- where the steps past clear flags have ended the reset, clause `goes` holds of its end
 pub returns-in-Done-came-clause-goes : goal.returns-in-Done-came-clause-goes
 returns-in-Done-came-clause-goes c base at =
     let a = c.step_reset-loaded in
     let b = c.reset_turn-came in
-    has_ended (seen a.new.seat) (seen b.new.seat) c.in-GoOn.next b.result b.ensures.goes base c.in-Done-came.end c.in-Done-came.is
-    (gone_on (seen c.args.seat.now) (seen a.new.seat) c.args.first a.result a.ensures.goes base c.in-GoOn.next c.in-GoOn.is at)
+    has_ended (seen a.new.seat) (seen b.new.seat) c.in-GoOn.next c.in-Done-came.is b.ensures.goes
+    (gone_on (seen c.args.seat.now) (seen a.new.seat) c.args.first c.in-GoOn.is a.ensures.goes at)
 
 -- after the steps past clear flags the reset is under way
 pub step_reset-taken-requires-clause-at : goal.step_reset-taken-requires-clause-at
 step_reset-taken-requires-clause-at c =
     let a = c.step_reset-loaded in
     let b = c.reset_turn-came in
-    may_go_on (seen a.new.seat) (seen b.new.seat) c.in-GoOn.next b.result b.ensures.goes c.in-GoOn-came.next c.in-GoOn-came.is
-    (may_go_on (seen c.args.seat.now) (seen a.new.seat) c.args.first a.result a.ensures.goes c.in-GoOn.next c.in-GoOn.is c.requires.at)
+    may_go_on (seen a.new.seat) (seen b.new.seat) c.in-GoOn.next c.in-GoOn-came.is b.ensures.goes
+    (may_go_on (seen c.args.seat.now) (seen a.new.seat) c.args.first c.in-GoOn.is a.ensures.goes c.requires.at)
 
 -- where the exchange of a flag has ended the reset, clause `goes` holds of its end
 pub returns-in-Done-taken-clause-goes : goal.returns-in-Done-taken-clause-goes
@@ -37,9 +37,9 @@ returns-in-Done-taken-clause-goes c base at =
     let a = c.step_reset-loaded in
     let b = c.reset_turn-came in
     let d = c.step_reset-taken in
-    has_ended (seen b.new.seat) (seen d.new.seat) c.in-GoOn-came.next d.result d.ensures.goes base c.in-Done-taken.end c.in-Done-taken.is
-    (gone_on (seen a.new.seat) (seen b.new.seat) c.in-GoOn.next b.result b.ensures.goes base c.in-GoOn-came.next c.in-GoOn-came.is
-    (gone_on (seen c.args.seat.now) (seen a.new.seat) c.args.first a.result a.ensures.goes base c.in-GoOn.next c.in-GoOn.is at))
+    has_ended (seen b.new.seat) (seen d.new.seat) c.in-GoOn-came.next c.in-Done-taken.is d.ensures.goes
+    (gone_on (seen a.new.seat) (seen b.new.seat) c.in-GoOn.next c.in-GoOn-came.is b.ensures.goes
+    (gone_on (seen c.args.seat.now) (seen a.new.seat) c.args.first c.in-GoOn.is a.ensures.goes at))
 
 -- after the exchange of a flag the reset is under way
 pub step_reset-requires-clause-at : goal.step_reset-requires-clause-at
@@ -47,9 +47,9 @@ step_reset-requires-clause-at c =
     let a = c.step_reset-loaded in
     let b = c.reset_turn-came in
     let d = c.step_reset-taken in
-    may_go_on (seen b.new.seat) (seen d.new.seat) c.in-GoOn-came.next d.result d.ensures.goes c.in-GoOn-taken.next c.in-GoOn-taken.is
-    (may_go_on (seen a.new.seat) (seen b.new.seat) c.in-GoOn.next b.result b.ensures.goes c.in-GoOn-came.next c.in-GoOn-came.is
-    (may_go_on (seen c.args.seat.now) (seen a.new.seat) c.args.first a.result a.ensures.goes c.in-GoOn.next c.in-GoOn.is c.requires.at))
+    may_go_on (seen b.new.seat) (seen d.new.seat) c.in-GoOn-came.next c.in-GoOn-taken.is d.ensures.goes
+    (may_go_on (seen a.new.seat) (seen b.new.seat) c.in-GoOn.next c.in-GoOn-came.is b.ensures.goes
+    (may_go_on (seen c.args.seat.now) (seen a.new.seat) c.args.first c.in-GoOn.is a.ensures.goes c.requires.at))
 
 -- the last step leads the reset on as clause `goes` says
 pub returns-clause-goes : goal.returns-clause-goes
@@ -58,6 +58,6 @@ returns-clause-goes c base at =
     let b = c.reset_turn-came in
     let d = c.step_reset-taken in
     c.step_reset.ensures.goes base
-    (gone_on (seen b.new.seat) (seen d.new.seat) c.in-GoOn-came.next d.result d.ensures.goes base c.in-GoOn-taken.next c.in-GoOn-taken.is
-    (gone_on (seen a.new.seat) (seen b.new.seat) c.in-GoOn.next b.result b.ensures.goes base c.in-GoOn-came.next c.in-GoOn-came.is
-    (gone_on (seen c.args.seat.now) (seen a.new.seat) c.args.first a.result a.ensures.goes base c.in-GoOn.next c.in-GoOn.is at)))
+    (gone_on (seen b.new.seat) (seen d.new.seat) c.in-GoOn-came.next c.in-GoOn-taken.is d.ensures.goes
+    (gone_on (seen a.new.seat) (seen b.new.seat) c.in-GoOn.next c.in-GoOn-came.is b.ensures.goes
+    (gone_on (seen c.args.seat.now) (seen a.new.seat) c.args.first c.in-GoOn.is a.ensures.goes at)))

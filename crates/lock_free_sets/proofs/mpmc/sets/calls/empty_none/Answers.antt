@@ -6,7 +6,7 @@ use Rattle.steps.specs.declared.ask.Op.TheVariants.{Load}
 use Rattle.threaded.specs.Seats.{table_of, key_of}
 use Rattle.lock_free_sets.specs.Sets.Kinds.{SetKind, machine_kind}
 use Rattle.lock_free_sets.specs.Sets.Stages.{empties_none}
-use Rattle.lock_free_sets.proofs.Ends.{done, has_made}
+use Rattle.lock_free_sets.proofs.Ends.{done, made_by}
 use Rattle.lock_free_sets.proofs.Sets.Emptying.{owes_none}
 use Rattle.lock_free_sets.proofs.Steps.{none_takes}
 use Rattle.lock_free_sets.proofs.mpmc.sets.calls.empty_none.Goals as goal
@@ -40,8 +40,7 @@ returns-clause-done g c =
 pub returns-clause-called : goal.returns-clause-called
 returns-clause-called g c =
     let ends = c.look.ensures.told in
-    has_made (machine_kind g.E.Kind.KIND) (empties_none g.E.Kind.KIND) (seen c.args.seated.now) c.look.new.self.seat.me.0 tt
-    (record { 0 = 0 }) ends c.requires.idle.idle (λ by. []) ends.tells
+    made_by ends c.requires.idle.idle (λ by. []) ends.tells
 
 -- the operations that the call has asked for are within clause `steps`
 pub returns-clause-steps : goal.returns-clause-steps

@@ -1,6 +1,6 @@
 -- `Pass::join` (src/mpmc/unique_index_set/passes.rt): its call of `join` meets the requirement `joins`, that of `look` the requirement
 -- `owes`, `self` meets the invariants `sound`, `done` and `knows`, and its return meets the clauses `apart` and `same`.
-use Rattle.lock_free_sets.proofs.Names.{◌≡◌, ◌<◌, ℕ, ◌++◌, rules, sym, ap, subst, ◌∙◌, arith, TableId, one_word, View, seen}
+use Rattle.lock_free_sets.proofs.Names.{◌≡◌, ◌<◌, ℕ, ◌++◌, rules, sym, ap, subst, ◌∙◌, arith, TableId, one_word, View}
 use Rattle.lock_free_sets.proofs.Names.{joined_view, Looks, IsAll, joins}
 use Rattle.model.specs.declared.turn.Kind.TheVariants as kinds
 use Rattle.history.specs.History.{Knows}
@@ -31,7 +31,7 @@ look-requires-clause-owes c =
     let key : key_of s ≡ key_of mine.seated = search rules in
     let more = positive v.share.part w.share.parts mine.some.0 c.args.other.some.1 in
     let some : 0 < (joined_view v w).share.part = omega arith in
-    look_owed kinds.Indices (table_of s).words (table_of s).slots s.seat.id 0 (key_of s) (joined_view v w) (seen s) s.seat.me.1
+    look_owed kinds.Indices (table_of s).words (table_of s).slots s.seat.id 0
     below c.join.ensures.joined s.bare (mine.known ∙ (sym mine.keyed ∙ sym key)) mine.idle some
 
 -- the joined pass keeps its invariant `sound`: its claims and frees fit those of a set

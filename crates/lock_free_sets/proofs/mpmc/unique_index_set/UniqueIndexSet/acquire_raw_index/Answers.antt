@@ -60,5 +60,4 @@ returns-clause-refused g c =
 pub returns-clause-steps : goal.returns-clause-steps
 returns-clause-steps g c =
     let mine = c.args.pass.now in
-    indices_take takes_index (seen mine.seated) (seen c.drive_on.new.self) c.drive_on.result tt mine.idle _
-    (same_size c.args.self.now mine c.requires) (omega arith) c.drive_on.ensures.end
+    indices_take mine.idle (same_size c.args.self.now mine c.requires) c.drive_on.ensures.end (omega arith)

@@ -1,6 +1,6 @@
 -- `UniqueIndexSet::borrowed_indices` (src/mpmc/unique_index_set/calls.rt): its call of `drive` meets the requirements `rule` and `at`,
 -- `pass` meets the invariants `sound`, `done` and `knows`, and its return meets the clauses `same`, `counted` and `steps`.
-use Rattle.lock_free_sets.proofs.Names.{rules, arith, one_word, seen, counts_out}
+use Rattle.lock_free_sets.proofs.Names.{rules, arith, one_word, seen}
 use Rattle.history.proofs.IndexCalls.{count_keeps, count_first}
 use Rattle.lock_free_sets.proofs.Unique.Facts.{counted, knows_still, same_pass, same_size, sound_after}
 use Rattle.lock_free_sets.proofs.Unique.Whole.{borrowed_done, counted_done}
@@ -44,5 +44,4 @@ returns-clause-counted c =
 pub returns-clause-steps : goal.returns-clause-steps
 returns-clause-steps c =
     let mine = c.args.pass.now in
-    indices_take counts_out (seen mine.seated) (seen c.drive.new.self) c.drive.result tt mine.idle _
-    (same_size c.args.self.now mine c.requires) (omega arith) c.drive.ensures.end
+    indices_take mine.idle (same_size c.args.self.now mine c.requires) c.drive.ensures.end (omega arith)

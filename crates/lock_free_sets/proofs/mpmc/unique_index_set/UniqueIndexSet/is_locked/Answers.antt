@@ -1,6 +1,6 @@
 -- `UniqueIndexSet::is_locked` (src/mpmc/unique_index_set/calls.rt): its call of `drive` meets the requirements `rule` and `at`, `pass`
 -- meets the invariants `sound`, `done` and `knows`, and its return meets the clauses `same`, `looked` and `steps`.
-use Rattle.lock_free_sets.proofs.Names.{rules, arith, one_word, seen, looks_locked}
+use Rattle.lock_free_sets.proofs.Names.{rules, arith, one_word, seen}
 use Rattle.history.proofs.IndexCalls.{look_keeps, look_first}
 use Rattle.lock_free_sets.proofs.Unique.Facts.{looked, knows_still, same_pass, same_size, sound_after}
 use Rattle.lock_free_sets.proofs.Unique.Whole.{is_locked_done, looked_done}
@@ -43,5 +43,4 @@ returns-clause-looked c =
 pub returns-clause-steps : goal.returns-clause-steps
 returns-clause-steps c =
     let mine = c.args.pass.now in
-    indices_take looks_locked (seen mine.seated) (seen c.drive.new.self) c.drive.result tt mine.idle _
-    (same_size c.args.self.now mine c.requires) (omega arith) c.drive.ensures.end
+    indices_take mine.idle (same_size c.args.self.now mine c.requires) c.drive.ensures.end (omega arith)

@@ -52,5 +52,4 @@ returns-clause-given g c =
 pub returns-clause-steps : goal.returns-clause-steps
 returns-clause-steps g c =
     let mine = c.args.pass.now in
-    indices_take (gives_or_locks c.args.index) (seen mine.seated) (seen c.drive_on.new.self) c.drive_on.result tt mine.idle _
-    (same_size c.args.self.now mine c.requires.pass) (omega arith) c.drive_on.ensures.end
+    indices_take mine.idle (same_size c.args.self.now mine c.requires.pass) c.drive_on.ensures.end (omega arith)

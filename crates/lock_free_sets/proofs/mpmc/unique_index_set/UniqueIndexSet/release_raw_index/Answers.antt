@@ -52,5 +52,4 @@ returns-clause-given c =
 pub returns-clause-steps : goal.returns-clause-steps
 returns-clause-steps c =
     let mine = c.args.pass.now in
-    indices_take (gives_index c.args.index) (seen mine.seated) (seen c.drive.new.self) c.drive.result tt mine.idle _
-    (same_size c.args.self.now mine c.requires.pass) (omega arith) c.drive.ensures.end
+    indices_take mine.idle (same_size c.args.self.now mine c.requires.pass) c.drive.ensures.end (omega arith)

@@ -4,7 +4,7 @@ use Rattle.lock_free_queues.proofs.Names.{◌<◌, ◌^◌, sym, ap, subst, ◌�
 use Rattle.lock_free_queues.proofs.Names.{IndexQueue, seen, At, peeks_index, peek_keep_all, peek_first}
 use Rattle.steps.specs.Queues.Peek.{first_peek}
 use Rattle.model.specs.declared.turn.Kind.TheVariants as kinds
-use Rattle.lock_free_queues.proofs.Queues.Indices.{index_of, in_room, index_peek}
+use Rattle.lock_free_queues.proofs.Queues.Indices.{index_of, index_peek}
 use Rattle.lock_free_queues.proofs.Queues.Peeks.{has_peeked}
 use Rattle.lock_free_queues.proofs.Queues.Sums.{peeked_moves}
 use Rattle.lock_free_queues.specs.Queues.Contracts.{HasPeeked}
@@ -31,8 +31,7 @@ returns-clause-peeked c =
     let x = seen mine.seated in
     let w = seen c.drive-end.new.self in
     subst (λ z. HasPeeked (option_map index_of z) x w) (sym c.answer.ensures)
-    (has_peeked one_word IndexQueue x w mine.idle tt index_of in_room peeks_index index_peek c.drive-end.result
-    c.drive-end.new.room c.drive-end.ensures.end)
+    (has_peeked one_word IndexQueue x w mine.idle tt index_peek c.drive-end.ensures.end)
 
 -- the call moves no role (clause `roles`)
 pub returns-clause-roles : goal.returns-clause-roles

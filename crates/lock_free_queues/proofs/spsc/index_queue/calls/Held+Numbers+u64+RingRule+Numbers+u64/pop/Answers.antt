@@ -5,7 +5,7 @@ use Rattle.lock_free_queues.proofs.Names.{IndexQueue, seen, of_indices, At, pops
 use Rattle.steps.specs.Queues.Ring.{first_pop, pop_answer}
 use Rattle.model.specs.declared.turn.Kind.TheVariants as kinds
 use Rattle.lock_free_queues.proofs.Queues.Ended.{has_popped, taken_if, empty_if}
-use Rattle.lock_free_queues.proofs.Queues.Indices.{index_of, in_room, index_pop}
+use Rattle.lock_free_queues.proofs.Queues.Indices.{index_of, index_pop}
 use Rattle.lock_free_queues.specs.Queues.Contracts.{HasPopped, HasTakenOut, WasEmpty}
 use Rattle.lock_free_queues.proofs.Queues.Paid.{pop_takes}
 use Rattle.lock_free_queues.proofs.spsc.index_queue.calls.Held+Numbers+u64+RingRule+Numbers+u64.pop.Goals as goal
@@ -30,8 +30,7 @@ returns-clause-popped c =
     let x = seen mine.seated in
     let w = seen c.drive-end.new.self in
     subst (λ z. HasPopped (option_map index_of z) x w) (sym c.answer.ensures)
-    (has_popped one_word IndexQueue x w mine.idle index_of in_room pops_index index_pop c.drive-end.result
-    c.drive-end.new.room c.drive-end.ensures.end)
+    (has_popped IndexQueue mine.idle index_pop c.drive-end.ensures.end)
 
 -- a pop that answers None found nothing waiting
 pub returns-clause-empty : goal.returns-clause-empty
@@ -43,7 +42,7 @@ returns-clause-empty c =
     let o = pop_answer c.drive-end.new.room.0 c.drive-end.result in
     subst (λ z. IfNone z (WasEmpty x w)) (sym c.answer.ensures)
     (empty_if one_word of_indices index_of x.capacity x w ends.history o
-    (has_popped one_word IndexQueue x w mine.idle index_of in_room pops_index index_pop c.drive-end.result c.drive-end.new.room ends))
+    (has_popped IndexQueue mine.idle index_pop ends))
 
 -- a pop that answers a number took it out right after all that was seen to be taken out
 pub returns-clause-taken : goal.returns-clause-taken
@@ -55,7 +54,7 @@ returns-clause-taken c =
     let o = pop_answer c.drive-end.new.room.0 c.drive-end.result in
     subst (λ z. IfSome z (λ k. HasTakenOut (Index k) x w)) (sym c.answer.ensures)
     (taken_if one_word of_indices index_of x.capacity x w ends.history o
-    (has_popped one_word IndexQueue x w mine.idle index_of in_room pops_index index_pop c.drive-end.result c.drive-end.new.room ends))
+    (has_popped IndexQueue mine.idle index_pop ends))
 
 -- the operations that the call has asked for are within clause `steps`
 pub returns-clause-steps : goal.returns-clause-steps

@@ -5,7 +5,7 @@ use Rattle.lock_free_queues.proofs.Names.{seen, of_indices, At, pushes_index, pu
 use Rattle.steps.specs.Queues.Ring.{first_push}
 use Rattle.model.specs.declared.turn.Kind.TheVariants as kinds
 use Rattle.lock_free_queues.proofs.Queues.Facts.{goes_over, aside_over}
-use Rattle.lock_free_queues.proofs.Queues.Ended.{pushed, published_if, full}
+use Rattle.lock_free_queues.proofs.Queues.Ended.{Pushes, pushed, published_if, full}
 use Rattle.lock_free_queues.proofs.Queues.Indices.{index_push}
 use Rattle.lock_free_queues.specs.Queues.Contracts.{HasPushed, WasFull, WasAtEnd}
 use Rattle.lock_free_queues.proofs.Queues.Paid.{push_takes}
@@ -32,18 +32,19 @@ returns-clause-full c is =
     let v = c.args.value in
     let x = seen mine.seated in
     let w = seen c.drive-end.new.self in
+    let push : Pushes one_word of_indices (Index v) (pushes_index v) (seen mine.seated) =
+    record { idle = mine.idle; is = index_push v; alone = mine.alone; some = mine.some.0; has = c.requires } in
     subst (λ n. WasFull n (Index v) x w ⊎ WasAtEnd x w) mine.known
-    (full one_word of_indices x w mine.idle (Index v) (pushes_index v) (index_push v) mine.alone mine.some.0
-    c.requires c.drive-end.result tt c.drive-end.ensures.end (sym c.answer.ensures ∙ is))
+    (full push c.drive-end.ensures.end (sym c.answer.ensures ∙ is))
 
 -- a push that answers true published its number right after all that was seen to be published
 pub returns-clause-published : goal.returns-clause-published
 returns-clause-published c is =
     let mine = c.args.self.now in
     let v = c.args.value in
-    published_if one_word of_indices (seen mine.seated) (seen c.drive-end.new.self) mine.idle (Index v)
-    (pushes_index v) (index_push v) mine.alone mine.some.0 c.requires c.drive-end.result tt c.drive-end.ensures.end
-    (sym c.answer.ensures ∙ is)
+    let push : Pushes one_word of_indices (Index v) (pushes_index v) (seen mine.seated) =
+    record { idle = mine.idle; is = index_push v; alone = mine.alone; some = mine.some.0; has = c.requires } in
+    published_if push c.drive-end.ensures.end (sym c.answer.ensures ∙ is)
 
 -- the push is a call of the history with its answer, or it answers false and was a look at a queue
 -- whose last position is reached
@@ -53,9 +54,10 @@ returns-clause-pushed c =
     let v = c.args.value in
     let x = seen mine.seated in
     let w = seen c.drive-end.new.self in
+    let push : Pushes one_word of_indices (Index v) (pushes_index v) (seen mine.seated) =
+    record { idle = mine.idle; is = index_push v; alone = mine.alone; some = mine.some.0; has = c.requires } in
     subst (λ b. HasPushed (Index v) b x w ⊎ (b ≡ false) × WasAtEnd x w) (sym c.answer.ensures)
-    (pushed one_word of_indices x w mine.idle (Index v) (pushes_index v) (index_push v) mine.alone mine.some.0
-    c.requires c.drive-end.result tt c.drive-end.ensures.end)
+    (pushed push c.drive-end.ensures.end)
 
 -- the seat is of the same queue, its view goes on, and at most one operation was no step of a call
 pub returns-clause-same : goal.returns-clause-same

@@ -7,7 +7,7 @@ use Rattle.steps.specs.Queues.Ring.{first_push}
 use Rattle.model.specs.declared.turn.Kind.TheVariants as kinds
 use Rattle.lock_free_queues.specs.Queues.Values.{token_view}
 use Rattle.lock_free_queues.specs.Queues.Contracts.{HasPushed, WasFull, WasAtEnd}
-use Rattle.lock_free_queues.proofs.Queues.Ended.{pushed, published_if, full}
+use Rattle.lock_free_queues.proofs.Queues.Ended.{Pushes, pushed, published_if, full}
 use Rattle.lock_free_queues.proofs.Queues.Facts.{goes_over, aside_over}
 use Rattle.lock_free_queues.proofs.Queues.Values.{value_push}
 use Rattle.lock_free_queues.proofs.Queues.Paid.{value_push_takes}
@@ -42,9 +42,10 @@ returns-clause-full g c is =
     let v = c.args.value.now in
     let x = token_view mine in
     let w = c.drive-end.new.self.seat.me.0 in
+    let push : Pushes code of_values (Value v) (pushes_value code v) (token_view mine) =
+    record { idle = mine.idle; is = value_push code v; alone = mine.alone; some = mine.some.0; has = c.requires } in
     subst (λ n. WasFull n (Value v) x w ⊎ WasAtEnd x w) mine.known
-    (full code of_values x w mine.idle (Value v) (pushes_value code v) (value_push code v) mine.alone mine.some.0
-    c.requires c.drive-end.result tt c.drive-end.ensures.end (sym c.answer.ensures ∙ is))
+    (full push c.drive-end.ensures.end (sym c.answer.ensures ∙ is))
 
 -- a push that answers true published its value right after all that was seen to be published
 pub returns-clause-published : goal.returns-clause-published
@@ -52,9 +53,9 @@ returns-clause-published g c is =
     let mine = c.args.self.now in
     let code : Coding g.row.T.Denot = coding_by g.T.Words in
     let v = c.args.value.now in
-    published_if code of_values (token_view mine) c.drive-end.new.self.seat.me.0 mine.idle (Value v)
-    (pushes_value code v) (value_push code v) mine.alone mine.some.0 c.requires c.drive-end.result tt
-    c.drive-end.ensures.end (sym c.answer.ensures ∙ is)
+    let push : Pushes code of_values (Value v) (pushes_value code v) (token_view mine) =
+    record { idle = mine.idle; is = value_push code v; alone = mine.alone; some = mine.some.0; has = c.requires } in
+    published_if push c.drive-end.ensures.end (sym c.answer.ensures ∙ is)
 
 -- the push is a call of the history with its answer, or it answers false and was a look at a queue
 -- whose last position is reached
@@ -65,9 +66,10 @@ returns-clause-pushed g c =
     let v = c.args.value.now in
     let x = token_view mine in
     let w = c.drive-end.new.self.seat.me.0 in
+    let push : Pushes code of_values (Value v) (pushes_value code v) (token_view mine) =
+    record { idle = mine.idle; is = value_push code v; alone = mine.alone; some = mine.some.0; has = c.requires } in
     subst (λ b. HasPushed (Value v) b x w ⊎ (b ≡ false) × WasAtEnd x w) (sym c.answer.ensures)
-    (pushed code of_values x w mine.idle (Value v) (pushes_value code v) (value_push code v) mine.alone mine.some.0
-    c.requires c.drive-end.result tt c.drive-end.ensures.end)
+    (pushed push c.drive-end.ensures.end)
 
 -- the seat is of the same queue, its view goes on, and at most one operation was no step of a call
 pub returns-clause-same : goal.returns-clause-same

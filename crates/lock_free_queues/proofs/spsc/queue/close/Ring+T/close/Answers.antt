@@ -12,7 +12,7 @@ of_words-requires g c =
     let met = g.met.T.Words in
     let code : Coding g.row.T.Denot = coding_by g.T.Words in
     let law : IsCoding code = record { some = met.some; few = met.few; sized = met.sized; given_back = met.given_back } in
-    fits code law Queue c.args.self.capacity (view c.args.pass) c.in_ok-words.words.items c.in_ok-words.ensures.words.last refl
+    fits law Queue c.in_ok-words.ensures.words.last refl
 
 -- each value that was seen to be published waits in the list at its place or lies before it, and
 -- with the whole share the list has just what waits
@@ -23,7 +23,7 @@ returns-clause-list g c =
     let law : IsCoding code = record { some = met.some; few = met.few; sized = met.sized; given_back = met.given_back } in
     let v = view c.args.pass in
     let size = c.args.self.capacity in
-    subst (Closes Value size v) (sym c.of_words.ensures) (closes code law Queue size v c.in_ok-words.words.items c.in_ok-words.ensures.words.last)
+    subst (Closes Value size v) (sym c.of_words.ensures) (closes law Queue c.in_ok-words.ensures.words.last)
 
 -- the list is what waited at one moment of the call
 pub returns-clause-waits : goal.returns-clause-waits
@@ -34,5 +34,5 @@ returns-clause-waits g c =
     let read = c.in_ok-words.ensures.words in
     let size = c.args.self.capacity in
     subst (IsWhatWaits Value c.args.pass) (sym c.of_words.ensures)
-    (what_waits code law Queue size (view c.args.pass) c.in_ok-words.words.items read.last c.args.pass
+    (what_waits law Queue read.last c.args.pass
     (as_stood c.args.pass size c.in_ok-words.words.items read) refl read.queue read.view)

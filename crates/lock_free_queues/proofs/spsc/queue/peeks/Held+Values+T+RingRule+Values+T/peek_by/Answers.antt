@@ -1,7 +1,7 @@
 -- `Held::peek_by` (src/spsc/queue/peeks.rt): its call of `drive` meets the requirements `rule` and `at`, and its return meets the
 -- clauses `peeked`, `roles` and `steps`.
 use Rattle.lock_free_queues.proofs.Names.{◌<◌, ◌^◌, sym, ap, subst, ◌∙◌, option_map, Coding, IsCoding}
-use Rattle.lock_free_queues.proofs.Names.{coding_by, Queue, At, value_there, peeks_value}
+use Rattle.lock_free_queues.proofs.Names.{coding_by, Queue, At, peeks_value}
 use Rattle.lock_free_queues.proofs.Names.{value_peek_keeps, value_peek_first}
 use Rattle.steps.specs.Queues.Peek.{first_peek}
 use Rattle.model.specs.declared.turn.Kind.TheVariants as kinds
@@ -46,9 +46,7 @@ returns-clause-peeked g c =
     let x = token_view mine in
     let w = c.drive-end.new.self.seat.me.0 in
     subst (λ z. HasPeeked (option_map (value_of code) z) x w) (sym c.answer.ensures)
-    (has_peeked code Queue x w mine.idle tt (value_of code) (value_there code g.R.Room.words_in)
-    (peeks_value code g.R.Room.words_in) (value_peek code g.R.Room.words_in) c.drive-end.result c.drive-end.new.room
-    c.drive-end.ensures.end)
+    (has_peeked code Queue x w mine.idle tt (value_peek code g.R.Room.words_in) c.drive-end.ensures.end)
 
 -- the call moves no role (clause `roles`)
 pub returns-clause-roles : goal.returns-clause-roles

@@ -45,9 +45,7 @@ returns-clause-popped g c =
     let x = token_view mine in
     let w = c.drive-end.new.self.seat.me.0 in
     subst (λ z. HasPopped (option_map (value_of code) z) x w) (sym c.answer.ensures)
-    (has_popped code Queue x w mine.idle (value_of code) (value_there code g.R.Room.words_in)
-    (pops_value code g.R.Room.words_in) (value_pop code g.R.Room.words_in) c.drive-end.result c.drive-end.new.room
-    c.drive-end.ensures.end)
+    (has_popped Queue mine.idle (value_pop code g.R.Room.words_in) c.drive-end.ensures.end)
 
 -- a pop that answers None found nothing waiting
 pub returns-clause-empty : goal.returns-clause-empty
@@ -60,9 +58,7 @@ returns-clause-empty g c =
     let o = pop_answer (value_there code g.R.Room.words_in c.drive-end.new.room) c.drive-end.result in
     subst (λ z. IfNone z (WasEmpty x w)) (sym c.answer.ensures)
     (empty_if code of_values (value_of code) x.capacity x w ends.history o
-    (has_popped code Queue x w mine.idle (value_of code) (value_there code g.R.Room.words_in)
-    (pops_value code g.R.Room.words_in) (value_pop code g.R.Room.words_in) c.drive-end.result c.drive-end.new.room
-    ends))
+    (has_popped Queue mine.idle (value_pop code g.R.Room.words_in) ends))
 
 -- a pop that answers a value took it out right after all that was seen to be taken out
 pub returns-clause-taken : goal.returns-clause-taken
@@ -75,9 +71,7 @@ returns-clause-taken g c =
     let o = pop_answer (value_there code g.R.Room.words_in c.drive-end.new.room) c.drive-end.result in
     subst (λ z. IfSome z (λ k. HasTakenOut (Value k) x w)) (sym c.answer.ensures)
     (taken_if code of_values (value_of code) x.capacity x w ends.history o
-    (has_popped code Queue x w mine.idle (value_of code) (value_there code g.R.Room.words_in)
-    (pops_value code g.R.Room.words_in) (value_pop code g.R.Room.words_in) c.drive-end.result c.drive-end.new.room
-    ends))
+    (has_popped Queue mine.idle (value_pop code g.R.Room.words_in) ends))
 
 -- the operations that the call has asked for are within clause `steps`
 pub returns-clause-steps : goal.returns-clause-steps

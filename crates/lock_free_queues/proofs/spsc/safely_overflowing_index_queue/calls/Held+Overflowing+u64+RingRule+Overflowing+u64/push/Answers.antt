@@ -55,8 +55,7 @@ returns-clause-added c =
     let history = seen_over one_word kinds.Overflow (pushes_over v) x w c.drive-end.result c.drive-end.new.room c.drive-end.ensures.end in
     subst (λ z. IfNone z (PushAdded v x w)) (sym c.answer.ensures)
     (over_none one_word x w mine.idle v history o
-    (over_pushed one_word x w mine.idle v mine.alone mine.some.0 c.requires.role c.drive-end.result
-    c.drive-end.new.room c.drive-end.ensures.end))
+    (over_pushed one_word x w mine.idle v mine.alone mine.some.0 c.requires.role c.drive-end.ensures.end))
 
 -- a push that hands a number back took it out as the oldest, or handed back its own and was a look
 -- at a queue whose last position is reached
@@ -70,8 +69,7 @@ returns-clause-handed_back c =
     let history = seen_over one_word kinds.Overflow (pushes_over v) x w c.drive-end.result c.drive-end.new.room c.drive-end.ensures.end in
     subst (λ z. IfSome z (λ y. PushReplaced v y x w ⊎ (y ≡ v) × WasAtEnd x w)) (sym c.answer.ensures)
     (over_some one_word x w mine.idle v history o
-    (over_pushed one_word x w mine.idle v mine.alone mine.some.0 c.requires.role c.drive-end.result
-    c.drive-end.new.room c.drive-end.ensures.end))
+    (over_pushed one_word x w mine.idle v mine.alone mine.some.0 c.requires.role c.drive-end.ensures.end))
 
 -- the operations that the call has asked for are within clause `steps`
 pub returns-clause-steps : goal.returns-clause-steps
@@ -88,5 +86,4 @@ returns-clause-roles c role =
     let x = token_view mine in
     let w = c.drive-end.new.self.seat.me.0 in
     over_push_moves x w v (push_answer v c.drive-end.new.room.0 c.drive-end.result)
-    (over_pushed one_word x w mine.idle v mine.alone mine.some.0 c.requires.role c.drive-end.result c.drive-end.new.room
-    c.drive-end.ensures.end) role
+    (over_pushed one_word x w mine.idle v mine.alone mine.some.0 c.requires.role c.drive-end.ensures.end) role

@@ -16,7 +16,7 @@ of_words-requires c =
     let oldest : c.saturating_sub-oldest.result ≡ slice_index words 0 - size = search rules in
     let later : c.max.result ≡ max (slice_index words 1) c.saturating_sub-oldest.result = search rules in
     subst (λ n. Represents size (set words 1 n)) (sym (later ∙ ap (λ n. max (slice_index words 1) n) oldest))
-    (over_fits size (view c.args.pass) words c.in_ok-words.ensures.words.last c.args.pass.none.0)
+    (over_fits c.in_ok-words.ensures.words.last c.args.pass.none.0)
 
 -- each number that was seen to be published waits in the list at its place or lies before it, and
 -- with the whole share the list has just what waits
@@ -30,12 +30,11 @@ returns-clause-list c =
     subst (Closes Index size v) (sym c.of_words.ensures)
     (subst (λ n. Closes Index size v (list_in size (set words 1 n)))
     (sym (later ∙ ap (λ n. max (slice_index words 1) n) oldest))
-    (over_closes size v words c.in_ok-words.ensures.words.last c.args.pass.none.0))
+    (over_closes c.in_ok-words.ensures.words.last c.args.pass.none.0))
 
 -- the list is the newest of what waited at one moment of the call, at most the capacity
 pub returns-clause-waits : goal.returns-clause-waits
 returns-clause-waits c =
-    let v = view c.args.pass in
     let size = c.args.self.capacity in
     let words = c.in_ok-words.words.items in
     let oldest : c.saturating_sub-oldest.result ≡ slice_index words 0 - size = search rules in
@@ -44,4 +43,4 @@ returns-clause-waits c =
     subst (IsNewestThatWaits size c.args.pass) (sym c.of_words.ensures)
     (subst (λ n. IsNewestThatWaits size c.args.pass (list_in size (set words 1 n)))
     (sym (later ∙ ap (λ n. max (slice_index words 1) n) oldest))
-    (newest size v words read.last c.args.pass.none.0 c.args.pass (as_stood c.args.pass size words read) refl read.queue read.view))
+    (newest read.last c.args.pass.none.0 c.args.pass (as_stood c.args.pass size words read) refl read.queue read.view))

@@ -40,5 +40,4 @@ returns-clause-answer c =
 pub returns-clause-steps : goal.returns-clause-steps
 returns-clause-steps c =
     let mine = c.args.pass.now in
-    bits_take (looks_at c.args.id) (seen mine.seated) (seen c.drive-end.new.self) c.drive-end.result c.drive-end.new.room
-    mine.idle _ mine.known (omega arith) c.drive-end.ensures.end
+    bits_take mine.idle mine.known c.drive-end.ensures.end (omega arith)

@@ -38,12 +38,10 @@ returns-in-None-clause-clear g c =
 pub returns-in-Some-clause-steps : goal.returns-in-Some-clause-steps
 returns-in-Some-clause-steps g c =
     let mine = c.args.pass.now in
-    bits_take resets_next (seen mine.seated) (seen c.reset_all-end.new.seat) c.reset_all-end.result tt
-    mine.idle _ (same_size c.args.self.now mine c.requires) (omega arith) c.reset_all-end.ensures.ends
+    bits_take mine.idle (same_size c.args.self.now mine c.requires) c.reset_all-end.ensures.ends (omega arith)
 
 -- where nothing was found, the operations of the reset are within clause `steps`
 pub returns-in-None-clause-steps : goal.returns-in-None-clause-steps
 returns-in-None-clause-steps g c =
     let mine = c.args.pass.now in
-    bits_take resets_next (seen mine.seated) (seen c.reset_all-end.new.seat) c.reset_all-end.result tt
-    mine.idle _ (same_size c.args.self.now mine c.requires) (omega arith) c.reset_all-end.ensures.ends
+    bits_take mine.idle (same_size c.args.self.now mine c.requires) c.reset_all-end.ensures.ends (omega arith)

@@ -43,5 +43,4 @@ returns-clause-added g c =
 pub returns-clause-steps : goal.returns-clause-steps
 returns-clause-steps g c =
     let mine = c.args.pass.now in
-    bits_take (sets_place c.args.id) (seen mine.seated) (seen c.drive_on-end.new.self) c.drive_on-end.result c.drive_on-end.new.room
-    mine.idle _ (same_size c.args.self.now mine c.requires.pass) (omega arith) c.drive_on-end.ensures.end
+    bits_take mine.idle (same_size c.args.self.now mine c.requires.pass) c.drive_on-end.ensures.end (omega arith)

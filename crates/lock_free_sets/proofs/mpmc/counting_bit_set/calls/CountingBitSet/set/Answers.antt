@@ -41,5 +41,4 @@ returns-clause-counted c =
 pub returns-clause-steps : goal.returns-clause-steps
 returns-clause-steps c =
     let mine = c.args.pass.now in
-    counts_take (counts_place c.args.id) (seen mine.seated) (seen c.drive-old.new.self) c.drive-old.result c.drive-old.new.room
-    mine.idle _ mine.known (omega arith) c.drive-old.ensures.end
+    counts_take mine.idle mine.known c.drive-old.ensures.end (omega arith)

@@ -1,5 +1,5 @@
 -- `Held::join` (src/mpmc/sets/passes.rt): its call of `join` meets the requirement `joins`, and that of `look` the requirement `owes`.
-use Rattle.lock_free_sets.proofs.Names.{◌≡◌, ◌<◌, rules, sym, ap, ◌∙◌, arith, TableId, one_word, seen, joined_view, joins}
+use Rattle.lock_free_sets.proofs.Names.{◌≡◌, ◌<◌, rules, sym, ap, ◌∙◌, arith, TableId, one_word, joined_view, joins}
 use Rattle.threaded.specs.Seats.{table_of, key_of}
 use Rattle.threaded.proofs.Shares.{positive}
 use Rattle.lock_free_sets.specs.Sets.Kinds.{machine_kind}
@@ -26,5 +26,5 @@ look-requires-clause-owes g c =
     let key : key_of s ≡ key_of mine.seated = search rules in
     let more = positive v.share.part w.share.parts mine.some.0 c.args.other.some.1 in
     let some : 0 < (joined_view v w).share.part = omega arith in
-    look_owed (machine_kind g.E.Kind.KIND) (table_of s).words (table_of s).slots s.seat.id c.words-last.result (key_of s)
-    (joined_view v w) (seen s) s.seat.me.1 below c.join.ensures.joined s.bare (mine.known ∙ (sym mine.keyed ∙ sym key)) mine.idle some
+    look_owed (machine_kind g.E.Kind.KIND) (table_of s).words (table_of s).slots s.seat.id c.words-last.result
+    below c.join.ensures.joined s.bare (mine.known ∙ (sym mine.keyed ∙ sym key)) mine.idle some
