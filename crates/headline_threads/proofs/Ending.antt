@@ -60,87 +60,6 @@ container_room T = record { possible = possible_open; keeps = room_container {T 
 
 -- ---- what follows
 
-module _ {T : Type 0} (kind : Kind) (bound : Bound) (R : RunsOfAny T kind bound) where
-  passes : PassesEnd T kind bound
-  passes code capacity old new knows later n below far =
-      one_more kind (λ start. Unit {0}) bound R code capacity old new knows later n below (any_such new.seen) far
-
-  keeps : PassesKeepEnding T kind bound
-  keeps code capacity old new knows later n below = between kind (λ start. Unit {0}) bound R code capacity old new knows later n below (any_such new.seen)
-
-  all_known : KnownKeepsEnding T kind bound
-  all_known code capacity v knows n below = known kind (λ start. Unit {0}) bound R code capacity v knows n below (any_such v.seen)
-
-  load_passes : PassesEndLoad T kind bound
-  load_passes code capacity old new knows later n below =
-      load_between kind (λ start. Unit {0}) bound R code capacity old new knows later n below (any_such new.seen)
-
-  all_load : KnownEndsLoad T kind bound
-  all_load code capacity v knows n below = load_known kind (λ start. Unit {0}) bound R code capacity v knows n below (any_such v.seen)
-
-  -- The operations that a pass asked for are some of the table's steps, so they are within the load.
-  asks : KnownAsksLoad T kind bound
-  asks code capacity v knows n below =
-      let most = knows.asked.most in
-      let all = all_load code capacity v knows n below in
-      omega arith
-
-  rests : PassesRest T kind bound
-  rests code capacity old new knows later n below = rests_between kind (λ start. Unit {0}) bound R code capacity old new knows later n below (any_such new.seen)
-
-pub passes_end : (T : Type 0) (kind : Kind) → IfSome (lock_free_bound kind) (PassesEnd T kind)
-passes_end T kind = if_some (RunsOfAny T kind) (PassesEnd T kind) (lock_free_bound kind) (passes kind) (runs_of T kind)
-
-pub passes_keep_ending : (T : Type 0) (kind : Kind) → IfSome (lock_free_bound kind) (PassesKeepEnding T kind)
-passes_keep_ending T kind = if_some (RunsOfAny T kind) (PassesKeepEnding T kind) (lock_free_bound kind) (keeps kind) (runs_of T kind)
-
-pub known_keeps_ending : (T : Type 0) (kind : Kind) → IfSome (lock_free_bound kind) (KnownKeepsEnding T kind)
-known_keeps_ending T kind = if_some (RunsOfAny T kind) (KnownKeepsEnding T kind) (lock_free_bound kind) (all_known kind) (runs_of T kind)
-
-pub passes_end_load : (T : Type 0) (kind : Kind) → IfSome (lock_free_bound kind) (PassesEndLoad T kind)
-passes_end_load T kind = if_some (RunsOfAny T kind) (PassesEndLoad T kind) (lock_free_bound kind) (load_passes kind) (runs_of T kind)
-
-pub known_ends_load : (T : Type 0) (kind : Kind) → IfSome (lock_free_bound kind) (KnownEndsLoad T kind)
-known_ends_load T kind = if_some (RunsOfAny T kind) (KnownEndsLoad T kind) (lock_free_bound kind) (all_load kind) (runs_of T kind)
-
-pub known_asks_load : (T : Type 0) (kind : Kind) → IfSome (lock_free_bound kind) (KnownAsksLoad T kind)
-known_asks_load T kind = if_some (RunsOfAny T kind) (KnownAsksLoad T kind) (lock_free_bound kind) (asks kind) (runs_of T kind)
-
-pub passes_rest : (T : Type 0) (kind : Kind) → IfSome (lock_free_bound kind) (PassesRest T kind)
-passes_rest T kind = if_some (RunsOfAny T kind) (PassesRest T kind) (lock_free_bound kind) (rests kind) (runs_of T kind)
-
--- ---- where no call begins but such ones
-
-module _ {T : Type 0} (kind : Kind) (Such : Start T → Type 0) (bound : Bound) (R : Runs {T = T} kind Such bound) where
-  passes_of : PassesEndOf T kind Such bound
-  passes_of = one_more kind Such bound R
-
-  keeps_of : PassesKeepEndingOf T kind Such bound
-  keeps_of = between kind Such bound R
-
-  known_of : KnownKeepsEndingOf T kind Such bound
-  known_of = known kind Such bound R
-
-  load_of : PassesEndLoadOf T kind Such bound
-  load_of = load_between kind Such bound R
-
-  all_load_of : KnownEndsLoadOf T kind Such bound
-  all_load_of = load_known kind Such bound R
-
-  -- The operations that a pass asked for are some of the table's steps, so they are within the load, also
-  -- where passes have seen only calls begin for which `Such` holds.
-  asks_of : KnownAsksLoadOf T kind Such bound
-  asks_of code capacity v knows n below such =
-      let most = knows.asked.most in
-      let all = all_load_of code capacity v knows n below such in
-      omega arith
-
-  -- a party that takes a step in each of more rounds than the load rests in one of them
-  rests_of : PassesRestOf T kind Such bound
-  rests_of = rests_between kind Such bound R
-
--- ---- robust sets and containers
-
 -- all that follows where any call may begin
 pub record EndsAll (T : Type 0) (kind : Kind) (bound : Bound) : Type 0 where
   -- calls end: between two times, and as often as the steps have the bound
@@ -153,52 +72,69 @@ pub record EndsAll (T : Type 0) (kind : Kind) (bound : Bound) : Type 0 where
   pub asks : KnownAsksLoad T kind bound
   pub rest : PassesRest T kind bound
 
--- all that follows where none may lock
-pub record EndsDefault (T : Type 0) (kind : Kind) (bound : Bound) : Type 0 where
+-- all that follows where no call begins but those for which `Such` holds
+pub record EndsSuch (T : Type 0) (kind : Kind) (Such : Start T → Type 0) (bound : Bound) : Type 0 where
   -- calls end: between two times, and as often as the steps have the bound
-  pub end : PassesEndOf T kind IsDefault bound
-  pub keep : PassesKeepEndingOf T kind IsDefault bound
-  pub known : KnownKeepsEndingOf T kind IsDefault bound
+  pub end : PassesEndOf T kind Such bound
+  pub keep : PassesKeepEndingOf T kind Such bound
+  pub known : KnownKeepsEndingOf T kind Such bound
   -- finite loads end: the steps, the operations of a pass, and rounds
-  pub between : PassesEndLoadOf T kind IsDefault bound
-  pub load : KnownEndsLoadOf T kind IsDefault bound
-  pub asks : KnownAsksLoadOf T kind IsDefault bound
-  pub rest : PassesRestOf T kind IsDefault bound
+  pub between : PassesEndLoadOf T kind Such bound
+  pub load : KnownEndsLoadOf T kind Such bound
+  pub asks : KnownAsksLoadOf T kind Such bound
+  pub rest : PassesRestOf T kind Such bound
 
--- a kind that keeps ending calls, whichever begin, does all of this
-all_end : (T : Type 0) (kind : Kind) (bound : Bound) → RunsOfAny T kind bound → EndsAll T kind bound
-all_end T kind bound R =
+-- a kind that keeps ending such calls does all of this
+such_end : {T : Type 0} (kind : Kind) (Such : Start T → Type 0) (bound : Bound) → Runs kind Such bound → EndsSuch T kind Such bound
+such_end kind Such bound R =
     record {
-      end = passes kind bound R;
-      keep = keeps kind bound R;
-      known = all_known kind bound R;
-      between = load_passes kind bound R;
-      load = all_load kind bound R;
-      asks = asks kind bound R;
-      rest = rests kind bound R;
+      end = one_more kind Such bound R;
+      keep = between kind Such bound R;
+      known = known kind Such bound R;
+      between = load_between kind Such bound R;
+      load = load_known kind Such bound R;
+      -- the operations that a pass asked for are some of the table's steps, so they are within the load
+      asks = λ code capacity v knows n below such.
+          (let most = knows.asked.most in let all = load_known kind Such bound R code capacity v knows n below such in omega arith);
+      rest = rests_between kind Such bound R;
     }
 
--- a kind that keeps ending calls where none may lock does all of this
-default_end : (T : Type 0) (kind : Kind) (bound : Bound) → Runs {T = T} kind IsDefault bound → EndsDefault T kind bound
-default_end T kind bound R =
+-- where any call may begin, a kind that keeps ending calls does all of this of any calls
+all_end : {T : Type 0} (kind : Kind) (bound : Bound) → RunsOfAny T kind bound → EndsAll T kind bound
+all_end kind bound R =
+    let such = such_end kind (λ start. Unit {0}) bound R in
     record {
-      end = passes_of kind IsDefault bound R;
-      keep = keeps_of kind IsDefault bound R;
-      known = known_of kind IsDefault bound R;
-      between = load_of kind IsDefault bound R;
-      load = all_load_of kind IsDefault bound R;
-      asks = asks_of kind IsDefault bound R;
-      rest = rests_of kind IsDefault bound R;
+      end = λ code capacity old new knows later n below. such.end code capacity old new knows later n below (any_such new.seen);
+      keep = λ code capacity old new knows later n below. such.keep code capacity old new knows later n below (any_such new.seen);
+      known = λ code capacity v knows n below. such.known code capacity v knows n below (any_such v.seen);
+      between = λ code capacity old new knows later n below. such.between code capacity old new knows later n below (any_such new.seen);
+      load = λ code capacity v knows n below. such.load code capacity v knows n below (any_such v.seen);
+      asks = λ code capacity v knows n below. such.asks code capacity v knows n below (any_such v.seen);
+      rest = λ code capacity old new knows later n below. such.rest code capacity old new knows later n below (any_such new.seen);
     }
 
+-- what follows, of each kind that has a bound
+pub bounded_ends : (T : Type 0) (kind : Kind) → IfSome (lock_free_bound kind) (EndsAll T kind)
+bounded_ends T kind = if_some (RunsOfAny T kind) (EndsAll T kind) (lock_free_bound kind) (all_end kind) (runs_of T kind)
+
+-- a part of what follows, of each kind that has a bound
+pub part_ends : (T : Type 0) (kind : Kind) (Part : Bound → Type 0) → ((bound : Bound) → EndsAll T kind bound → Part bound) → IfSome (lock_free_bound kind) Part
+part_ends T kind Part part = if_some (EndsAll T kind) Part (lock_free_bound kind) part (bounded_ends T kind)
+
+-- ---- robust sets and containers
+
+-- what follows of robust index sets, whichever calls begin
 pub robust_ends : (T : Type 0) → EndsAll T Robust room_bound
-robust_ends T = all_end T Robust room_bound (robust_room T)
+robust_ends T = all_end Robust room_bound (robust_room T)
 
+-- what follows of containers, whichever calls begin
 pub container_ends : (T : Type 0) → EndsAll T Container room_container_bound
-container_ends T = all_end T Container room_container_bound (container_room T)
+container_ends T = all_end Container room_container_bound (container_room T)
 
-pub robust_by_default : (T : Type 0) → EndsDefault T Robust default_bound
-robust_by_default T = default_end T Robust default_bound (robust_default T)
+-- what follows of robust index sets where none may lock
+pub robust_by_default : (T : Type 0) → EndsSuch T Robust IsDefault default_bound
+robust_by_default T = such_end Robust IsDefault default_bound (robust_default T)
 
-pub container_by_default : (T : Type 0) → EndsDefault T Container default_container_bound
-container_by_default T = default_end T Container default_container_bound (container_default T)
+-- what follows of containers where none may lock
+pub container_by_default : (T : Type 0) → EndsSuch T Container IsDefault default_container_bound
+container_by_default T = such_end Container IsDefault default_container_bound (container_default T)

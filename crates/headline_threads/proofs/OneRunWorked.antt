@@ -23,6 +23,7 @@ use Rattle.threaded.specs.Shares.{all_shares, half_of}
 use Rattle.history.specs.declared.view.View.{View}
 use Rattle.history.specs.History.{Continues, IsBeginning, HasAsked, Knows, nexts, run_of}
 use Rattle.history.specs.Passes.{Goes, MissesNothing}
+use Rattle.history.specs.Views.{first_view}
 use Rattle.headline_threads.specs.Ends.{AreBelow, steps_between}
 
 -- ---- a unique index set of capacity 1, and what a pass knows that has seen all of these turns
@@ -37,22 +38,7 @@ after turns = run_of one_word kinds.Indices 1 turns
 -- what a pass knows with the whole share that has seen and made these events and knows these turns
 abbrev told : List (Turn ℕ) → List (Event ℕ) → View ℕ
 told turns events =
-    record {
-      capacity = 1;
-      party = Some 0;
-      share = all_shares;
-      seen = events;
-      other = [];
-      turns = turns;
-      other_turns = [];
-      made = events;
-      going = None;
-      state = None;
-      asked = nexts turns;
-      aside = 0;
-      taken = 0;
-      others = 0;
-    }
+    record (first_view 1) { seen = events; turns = turns; made = events; asked = nexts turns }
 
 -- What a pass knows that has seen all that these turns have written.
 abbrev knowing : List (Turn ℕ) → View ℕ

@@ -41,7 +41,7 @@ use Rattle.plain.proofs.Places.Sets.{set_runs}
 use Rattle.plain.proofs.Walks.{any_low}
 use Rattle.headline_whole.specs.Objects.{whole_places, whole_counts}
 use Rattle.headline_whole.proofs.Agree.{Agree}
-use Rattle.headline_whole.proofs.Flights.{FlightRuns, runs_as, twice, same_flight}
+use Rattle.headline_whole.proofs.Flights.{FlightRuns, runs_as, twice, same_flight, family_runs}
 use Rattle.headline_whole.proofs.Law.{IsMadeSo, Reading, Answers, BeginsSo, Law}
 use Rattle.headline_whole.proofs.Owners.{not_past}
 use Rattle.headline_whole.proofs.Sweeps.{cleared, all_cleared, all_but_first, sweep_runs}
@@ -118,21 +118,18 @@ module _ {T : Type 0} where
     -- a set of a place, run alone, answers and leaves what the set of places does
     sets : (place : ℕ) → place < capacity → PlacesWhole (calls.Set place) (under_way.Set (record { call = first_set; given = place; room = tt }))
     sets place low =
-        runs_as code
+        family_runs code
         (record {
           want = set_want;
           after = set_after;
-          kept = λ c (room : Unit {0}) old. room;
           given = place;
-          Low = λ c. Unit {0};
-          flight = λ c room. flights.Bits (under_way.Set (record { call = c; given = place; room = room }));
-          answer = λ e room. answers.Truth e;
-          wants = λ c room low. refl;
-          goes = λ c room old low. twice flights.Bits under_way.Set answers.Truth as_it_is place room (set_after c place old);
-          stays = λ c old low. any_low (set_after c place old);
+          outer = flights.Bits;
+          wrap = under_way.Set;
+          answer = answers.Truth;
+          wants = λ c room. refl;
+          goes = λ c room old. refl;
         })
         (set_runs capacity place low words fits first_set refl)
-        tt
         (λ e room last h. record { said = λ is. ap answers.Truth h.1; holds = h.0; object = h.2 })
 
     -- a look at a place, run alone, answers and leaves what the set of places does
@@ -151,21 +148,18 @@ module _ {T : Type 0} where
     -- a reset of the next place, run alone, answers and leaves what the set of places does
     resets : PlacesWhole calls.ResetNext (under_way.ResetNext (record { call = first_reset capacity; given = tt; room = tt }))
     resets =
-        runs_as code
+        family_runs code
         (record {
           want = λ (c : ResetNext) (given : Unit {0}). reset_want c;
           after = λ c given old. reset_after c old;
-          kept = λ c (room : Unit {0}) old. room;
           given = tt;
-          Low = λ c. Unit {0};
-          flight = λ c room. flights.Bits (under_way.ResetNext (record { call = c; given = tt; room = room }));
-          answer = λ e room. reset_answer e;
-          wants = λ c room low. refl;
-          goes = λ c room old low. twice flights.Bits under_way.ResetNext reset_answer as_it_is tt room (reset_after c old);
-          stays = λ c old low. any_low (reset_after c old);
+          outer = flights.Bits;
+          wrap = under_way.ResetNext;
+          answer = reset_answer;
+          wants = λ c room. refl;
+          goes = λ c room old. refl;
         })
         (reset_runs capacity words fits (first_reset capacity) refl)
-        tt
         (λ e room last h. record { said = λ is. ap reset_answer h.1; holds = h.0; object = h.2 })
 
     -- a reset of all places, run alone, answers and leaves what the set of places does
@@ -258,10 +252,10 @@ module _ {T : Type 0} where
 
   -- A call of a bit set that is let begin is named as one of its family, and the machine keeps
   -- what that family keeps.
-  has_registry : (capacity p : ℕ) (start : BitsStart) (flight : Flight T) (f : BitsFlight) (kept : Registry T) → flights.Bits f ≡ flight
-      → first_row (kept_rows capacity start kept p) ≡ None → Agree (starts.Bits start) flight kept
-  has_registry capacity p start flight f registries.Nothing flight_is rows_passed = subst (λ x. Agree (starts.Bits start) x registries.Nothing) flight_is tt
-  has_registry capacity p start flight f kept flight_is rows_passed = absurd (cc)
+  has_registry : (capacity p : ℕ) (start : BitsStart) (f : BitsFlight) (kept : Registry T) → first_row (kept_rows capacity start kept p) ≡ None
+      → Agree (starts.Bits start) (flights.Bits f) kept
+  has_registry capacity p start f registries.Nothing rows_passed = tt
+  has_registry capacity p start f kept rows_passed = absurd (cc)
 
   -- A look at a place that is let begin is at a place below the capacity.
   low_look : (capacity p place : ℕ) (kept : Registry T) → first_row (kept_rows capacity (calls.IsSet place) kept p) ≡ None → place < capacity
@@ -274,6 +268,13 @@ module _ {T : Type 0} where
   low_place capacity p place kept rows_passed = absurd (cc)
 
   module _ (code : Coding T) (capacity : ℕ) where
+    -- A call that its tests let begin begins as `BeginsSo` says, if, run alone, it answers what the object does.
+    so : (R : Reading T) (t : Trace T) (p : ℕ) (s : BitsStart) {f : BitsFlight} {flight : Flight T} → flights.Bits f ≡ flight
+        → first_row (kept_rows capacity s t.world.kept p) ≡ None
+        → FlightRuns code (Answers R t.world.turns t.world.words (starts.Bits s)) (flights.Bits f) t.world.words → BeginsSo R code t p (starts.Bits s) flight
+    so R t p s {f} is rows runs =
+        subst (BeginsSo R code t p (starts.Bits s)) is (record { agrees = has_registry capacity p s f t.world.kept rows; runs = runs })
+
     -- each call that a bit set lets begin, run alone, answers and leaves what the set of places does
     places_begin : (t : Trace T) (p : ℕ) (start : Start T) (flight : Flight T) → IsReached t → IsMadeSo code kinds.Bits capacity t
         → refusal_of t.world (Begin p start) ≡ None → Represents capacity t.world.words
@@ -283,29 +284,20 @@ module _ {T : Type 0} where
         (subst (λ n. first_row (kept_rows n start t.world.kept p) ≡ None) made.capacity
         (may_begin t.world p (starts.Bits start) (passes t.world (Begin p (starts.Bits start)) free).on).rows)
       where
-        -- A call that its tests let begin begins as `BeginsSo` says, if, run alone, it answers what the object does.
-        so : (s : BitsStart) (f : BitsFlight) → flights.Bits f ≡ flight → first_row (kept_rows capacity s t.world.kept p) ≡ None
-            → PlacesWhole code capacity t.world.turns t.world.words fits s f → BeginsSo (places_reading capacity) code t p (starts.Bits s) flight
-        so s f is rows runs =
-            record {
-              agrees = has_registry capacity p s flight f t.world.kept is rows;
-              runs = subst (λ x. FlightRuns code (Answers (places_reading capacity) t.world.turns t.world.words (starts.Bits s)) x t.world.words) is runs;
-            }
-
         -- The cases are which call of a bit set begins.
         go : (s : BitsStart) → first_of kinds.Bits capacity (starts.Bits s) t.world.kept ≡ Some flight
             → first_row (kept_rows capacity s t.world.kept p) ≡ None → BeginsSo (places_reading capacity) code t p (starts.Bits s) flight
         go (calls.Set place) named rows =
-            so (calls.Set place) (under_way.Set (record { call = first_set; given = place; room = tt })) (same_flight _ flight named) rows
+            so (places_reading capacity) t p (calls.Set place) (same_flight _ flight named) rows
             (sets code capacity t.world.turns t.world.words fits place (low_place capacity p place t.world.kept rows))
         go calls.ResetNext named rows =
-            so calls.ResetNext (under_way.ResetNext (record { call = first_reset capacity; given = tt; room = tt })) (same_flight _ flight named) rows
+            so (places_reading capacity) t p calls.ResetNext (same_flight _ flight named) rows
             (resets code capacity t.world.turns t.world.words fits)
         go calls.ResetAll named rows =
-            so calls.ResetAll (under_way.ResetAll (record { call = all_bits capacity; given = tt; room = fresh })) (same_flight _ flight named) rows
+            so (places_reading capacity) t p calls.ResetAll (same_flight _ flight named) rows
             (empties_all code capacity t.world.turns t.world.words fits)
         go (calls.IsSet place) named rows =
-            so (calls.IsSet place) (under_way.IsSet (record { call = look_set; given = place; room = tt })) (same_flight _ flight named) rows
+            so (places_reading capacity) t p (calls.IsSet place) (same_flight _ flight named) rows
             (looks code capacity t.world.turns t.world.words fits place (low_look capacity p place t.world.kept rows))
         go (calls.Count place) named rows = absurd (cc)
     places_begin t p start flight reached made free fits named = absurd (cc)
@@ -337,28 +329,19 @@ module _ {T : Type 0} where
           (subst (λ n. first_row (kept_rows n start t.world.kept p) ≡ None) made.capacity
           (may_begin t.world p (starts.Bits start) (passes t.world (Begin p (starts.Bits start)) free).on).rows)
         where
-          -- A call that its tests let begin begins as `BeginsSo` says, if, run alone, it answers what the object does.
-          so : (s : BitsStart) (f : BitsFlight) → flights.Bits f ≡ flight → first_row (kept_rows capacity s t.world.kept p) ≡ None
-              → CountsWhole code capacity t.world.turns t.world.words long s f → BeginsSo (counts_reading capacity) code t p (starts.Bits s) flight
-          so s f is rows runs =
-              record {
-                agrees = has_registry capacity p s flight f t.world.kept is rows;
-                runs = subst (λ x. FlightRuns code (Answers (counts_reading capacity) t.world.turns t.world.words (starts.Bits s)) x t.world.words) is runs;
-              }
-
           -- The cases are which call of a counting bit set begins.
           go : (s : BitsStart) → first_of kinds.Counts capacity (starts.Bits s) t.world.kept ≡ Some flight
               → first_row (kept_rows capacity s t.world.kept p) ≡ None → BeginsSo (counts_reading capacity) code t p (starts.Bits s) flight
           go (calls.Set place) named rows =
-              so (calls.Set place) (under_way.Count (record { call = add_one; given = place; room = tt })) (same_flight _ flight named) rows
+              so (counts_reading capacity) t p (calls.Set place) (same_flight _ flight named) rows
               (counts code capacity t.world.turns t.world.words long place)
           go calls.ResetNext named rows = absurd (cc)
           go calls.ResetAll named rows =
-              so calls.ResetAll (under_way.TakeAll (record { call = all_counts capacity; given = tt; room = fresh })) (same_flight _ flight named) rows
+              so (counts_reading capacity) t p calls.ResetAll (same_flight _ flight named) rows
               (takes_all code capacity t.world.turns t.world.words long few)
           go (calls.IsSet place) named rows = absurd (cc)
           go (calls.Count place) named rows =
-              so (calls.Count place) (under_way.CountOf (record { call = look_count; given = place; room = tt })) (same_flight _ flight named) rows
+              so (counts_reading capacity) t p (calls.Count place) (same_flight _ flight named) rows
               (look_counts code capacity t.world.turns t.world.words long place)
       counts_begin t p start flight reached made free long named = absurd (cc)
 

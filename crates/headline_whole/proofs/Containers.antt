@@ -1,5 +1,5 @@
 -- The calls of a container, run whole, are those of a map from index to owner and value, with what the state of each party shows.
-use Rattle.std.proofs.Common.{◌≡◌, ◌⊎◌, inl, inr, ℕ, zero, suc, ◌==◌, Bool, true, false, Option, Some, List, []}
+use Rattle.std.proofs.Common.{◌≡◌, ◌⊎◌, inl, inr, ℕ, ◌==◌, Bool, true, false, Option, Some, List, []}
 use Rattle.std.proofs.Common.{◌++◌, refl, sym, ap, subst, ◌∙◌, if◌then◌else◌}
 use Rattle.steps.specs.Container.Look.{look_want, look_after, look_kept}
 use Rattle.steps.specs.declared.ask.After.{After}
@@ -29,7 +29,7 @@ use Rattle.headline_whole.specs.Dialogues.{Decision, decided, as_request}
 use Rattle.headline_whole.specs.Objects.{Viewed, view_after, whole_map}
 use Rattle.headline_whole.proofs.Agree.{Agree, goes_so, agrees_then, agrees_still, writes_none, container_writes}
 use Rattle.headline_whole.proofs.Courses.{Course, Holding, IsAfterStep, Steps}
-use Rattle.headline_whole.proofs.Flights.{Turns, Talks, talk_goes, talk_hears, RunsOn, run_goes}
+use Rattle.headline_whole.proofs.Flights.{Turns, Talks, talks_go, talks_hear, RunsOn, run_goes}
 use Rattle.headline_whole.proofs.Looks.{never_asks, start_of, views_in, AllRight, Looking, goes_on, shows}
 use Rattle.headline_whole.proofs.Looks.{words_are, views_then, said}
 use Rattle.headline_whole.proofs.Looks as looks
@@ -198,35 +198,19 @@ module _ {T : Type 0} (code : Coding T) (coded : IsCoding code) (capacity : ℕ)
         → Talking first_words views p start told flight words kept → is_question (want_of code flight) ≡ false
         → Steps map_course holding object turns p start told (words_after words (ask_of (want_of code flight)))
         (step_of code words beside p start flight (old_of words (ask_of (want_of code flight))) kept)
-    talk_on start told flight words kept beside talking calm = go talking.most talking.talks
-      where
-        -- The cases are how many questions the call may still put.
-        go : (n : ℕ) → Talks code (maps.EndsAsMap code capacity first_words views p start) n told flight words
-            → Steps map_course holding object turns p start told (words_after words (ask_of (want_of code flight)))
-            (step_of code words beside p start flight (old_of words (ask_of (want_of code flight))) kept)
-        go zero talks = absurd talks
-        go (suc n) talks =
-            steps start told told flight words (words_after words (ask_of (want_of code flight))) kept beside
-            (old_of words (ask_of (want_of code flight))) talking (suc n)
-            (talk_goes code (maps.EndsAsMap code capacity first_words views p start)
-            (λ told f ws. Talks code (maps.EndsAsMap code capacity first_words views p start) n told f ws) told flight words talks calm)
+    talk_on start told flight words kept beside talking calm =
+        steps start told told flight words (words_after words (ask_of (want_of code flight))) kept beside
+        (old_of words (ask_of (want_of code flight))) talking talking.most
+        (talks_go code (maps.EndsAsMap code capacity first_words views p start) talking.most told flight words talking.talks calm)
 
     -- A step with a decision, of a call that goes on from its words alone, goes as the map's rules say.
     talk_told : (start : Start T) (told : List (Decision T)) (flight : Flight T) (words : List ℕ) (kept : Registry T) (beside : Option (ℕ × ℕ))
         (said : Bool) → Talking first_words views p start told flight words kept → is_question (want_of code flight) ≡ true
         → Steps map_course holding object turns p start (told ++ decided code (Some flight) said) words
         (step_of code words beside p start flight (number_of said) kept)
-    talk_told start told flight words kept beside said talking asks = go talking.most talking.talks
-      where
-        -- The cases are how many questions the call may still put.
-        go : (n : ℕ) → Talks code (maps.EndsAsMap code capacity first_words views p start) n told flight words
-            → Steps map_course holding object turns p start (told ++ decided code (Some flight) said) words
-            (step_of code words beside p start flight (number_of said) kept)
-        go zero talks = absurd talks
-        go (suc n) talks =
-            steps start told (told ++ decided code (Some flight) said) flight words words kept beside (number_of said) talking n
-            (talk_hears code (maps.EndsAsMap code capacity first_words views p start)
-            (λ told f ws. Talks code (maps.EndsAsMap code capacity first_words views p start) n told f ws) told flight words talks asks said)
+    talk_told start told flight words kept beside said talking asks =
+        let heard = talks_hear code (maps.EndsAsMap code capacity first_words views p start) talking.most told flight words talking.talks asks said in
+        steps start told (told ++ decided code (Some flight) said) flight words words kept beside (number_of said) talking heard.0 heard.1
 
     -- ---- a step of a look
 

@@ -15,13 +15,14 @@ use Rattle.model.specs.declared.event.Answer.{Answer}
 use Rattle.model.specs.declared.families.Flight.{Flight}
 use Rattle.model.specs.Coding.{Coding}
 use Rattle.model.specs.Families.{want_of, ask_of, after_of, is_question}
+use Rattle.model.specs.Families.Queues.Calls.{as_it_is}
 use Rattle.model.specs.Step.{as_call}
 use Rattle.model.specs.Turns.{old_of, words_after, number_of}
 use Rattle.plain.specs.declared.drive.Stop.{Stop}
 use Rattle.plain.specs.declared.drive.Stop.TheVariants.{Asked, Ended}
 use Rattle.plain.specs.Alone.{written_by, answer_in, words_then, room_then, stepped, StopsFrom, StopsIn, CanStop, StopsAlike}
 use Rattle.plain.proofs.Alone.{Runs, Halts}
-use Rattle.plain.proofs.Walks.{LowThen}
+use Rattle.plain.proofs.Walks.{LowThen, any_low}
 use Rattle.headline_whole.specs.Dialogues.{Decision, decided}
 
 -- ---- one operation, as a machine does it
@@ -212,7 +213,7 @@ module _ {T : Type 0} (code : Coding T) where
       heard n stop room last flight wants.Nothing a words holds asks halts_from = absurd (cc)
 
       -- after a step that needs no decision, the call still halts, or has ended with an answer of which P holds
-      pub talk_goes : (flight : Flight T) (words : List ℕ) → Halting rest told flight words → is_question (want_of code flight) ≡ false
+      talk_goes : (flight : Flight T) (words : List ℕ) → Halting rest told flight words → is_question (want_of code flight) ≡ false
           → Turns (Halting rest) told (after_of code flight (old_of words (ask_of (want_of code flight)))) (words_after words (ask_of (want_of code flight)))
       talk_goes flight words halting calm = go halting.steps halting.few halting.stops
         where
@@ -233,7 +234,7 @@ module _ {T : Type 0} (code : Coding T) where
               (omega arith) halting.holds calm stops_here))
 
       -- whatever is decided, `rest` holds of the call that goes on, or it has ended with an answer of which P holds
-      pub talk_hears : (flight : Flight T) (words : List ℕ) → Halting rest told flight words → is_question (want_of code flight) ≡ true → (said : Bool)
+      talk_hears : (flight : Flight T) (words : List ℕ) → Halting rest told flight words → is_question (want_of code flight) ≡ true → (said : Bool)
           → Turns rest (told ++ decided code (Some flight) said) (after_of code flight (number_of said)) words
       talk_hears flight words halting asks = go halting.steps halting.stops
         where
@@ -247,6 +248,21 @@ module _ {T : Type 0} (code : Coding T) where
               heard n halting.stop halting.last_room halting.last_words flight (want_of code flight)
               (after_of code flight (answer_in words (want_of code flight))) words
               halting.holds asks stops_here
+
+    -- after a step that needs no decision, a call that talks talks on, or has ended with an answer of which P holds
+    pub talks_go : (n : ℕ) (told : List (Decision T)) (flight : Flight T) (words : List ℕ) → Talks n told flight words
+        → is_question (want_of code flight) ≡ false
+        → Turns (λ told f ws. Talks n told f ws) told (after_of code flight (old_of words (ask_of (want_of code flight))))
+        (words_after words (ask_of (want_of code flight)))
+    talks_go zero told flight words talks calm = absurd talks
+    talks_go (suc n) told flight words talks calm = talk_goes (λ told f ws. Talks n told f ws) told flight words talks calm
+
+    -- whatever is decided at its question, a call that talks talks on, or has ended with an answer of which P holds
+    pub talks_hear : (n : ℕ) (told : List (Decision T)) (flight : Flight T) (words : List ℕ) → Talks n told flight words
+        → is_question (want_of code flight) ≡ true → (said : Bool)
+        → (m : ℕ) × Turns (λ told f ws. Talks m told f ws) (told ++ decided code (Some flight) said) (after_of code flight (number_of said)) words
+    talks_hear zero told flight words talks asks said = absurd talks
+    talks_hear (suc n) told flight words talks asks said = (n, talk_hears (λ told f ws. Talks n told f ws) told flight words talks asks said)
 
     -- a call that puts no question asks fewer than one question
     pub talks_once : (Q : Answer T → List ℕ → Type 0) (told : List (Decision T)) (flight : Flight T) (words : List ℕ)
@@ -376,3 +392,42 @@ module _ {C G M E A T R : Type 0} (outer : R → Flight T) (wrap : Running C G M
       ≡ as_call (λ (c : C). outer (wrap (record { call = c; given = given; room = room }))) (λ (e : E). say (make e given room)) a
   twice room (GoOn c) = refl
   twice room (Done e) = refl
+
+-- A call of a family that needs no room, as a call of a machine: `wrap` names the call in the family, and `outer` the family.
+pub record OfFamily {T : Type 0} (code : Coding T) (C G E R : Type 0) : Type 1 where
+  -- what the call asks for, what an answer makes of it, and what it is given
+  pub want : C → G → Want (Unit {0})
+  pub after : C → G → ℕ → After C E
+  pub given : G
+  pub outer : R → Flight T
+  pub wrap : Running C G (Unit {0}) → R
+  pub answer : E → Answer T
+  pub wants : (c : C) (room : Unit {0}) → want_of code (outer (wrap (record { call = c; given = given; room = room }))) ≡ want c given
+  pub goes : (c : C) (room : Unit {0}) (old : ℕ) → after_of code (outer (wrap (record { call = c; given = given; room = room }))) old
+      ≡ as_call outer (λ (answer : Answer T). answer) (as_call wrap answer (went_on as_it_is given room (after c given old)))
+
+module _ {T : Type 0} (code : Coding T) {C G E R : Type 0} (of_family : OfFamily code C G E R) where
+  open of_family use {want, after, given, outer, wrap, answer, wants as wants_so, goes as goes_so}
+
+  -- each step of such a call is a step of the machine's call
+  abbrev pub family_flight : AsFlight code C G (Unit {0}) E
+  family_flight =
+      record {
+        want = want;
+        after = after;
+        kept = λ c (room : Unit {0}) old. room;
+        given = given;
+        Low = λ c. Unit {0};
+        flight = λ c room. outer (wrap (record { call = c; given = given; room = room }));
+        answer = λ e room. answer e;
+        wants = λ c room low. wants_so c room;
+        goes = λ c room old low. goes_so c room old ∙ twice outer wrap answer as_it_is given room (after c given old);
+        stays = λ c old low. any_low (after c given old);
+      }
+
+  -- where such a call runs alone to an end, the machine's call does too
+  pub family_runs : {Q : E → Unit {0} → List ℕ → Type 0} {P : Answer T → List ℕ → Type 0} {c : C} {words : List ℕ}
+      → Runs want after (λ c (room : Unit {0}) old. room) given Q c tt words
+      → ((e : E) (room : Unit {0}) (last : List ℕ) → Q e room last → P (answer e) last)
+      → FlightRuns code P (outer (wrap (record { call = c; given = given; room = tt }))) words
+  family_runs runs so = runs_as code family_flight runs tt so

@@ -32,7 +32,6 @@ use Rattle.model.specs.Families.{first_of}
 use Rattle.model.specs.Families.Indices.Calls.{first, acquire_answer}
 use Rattle.model.specs.Families.Indices.Opening.{opening_words, flag_words, kept_rows}
 use Rattle.model.specs.Families.Indices.Promises.{IsIndexSet, KeepsHolders}
-use Rattle.model.specs.Families.Queues.Calls.{as_it_is}
 use Rattle.model.specs.Families.Queues.Opening.{holds}
 use Rattle.model.specs.Promises.Families.{promise_of}
 use Rattle.model.specs.Refusals.{refusal_of}
@@ -48,10 +47,9 @@ use Rattle.plain.proofs.Stacks.Acquires.{take_runs}
 use Rattle.plain.proofs.Stacks.Looks.{count_runs, look_runs}
 use Rattle.plain.proofs.Stacks.Opened.{Linked, all_free}
 use Rattle.plain.proofs.Stacks.Releases.{give_runs, lock_runs}
-use Rattle.plain.proofs.Walks.{any_low}
 use Rattle.headline_whole.specs.Objects.{whole_stack}
 use Rattle.headline_whole.proofs.Agree.{Agree}
-use Rattle.headline_whole.proofs.Flights.{FlightRuns, runs_as, twice, same_flight}
+use Rattle.headline_whole.proofs.Flights.{FlightRuns, same_flight, family_runs}
 use Rattle.headline_whole.proofs.Law.{IsMadeSo, Reading, Answers, BeginsSo, Law}
 use Rattle.headline_whole.proofs.Owners.{not_past}
 
@@ -169,112 +167,96 @@ module _ {T : Type 0} where
     -- an acquire, run alone, answers and leaves what the stack does
     acquires : RunsAsStack calls.Acquire
     acquires =
-        runs_as code
+        family_runs code
         (record {
           want = λ (c : Acquire) (given : Unit {0}). acquire_want c;
           after = λ c given old. acquire_after c old;
-          kept = λ c (room : Unit {0}) old. room;
           given = tt;
-          Low = λ c. Unit {0};
-          flight = λ c room. flights.Indices (under_way.Acquire (record { call = c; given = tt; room = room }));
-          answer = λ e room. acquire_answer e;
-          wants = λ c room low. refl;
-          goes = λ c room old low. twice flights.Indices under_way.Acquire acquire_answer as_it_is tt room (acquire_after c old);
-          stays = λ c old low. any_low (acquire_after c old);
+          outer = flights.Indices;
+          wrap = under_way.Acquire;
+          answer = acquire_answer;
+          wants = λ c room. refl;
+          goes = λ c room old. refl;
         })
         (take_runs capacity (first_acquire capacity) refl words fits)
-        tt
         (λ e room last h. record { said = λ is. ap acquire_answer h.1; holds = h.0; object = h.2 })
 
     -- a release that never locks, run alone, answers and leaves what the stack does
     releases : (index : ℕ) → IsOut (stack_in capacity words) index → RunsAsStack (calls.Release index Default)
     releases index out =
-        runs_as code
+        family_runs code
         (record {
           want = release_want {M = DefaultMode} false;
           after = λ c given old. release_after false c old;
-          kept = λ c (room : Unit {0}) old. room;
           given = index;
-          Low = λ c. Unit {0};
-          flight = λ c room. flights.Indices (under_way.ReleaseDefault (record { call = c; given = index; room = room }));
-          answer = λ e room. answers.State e;
-          wants = λ c room low. refl;
-          goes = λ c room old low. twice flights.Indices under_way.ReleaseDefault answers.State as_it_is index room (release_after false c old);
-          stays = λ c old low. any_low (release_after false c old);
+          outer = flights.Indices;
+          wrap = under_way.ReleaseDefault;
+          answer = answers.State;
+          wants = λ c room. refl;
+          goes = λ c room old. refl;
         })
         (give_runs DefaultMode capacity index words fits out (first_release capacity) refl)
-        tt
         (λ e room last h. record { said = λ is. ap answers.State h.1; holds = h.0; object = h.2 })
 
     -- a release that may lock, run alone, answers and leaves what the stack does
     locks : (index : ℕ) → IsOut (stack_in capacity words) index → RunsAsStack (calls.Release index LockIfLastIndex)
     locks index out =
-        runs_as code
+        family_runs code
         (record {
           want = release_want {M = LockMode} true;
           after = λ c given old. release_after true c old;
-          kept = λ c (room : Unit {0}) old. room;
           given = index;
-          Low = λ c. Unit {0};
-          flight = λ c room. flights.Indices (under_way.ReleaseLock (record { call = c; given = index; room = room }));
-          answer = λ e room. answers.State e;
-          wants = λ c room low. refl;
-          goes = λ c room old low. twice flights.Indices under_way.ReleaseLock answers.State as_it_is index room (release_after true c old);
-          stays = λ c old low. any_low (release_after true c old);
+          outer = flights.Indices;
+          wrap = under_way.ReleaseLock;
+          answer = answers.State;
+          wants = λ c room. refl;
+          goes = λ c room old. refl;
         })
         (lock_runs LockMode capacity index words fits out (first_release capacity) refl)
-        tt
         (λ e room last h. record { said = λ is. ap answers.State h.1; holds = h.0; object = h.2 })
 
     -- a count of the indices that are out, run alone, answers and leaves what the stack does
     counts : RunsAsStack calls.BorrowedIndices
     counts =
-        runs_as code
+        family_runs code
         (record {
           want = λ (c : BorrowedIndices) (given : Unit {0}). load 0;
           after = λ c given old. borrowed_after c old;
-          kept = λ c (room : Unit {0}) old. room;
           given = tt;
-          Low = λ c. Unit {0};
-          flight = λ c room. flights.Indices (under_way.BorrowedIndices (record { call = c; given = tt; room = room }));
-          answer = λ e room. answers.Number e;
-          wants = λ c room low. refl;
-          goes = λ c room old low. refl;
-          stays = λ c old low. tt;
+          outer = flights.Indices;
+          wrap = under_way.BorrowedIndices;
+          answer = answers.Number;
+          wants = λ c room. refl;
+          goes = λ c room old. refl;
         })
         (count_runs capacity words (record {}) fits)
-        tt
         (λ e room last h. record { said = λ is. ap answers.Number h.1; holds = h.0; object = h.2 })
 
     -- a look whether the set is locked, run alone, answers and leaves what the stack does
     looks : RunsAsStack calls.IsLocked
     looks =
-        runs_as code
+        family_runs code
         (record {
           want = λ (c : IsLocked) (given : Unit {0}). load 0;
           after = λ c given old. locked_after c old;
-          kept = λ c (room : Unit {0}) old. room;
           given = tt;
-          Low = λ c. Unit {0};
-          flight = λ c room. flights.Indices (under_way.IsLocked (record { call = c; given = tt; room = room }));
-          answer = λ e room. answers.Truth e;
-          wants = λ c room low. refl;
-          goes = λ c room old low. refl;
-          stays = λ c old low. tt;
+          outer = flights.Indices;
+          wrap = under_way.IsLocked;
+          answer = answers.Truth;
+          wants = λ c room. refl;
+          goes = λ c room old. refl;
         })
         (look_runs capacity words (record {}) fits)
-        tt
         (λ e room last h. record { said = λ is. ap answers.Truth h.1; holds = h.0; object = h.2 })
 
   -- ---- the law
 
   -- A call of the unique index set that is let begin is named as one of its family, and the
   -- machine keeps who holds what.
-  has_registry : (capacity p : ℕ) (start : IndexStart) (flight : Flight T) (kept : Registry T) → flights.Indices (first capacity start) ≡ flight
-      → first_row (kept_rows capacity start kept p) ≡ None → Agree (starts.Indices start) flight kept
-  has_registry capacity p start flight (registries.Indices holders) flight_is rows_passed =
-      subst (λ f. Agree (starts.Indices start) f (registries.Indices holders)) flight_is tt
-  has_registry capacity p start flight kept flight_is rows_passed = absurd (cc)
+  has_registry : (capacity p : ℕ) (start : IndexStart) (kept : Registry T) → first_row (kept_rows capacity start kept p) ≡ None
+      → Agree (starts.Indices start) (flights.Indices (first capacity start)) kept
+  has_registry capacity p start (registries.Indices holders) rows_passed = tt
+  has_registry capacity p start kept rows_passed = absurd (cc)
 
   module _ (code : Coding T) (capacity : ℕ) where
     -- each call that the set lets begin, run alone, answers and leaves what the stack does
@@ -282,14 +264,12 @@ module _ {T : Type 0} where
         → refusal_of t.world (Begin p start) ≡ None → Represents capacity t.world.words
         → first_of kinds.Indices capacity start t.world.kept ≡ Some flight → BeginsSo (reading capacity) code t p start flight
     begins t p (starts.Indices start) flight reached made free fits named =
-        let first_flight = same_flight (flights.Indices (first capacity start)) flight named in
         let rows = (may_begin t.world p (starts.Indices start) (passes t.world (Begin p (starts.Indices start)) free).on).rows in
-        record {
-          agrees = has_registry capacity p start flight t.world.kept first_flight
-              (subst (λ n. first_row (kept_rows n start t.world.kept p) ≡ None) made.capacity rows);
-          runs = subst (λ f. FlightRuns code (Answers (reading capacity) t.world.turns t.world.words (starts.Indices start)) f t.world.words) first_flight
-              (runs start free);
-        }
+        subst (BeginsSo (reading capacity) code t p (starts.Indices start)) (same_flight (flights.Indices (first capacity start)) flight named)
+        (record {
+          agrees = has_registry capacity p start t.world.kept (subst (λ n. first_row (kept_rows n start t.world.kept p) ≡ None) made.capacity rows);
+          runs = runs start free;
+        })
       where
         -- An index whose release is let begin is not on the stack of free indices.
         out : (index : ℕ) (mode : ReleaseMode) → refusal_of t.world (Begin p (starts.Indices (calls.Release index mode))) ≡ None

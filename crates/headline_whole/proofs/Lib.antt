@@ -21,6 +21,7 @@ pub mod Runs
 pub mod Sequential
 pub mod SoloCalls
 pub mod Sweeps
+pub mod Talking
 pub mod Turns
 pub mod Views
 pub mod WithoutQuestions

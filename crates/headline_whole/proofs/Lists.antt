@@ -222,7 +222,7 @@ module _ {T : Type 0} (kind : QueueKind) (t : Trace T) (kept : IsKeptBy (of_queu
         none = λ z. same ∙ rest.none z;
       }
 
-  module _ (p : ℕ) (start : QueueStart T) (answer : Answer T) (begun since : List (Event T)) (none : NoneEnds since)
+  module _ (p : ℕ) {start : QueueStart T} {answer : Answer T} {begun : List (Event T)} (since : List (Event T)) (none : NoneEnds since)
       (wrote : Wrote kind t.world.capacity start answer (of_parties since)) (h : ListAfterWhole begun) where
     -- The events of the whole call.
     abbrev told : List (Event T)
@@ -294,42 +294,36 @@ module _ {T : Type 0} (kind : QueueKind) (t : Trace T) (kept : IsKeptBy (of_queu
       → of_queue.wrote kind t.world.capacity start answer (of_parties since) → ListAfterWhole begun → ListAfterWhole (begun ++ whole_call p start since answer)
   -- the calls on roles, which move no value
   ends p (starts.Queues calls.AcquireProducer) answer begun since after at none wrote rest =
-      moves_none p calls.AcquireProducer answer begun since none wrote rest refl refl
-      (ap (out_by calls.AcquireProducer) (kept.promised.roles _ after _ at)) no_call refl
+      moves_none p since none wrote rest refl refl (ap (out_by calls.AcquireProducer) (kept.promised.roles _ after _ at)) no_call refl
   ends p (starts.Queues calls.ReleaseProducer) answer begun since after at none wrote rest =
-      moves_none p calls.ReleaseProducer answer begun since none wrote rest refl refl
-      (ap (out_by calls.ReleaseProducer) (kept.promised.roles _ after _ at).0) no_call refl
+      moves_none p since none wrote rest refl refl (ap (out_by calls.ReleaseProducer) (kept.promised.roles _ after _ at).0) no_call refl
   ends p (starts.Queues calls.AcquireConsumer) answer begun since after at none wrote rest =
-      moves_none p calls.AcquireConsumer answer begun since none wrote rest refl refl
-      (ap (out_by calls.AcquireConsumer) (kept.promised.roles _ after _ at)) no_call refl
+      moves_none p since none wrote rest refl refl (ap (out_by calls.AcquireConsumer) (kept.promised.roles _ after _ at)) no_call refl
   ends p (starts.Queues calls.ReleaseConsumer) answer begun since after at none wrote rest =
-      moves_none p calls.ReleaseConsumer answer begun since none wrote rest refl refl
-      (ap (out_by calls.ReleaseConsumer) (kept.promised.roles _ after _ at).0) no_call refl
+      moves_none p since none wrote rest refl refl (ap (out_by calls.ReleaseConsumer) (kept.promised.roles _ after _ at).0) no_call refl
   ends p (starts.Queues calls.HasProducer) answer begun since after at none wrote rest =
-      moves_none p calls.HasProducer answer begun since none wrote rest refl refl
-      (ap (out_by calls.HasProducer) (kept.promised.roles _ after _ at)) no_call refl
+      moves_none p since none wrote rest refl refl (ap (out_by calls.HasProducer) (kept.promised.roles _ after _ at)) no_call refl
   ends p (starts.Queues calls.HasConsumer) answer begun since after at none wrote rest =
-      moves_none p calls.HasConsumer answer begun since none wrote rest refl refl
-      (ap (out_by calls.HasConsumer) (kept.promised.roles _ after _ at)) no_call refl
+      moves_none p since none wrote rest refl refl (ap (out_by calls.HasConsumer) (kept.promised.roles _ after _ at)) no_call refl
   -- the calls that act: pushes and pops
   ends p (starts.Queues (calls.PushIndex index)) answer begun since after at none wrote rest =
-      acts_so p (calls.PushIndex index) answer begun since none wrote rest after at refl refl refl refl
+      acts_so p since none wrote rest after at refl refl refl refl
   ends p (starts.Queues (calls.Push value)) answer begun since after at none wrote rest =
-      acts_so p (calls.Push value) answer begun since none wrote rest after at refl refl refl refl
+      acts_so p since none wrote rest after at refl refl refl refl
   ends p (starts.Queues calls.Pop) answer begun since after at none wrote rest =
-      acts_so p calls.Pop answer begun since none wrote rest after at refl refl refl refl
+      acts_so p since none wrote rest after at refl refl refl refl
   -- the calls that tell of the values that wait: the lengths, and then the peek
   ends p (starts.Queues calls.Len) answer begun since after at none wrote rest =
-      tells_so p calls.Len answer begun since none wrote rest (λ xs. Number (length xs)) (λ xs. refl) refl refl (kept.promised.lengths _ after _ at) refl
+      tells_so p since none wrote rest (λ xs. Number (length xs)) (λ xs. refl) refl refl (kept.promised.lengths _ after _ at) refl
       (sym (first_and_counts kind t.world.capacity (list begun)).1)
   ends p (starts.Queues calls.IsEmpty) answer begun since after at none wrote h =
-      tells_so p calls.IsEmpty answer begun since none wrote h (λ xs. Truth (length xs == 0)) (λ xs. refl) refl refl (kept.promised.lengths _ after _ at) refl
+      tells_so p since none wrote h (λ xs. Truth (length xs == 0)) (λ xs. refl) refl refl (kept.promised.lengths _ after _ at) refl
       (sym (first_and_counts kind t.world.capacity (list begun)).2)
   ends p (starts.Queues calls.IsFull) answer begun since after at none wrote h =
-      tells_so p calls.IsFull answer begun since none wrote h (λ xs. Truth (length xs == t.world.capacity)) (λ xs. refl) refl refl
+      tells_so p since none wrote h (λ xs. Truth (length xs == t.world.capacity)) (λ xs. refl) refl refl
       (kept.promised.lengths _ after _ at) refl (sym (first_and_counts kind t.world.capacity (list begun)).3)
   ends p (starts.Queues calls.Peek) answer begun since after at none wrote rest =
-      tells_so p calls.Peek answer begun since none wrote rest (λ xs. answer_of_item (slice_get xs 0)) (λ xs. refl) refl refl
+      tells_so p since none wrote rest (λ xs. answer_of_item (slice_get xs 0)) (λ xs. refl) refl refl
       (held_now p (λ part. answer ≡ answer_of_item (slice_get (waiting part) 0)) (begun ++ Begun p (starts.Queues calls.Peek) ∷ since)
       (kept.promised.lengths _ after _ at))
       refl (sym (first_and_counts kind t.world.capacity (list begun)).4)

@@ -1,5 +1,5 @@
 -- The calls of a container that ask about values, a find and a recovery, run whole; and so each call that is no look.
-use Rattle.std.proofs.Common.{◌≡◌, ℕ, zero, suc, ◌+◌, ◌-◌, ◌^◌, ◌<◌, ◌≤◌, ◌==◌, Bool, true, Option, Some, List, [], ◌∷◌, ◌++◌}
+use Rattle.std.proofs.Common.{◌≡◌, ℕ, ◌+◌, ◌-◌, ◌<◌, ◌≤◌, ◌==◌, Bool, true, Option, Some, List, [], ◌∷◌, ◌++◌}
 use Rattle.std.proofs.Common.{length, map, slice_index, refl, sym, ap, subst, ◌∙◌, arith, length-append}
 use Rattle.std.proofs.lemmas.List.{length-replicate}
 use Rattle.steps.specs.Container.Find.{first_find, find_want, find_after, find_kept}
@@ -30,13 +30,10 @@ use Rattle.model.specs.declared.families.container.ContainerStart.TheVariants as
 use Rattle.model.specs.declared.families.container.calls.ContainerFlight.TheVariants as under_way
 use Rattle.model.specs.declared.families.container.calls.CountOf.TheVariants as measures
 use Rattle.model.specs.Coding.{Coding, IsCoding}
-use Rattle.model.specs.Families.{after_of}
 use Rattle.model.specs.Families.Container.Calls.{first}
 use Rattle.model.specs.Families.Container.Opening.{names_owner}
 use Rattle.model.specs.Families.Queues.Calls.{as_it_is, fresh_cell, kept_at, read_in}
-use Rattle.model.specs.Step.{as_call}
 use Rattle.model.specs.Turns.{number_of}
-use Rattle.plain.specs.declared.drive.Stop.{Stop}
 use Rattle.plain.specs.declared.drive.Stop.TheVariants as stops
 use Rattle.plain.specs.Alone.{StopsAlike}
 use Rattle.plain.specs.Callable.{HasFound, Asked, index_in}
@@ -49,12 +46,13 @@ use Rattle.plain.proofs.Elements.Finds.{Ready}
 use Rattle.plain.proofs.Elements.Recovering as recovering
 use Rattle.plain.proofs.Walks.{any_low}
 use Rattle.plain.proofs.Words.{buffer}
-use Rattle.headline_whole.specs.Dialogues.{Decision, showing, decided, decided_at}
+use Rattle.headline_whole.specs.Dialogues.{Decision, showing, decided_at}
 use Rattle.headline_whole.specs.Objects.{about, map_freed, map_questions}
 use Rattle.headline_whole.proofs.Agree.{IsNoLook}
-use Rattle.headline_whole.proofs.Flights.{AsFlight, Turns, AtStop, Talks, talks_once, lift_stop, talks_as, alike, twice}
+use Rattle.headline_whole.proofs.Flights.{AsFlight, Talks, talks_once, twice}
 use Rattle.headline_whole.proofs.Owners.{below}
 use Rattle.headline_whole.proofs.Decisions.{goes_on, progression, same_decision, same_number, yes_number, yes_of, decision, folds_long, found_so, asked_so}
+use Rattle.headline_whole.proofs.Talking.{Standing, LeadsTo, Hears, talks_all}
 use Rattle.headline_whole.proofs.Maps.{map_in, Answers, EndsAsMap, RunsAsMap, adds_one, removes_one, replaces_one, counts_so, looks}
 
 module _ {T : Type 0} (code : Coding T) (capacity : ℕ) where
@@ -158,68 +156,48 @@ module _ {T : Type 0} (code : Coding T) (capacity : ℕ) where
           }
 
       -- The find, alone, has gone through `done` of its owner's indices, as `Searching` says.
-      abbrev Searches : ℕ → Find T (Buffer 128) → Buffer 128 → List (Decision T) → List ℕ → Type 0
-      Searches done call room now ws = finding.Searching find_case done call room now ws
+      abbrev Searches : ℕ → Standing T (Find T (Buffer 128)) (Buffer 128) → Type 0
+      Searches done z = finding.Searching find_case done z.call z.room z.told z.words
 
-      module _ (m done : ℕ) (call : Find T (Buffer 128)) (room : Buffer 128) (now : List (Decision T)) (ws : List ℕ)
-          (t : Searches done call room now ws)
-          (rest : (d : Find T (Buffer 128)) (room : Buffer 128) (later : List (Decision T)) (last : List ℕ) → Searches (done + 1) d room later last
-          → Talks code (EndsRight (calls.Find owner)) m later (find_flight d room) last) where
-        -- what a decision leads to talks on, or ends as the map says
-        further : (a : After (Find T (Buffer 128)) ℕ) (r : Buffer 128) (later : List (Decision T)) (last : List ℕ)
-            → finding.Further find_case (done + 1) a r later last
-            → Turns code (EndsRight (calls.Find owner)) (Talks code (EndsRight (calls.Find owner)) m) later
-            (as_call (λ c. find_flight c r) (λ e. answers.Number e) a) last
-        further (GoOn d) r later last further_on = rest d r later last further_on
-        further (Done n) r later last further_on = found later n last further_on.0 further_on.1
+      -- after an answer to its question a find goes on, or it has ended with the number that the map gives
+      leads_find : (done : ℕ) (a : After (Find T (Buffer 128)) ℕ) (room : Buffer 128) (told : List (Decision T)) (last : List ℕ)
+          → finding.Further find_case done a room told last → LeadsTo code find_is (EndsRight (calls.Find owner)) (Searches done) a room told last
+      leads_find done (GoOn d) room told last further = further
+      leads_find done (Done n) room told last further = found told n last further.0 further.1
 
-        -- a question of a find is about a value, at the index that it names
-        find_asks : (question : Question (Unit {0})) (asks : Find T (Buffer 128)) (r : Buffer 128) (last : List ℕ)
-            → StopsAlike wants_find (find_after code.size) (find_kept kept_at) owner call room ws (stops.Asked question asks) r last
-            → find_want code.size asks ≡ wants.Question (questions.Value (index_in question) tt)
-        find_asks question asks r last alone =
-            let stop_is = finding.asked t alone in
-            ap (find_want code.size) stop_is.stands ∙ ap (λ q. wants.Question (questions.Value (index_in q) tt)) (sym stop_is.asks)
-
-        -- at each stop a find has ended as the map says, or talks on, whatever is decided
-        find_stops : (s : Stop (Find T (Buffer 128)) ℕ) (r : Buffer 128) (last : List ℕ)
-            → StopsAlike wants_find (find_after code.size) (find_kept kept_at) owner call room ws s r last
-            → AtStop code (EndsRight (calls.Find owner)) (Talks code (EndsRight (calls.Find owner)) m) now
-            (lift_stop code find_is s r) last
-        find_stops (stops.Ended n) r last alone =
-            let end = finding.ended_so t alone in found now n last end.0 end.1
-        find_stops (stops.Asked question asks) r last alone = λ said.
-            let later : List (Decision T) = now ++ decision (questions.Value (index_in question) (read_in code r)) said ∷ [] in
-            let next = finding.further_so t alone refl refl (progression said) later
-            (ap (λ b. now ++ decision (questions.Value (index_in question) (read_in code r)) b ∷ []) (sym (same_decision said)))
-            (record { answer = number_of said; said = same_number said; goes = refl; keeps = refl }) in
-            let told : now ++ decided code (Some (find_flight asks r)) said ≡ later =
-            ap (λ w. now ++ decided_at (Some (read_in code r)) w said) (find_asks question asks r last alone) in
-            subst (λ ds. Turns code (EndsRight (calls.Find owner)) (Talks code (EndsRight (calls.Find owner)) m) ds
-            (after_of code (find_flight asks r) (number_of said)) last)
-            (sym told)
-            (subst (λ a. Turns code (EndsRight (calls.Find owner)) (Talks code (EndsRight (calls.Find owner)) m) later a last)
-            (sym (find_is.goes asks r (number_of said) tt))
-            (further (find_after code.size asks owner (number_of said)) (find_kept kept_at asks r (number_of said)) later last next))
-
-      -- a find that has put `done` questions talks on as the object does, to its end, within `m` more
-      find_talks : (m done : ℕ) (call : Find T (Buffer 128)) (room : Buffer 128) (now : List (Decision T)) (ws : List ℕ) → done + m ≡ 2 ^ 64 - 1
-          → Searches done call room now ws → Talks code (EndsRight (calls.Find owner)) m now (find_flight call room) ws
-      find_talks zero done call room now ws sum searches =
-          let few = finding.few_rounds searches in absurd (omega arith)
-      find_talks (suc m) done call room now ws sum searches =
-          let can = finding.can_go searches in
-          talks_as code find_is (EndsRight (calls.Find owner)) m now tt can
-          (find_stops m done call room now ws searches (λ d r later last u. find_talks m (done + 1) d r later last (omega arith) u)
-          can.stop can.last_room can.last_words (alike can))
+      -- a find that asks about a value, at the index that its question names, hears each decision on it, and goes on or ends as the map says
+      find_hears : (done : ℕ) (z : Standing T (Find T (Buffer 128)) (Buffer 128)) → Searches done z
+          → (question : Question (Unit {0})) (put : Find T (Buffer 128)) (room : Buffer 128) (last : List ℕ)
+          → StopsAlike wants_find (find_after code.size) (find_kept kept_at) owner z.call z.room z.words (stops.Asked question put) room last
+          → (said : Bool) → Hears code find_is (EndsRight (calls.Find owner)) (Searches (done + 1)) z.told put room last said
+      find_hears done z searches question put room last alone said =
+          let stop_is = finding.asked searches alone in
+          let asks : find_want code.size put ≡ wants.Question (questions.Value (index_in question) tt) =
+          ap (find_want code.size) stop_is.stands ∙ ap (λ q. wants.Question (questions.Value (index_in q) tt)) (sym stop_is.asks) in
+          let later : List (Decision T) = z.told ++ decision (questions.Value (index_in question) (read_in code room)) said ∷ [] in
+          record {
+            later = later;
+            told_is = ap (λ w. z.told ++ decided_at (Some (read_in code room)) w said) asks;
+            leads_to = leads_find (done + 1) (find_after code.size put owner (number_of said)) (find_kept kept_at put room (number_of said)) later last
+                (finding.further_so searches alone refl refl (progression said) later
+                (ap (λ b. z.told ++ decision (questions.Value (index_in question) (read_in code room)) b ∷ []) (sym (same_decision said)))
+                (record { answer = number_of said; said = same_number said; goes = refl; keeps = refl }));
+          }
 
       -- a find, alone, says what the map says
       finds_all : SaysAsMap (calls.Find owner)
-      finds_all = (
-        2 ^ 64 - 1,
-        find_talks (2 ^ 64 - 1) 0 (first_find capacity) fresh_cell [] words (omega arith)
-            (finding.starts find_case (first_find capacity) refl fresh_cell roomy (ready owner lives)),
-      )
+      finds_all =
+          talks_all code find_is (EndsRight (calls.Find owner))
+          (record {
+            Under = Searches;
+            low = λ c. tt;
+            few = λ done z searches. finding.few_rounds searches;
+            can_stop = λ done z searches. finding.can_go searches;
+            ended = λ done z searches n room last alone. let end = finding.ended_so searches alone in found z.told n last end.0 end.1;
+            asked = find_hears;
+          })
+          (record { call = first_find capacity; room = fresh_cell; told = []; words = words })
+          (finding.starts find_case (first_find capacity) refl fresh_cell roomy (ready owner lives))
 
     -- ---- a recovery
 
@@ -321,76 +299,57 @@ module _ {T : Type 0} (code : Coding T) (capacity : ℕ) where
           }
 
       -- The recovery, alone, has gone through `done` of its owner's indices, as `Searching` says.
-      abbrev Recovers : ℕ → Recover T (Buffer 128) → Buffer 128 → List (Decision T) → List ℕ → Type 0
-      Recovers done call room now ws = recovering.Searching recover_case done call room now ws
+      abbrev Recovers : ℕ → Standing T (Recover T (Buffer 128)) (Buffer 128) → Type 0
+      Recovers done z = recovering.Searching recover_case done z.call z.room z.told z.words
 
-      module _ (m done : ℕ) (call : Recover T (Buffer 128)) (room : Buffer 128) (now : List (Decision T)) (ws : List ℕ)
-          (t : Recovers done call room now ws)
-          (rest : (d : Recover T (Buffer 128)) (room : Buffer 128) (later : List (Decision T)) (last : List ℕ) → Recovers (done + 1) d room later last
-          → Talks code (EndsRight (calls.Recover owner mode)) m later (recover_flight d room) last) where
-        -- a question of the recovery is about the index that comes next
-        recover_asks : (question : Question (Unit {0})) (put : Recover T (Buffer 128)) (r : Buffer 128) (last : List ℕ)
-            → StopsAlike (recover_want code.size) (recover_after code.size) (recover_kept kept_at) dead call room ws (stops.Asked question put) r last
-            → recover_want code.size put dead ≡ wants.Question (questions.Value (asked_at (length now)) tt)
-        recover_asks question put r last alone =
-            let stop_is = recovering.stops_at t alone in
-            let so_far = t.recovering in
-            let long : length now ≡ length so_far.asked =
-            (let all = folds_long says
-            (λ p a q w. ap length w.2 ∙ length-append p (decision (questions.Value (asked_at (length p)) w.0) a.yes ∷ []))
-            so_far.asked [] now so_far.answers in omega arith) in
-            let place : asked_at (length now) ≡ stop_is.index =
-            (λ i. slice_index (map (λ (o : Owned). o.index) ((sym so_far.joined ∙ ap (λ l. asked_questions so_far.asked ++ l) stop_is.left_is) i)) (long i))
-            ∙ placed so_far.asked (record { owner = owner; index = stop_is.index }) _ in
-            ap (λ c. recover_want code.size c dead) stop_is.stands ∙ ap (λ n. wants.Question (questions.Value n tt)) (sym place)
+      -- after an answer to its question a recovery goes on
+      leads_recover : (done : ℕ) (a : After (Recover T (Buffer 128)) ReleaseState) (room : Buffer 128) (told : List (Decision T)) (last : List ℕ)
+          → recovering.Further recover_case done a room told last
+          → LeadsTo code recover_is (EndsRight (calls.Recover owner mode)) (Recovers done) a room told last
+      leads_recover done (GoOn d) room told last further = further
+      leads_recover done (Done state) room told last further = absurd further
 
-        -- at each stop a recovery has ended as the map says, or talks on, whatever is decided
-        recover_stops : (s : Stop (Recover T (Buffer 128)) ReleaseState) (r : Buffer 128) (last : List ℕ)
-            → StopsAlike (recover_want code.size) (recover_after code.size) (recover_kept kept_at) dead call room ws s r last
-            → AtStop code (EndsRight (calls.Recover owner mode)) (Talks code (EndsRight (calls.Recover owner mode)) m) now
-            (lift_stop code recover_is s r) last
-        recover_stops (stops.Ended state) r last alone =
-            gone now state last (recovering.ended_so t alone)
-        recover_stops (stops.Asked question put) r last alone = λ said.
-            let later : List (Decision T) = now ++ decision (questions.Value (asked_at (length now)) (read_in code r)) said ∷ [] in
-            let told : now ++ decided code (Some (recover_flight put r)) said ≡ later =
-            ap (λ w. now ++ decided_at (Some (read_in code r)) w said) (recover_asks question put r last alone) in
-            subst (λ ds. Turns code (EndsRight (calls.Recover owner mode)) (Talks code (EndsRight (calls.Recover owner mode)) m) ds
-            (after_of code (recover_flight put r) (number_of said)) last)
-            (sym told)
-            (subst (λ a. Turns code (EndsRight (calls.Recover owner mode)) (Talks code (EndsRight (calls.Recover owner mode)) m) later a last)
-            (sym (recover_is.goes put r (number_of said) tt))
-            (onward (recover_after code.size put dead (number_of said)) said later
-            (recovering.further_so t alone refl said later refl
-            (record { answer = number_of said; answer_is = yes_number said; goes = refl; keeps = refl }))))
-          where
-            -- what a decision leads to talks on, or ends as the map says
-            onward : (a : After (Recover T (Buffer 128)) ReleaseState) (said : Bool) (later : List (Decision T))
-                → recovering.Further recover_case (done + 1) a (recover_kept kept_at put r (number_of said)) later last
-                → Turns code (EndsRight (calls.Recover owner mode)) (Talks code (EndsRight (calls.Recover owner mode)) m) later
-                (as_call (λ c. recover_flight c (recover_kept kept_at put r (number_of said))) (λ e. answers.State e) a) last
-            onward (GoOn d) said later goes_onward = rest d (recover_kept kept_at put r (number_of said)) later last goes_onward
-            onward (Done state) said later goes_onward = absurd goes_onward
-
-      -- a recovery that has put `done` questions talks on as the object does, to its end, within `m` more
-      recover_talks : (m done : ℕ) (call : Recover T (Buffer 128)) (room : Buffer 128) (now : List (Decision T)) (ws : List ℕ)
-          → done + m ≡ 2 ^ 64 - 1 → Recovers done call room now ws → Talks code (EndsRight (calls.Recover owner mode)) m now (recover_flight call room) ws
-      recover_talks zero done call room now ws sum recovers =
-          let few = recovering.few_rounds recovers in absurd (omega arith)
-      recover_talks (suc m) done call room now ws sum recovers =
-          let can = recovering.can_go recovers in
-          talks_as code recover_is (EndsRight (calls.Recover owner mode)) m now tt can
-          (recover_stops m done call room now ws recovers (λ d r later last u. recover_talks m (done + 1) d r later last (omega arith) u)
-          can.stop can.last_room can.last_words
-          (alike can))
+      -- a recovery that asks about a value, at the index that comes next, hears each decision on it, and goes on
+      recover_hears : (done : ℕ) (z : Standing T (Recover T (Buffer 128)) (Buffer 128)) → Recovers done z
+          → (question : Question (Unit {0})) (put : Recover T (Buffer 128)) (room : Buffer 128) (last : List ℕ)
+          → StopsAlike (recover_want code.size) (recover_after code.size) (recover_kept kept_at) dead z.call z.room z.words (stops.Asked question put) room last
+          → (said : Bool) → Hears code recover_is (EndsRight (calls.Recover owner mode)) (Recovers (done + 1)) z.told put room last said
+      recover_hears done z so_far question put room last alone said =
+          let stop_is = recovering.stops_at so_far alone in
+          let before = so_far.recovering in
+          let long : length z.told ≡ length before.asked =
+          (let all = folds_long says
+          (λ p a q w. ap length w.2 ∙ length-append p (decision (questions.Value (asked_at (length p)) w.0) a.yes ∷ []))
+          before.asked [] z.told before.answers in omega arith) in
+          let place : asked_at (length z.told) ≡ stop_is.index =
+          (λ i. slice_index (map (λ (o : Owned). o.index) ((sym before.joined ∙ ap (λ l. asked_questions before.asked ++ l) stop_is.left_is) i)) (long i))
+          ∙ placed before.asked (record { owner = owner; index = stop_is.index }) _ in
+          let asks : recover_want code.size put dead ≡ wants.Question (questions.Value (asked_at (length z.told)) tt) =
+          ap (λ c. recover_want code.size c dead) stop_is.stands ∙ ap (λ n. wants.Question (questions.Value n tt)) (sym place) in
+          let later : List (Decision T) = z.told ++ decision (questions.Value (asked_at (length z.told)) (read_in code room)) said ∷ [] in
+          record {
+            later = later;
+            told_is = ap (λ w. z.told ++ decided_at (Some (read_in code room)) w said) asks;
+            leads_to =
+                leads_recover (done + 1) (recover_after code.size put dead (number_of said)) (recover_kept kept_at put room (number_of said)) later last
+                (recovering.further_so so_far alone refl said later refl
+                (record { answer = number_of said; answer_is = yes_number said; goes = refl; keeps = refl }));
+          }
 
       -- a recovery, alone, says what the map says
       recovers_all : SaysAsMap (calls.Recover owner mode)
-      recovers_all = (
-        2 ^ 64 - 1,
-        recover_talks (2 ^ 64 - 1) 0 (first_recover capacity) fresh_cell [] words (omega arith)
-            (recovering.starts recover_case (first_recover capacity) refl fresh_cell roomy (ready owner lives)),
-      )
+      recovers_all =
+          talks_all code recover_is (EndsRight (calls.Recover owner mode))
+          (record {
+            Under = Recovers;
+            low = λ c. tt;
+            few = λ done z so_far. recovering.few_rounds so_far;
+            can_stop = λ done z so_far. recovering.can_go so_far;
+            ended = λ done z so_far state room last alone. gone z.told state last (recovering.ended_so so_far alone);
+            asked = recover_hears;
+          })
+          (record { call = first_recover capacity; room = fresh_cell; told = []; words = words })
+          (recovering.starts recover_case (first_recover capacity) refl fresh_cell roomy (ready owner lives))
 
     -- each call that is no look, and names an owner as it may, says alone what the map says
     pub every : (start : ContainerStart T) → IsNoLook (first capacity start) → names_owner start ≡ true → SaysAsMap start

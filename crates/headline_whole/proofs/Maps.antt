@@ -23,7 +23,6 @@ use Rattle.model.specs.declared.families.container.calls.CountOf.{CountOf}
 use Rattle.model.specs.declared.turn.Kind.TheVariants as kinds
 use Rattle.model.specs.Coding.{Coding, IsCoding}
 use Rattle.model.specs.Families.Container.Calls.{first, place_of, added, removed, replaced, counted}
-use Rattle.model.specs.Families.Queues.Calls.{as_it_is}
 use Rattle.model.specs.World.{capacity_error}
 use Rattle.plain.specs.Contents as contents
 use Rattle.plain.specs.Contents.{Contents, contents_in, Holds}
@@ -35,10 +34,9 @@ use Rattle.plain.proofs.Elements.Looks.{count_at, look_at}
 use Rattle.plain.proofs.Elements.Removes.{remove_at}
 use Rattle.plain.proofs.Elements.Replaces.{replace_at}
 use Rattle.plain.proofs.Elements.Values.{Codes}
-use Rattle.plain.proofs.Walks.{any_low}
 use Rattle.headline_whole.specs.Dialogues.{Decision, as_request, as_reply}
 use Rattle.headline_whole.specs.Objects.{handle_to, add_answer, map_after, map_answer, whole_map}
-use Rattle.headline_whole.proofs.Flights.{FlightRuns, runs_as, twice}
+use Rattle.headline_whole.proofs.Flights.{FlightRuns, family_runs}
 use Rattle.headline_whole.proofs.Decisions.{yes_of}
 
 -- A container opens with a capacity from 1 to 2 ^ 32 - 1.
@@ -104,22 +102,18 @@ module _ {T : Type 0} (code : Coding T) (capacity : ℕ) where
       -- an add, run alone, answers and leaves what the map does
       pub adds_one : RunsAsMap (calls.Add value owner)
       adds_one =
-          runs_as code
+          family_runs code
           (record {
             want = add_want code.words_of code.size;
             after = λ c given old. add_after code.size c old;
-            kept = λ c (room : Unit {0}) old. room;
             given = given;
-            Low = λ c. Unit {0};
-            flight = λ c room. flights.Container (under_way.Add (record { call = c; given = given; room = room }));
-            answer = λ e room. added e;
-            wants = λ c room low. refl;
-            goes = λ c room old low.
-                twice flights.Container under_way.Add added as_it_is given room (add_after code.size c old);
-            stays = λ c old low. any_low (add_after code.size c old);
+            outer = flights.Container;
+            wrap = under_way.Add;
+            answer = added;
+            wants = λ c room. refl;
+            goes = λ c room old. refl;
           })
           (add_at codes capacity 0 given refl lives refl h.0)
-          tt
           (λ e room last p.
           let still_stands = still code.value_of code.size capacity 0 (λ (s : Contents T). contents.added s owner) (λ s. contents.after_add s owner value) words
           (filled_add owner value (contents_in code.value_of code.size capacity 0 words) (values_long code.value_of 0 h.0) h.1) p in
@@ -128,24 +122,18 @@ module _ {T : Type 0} (code : Coding T) (capacity : ℕ) where
     -- a remove, run alone, answers and leaves what the map does
     pub removes_one : (index owner : ℕ) (mode : ReleaseMode) → owner < empty → RunsAsMap (calls.Remove index owner mode)
     removes_one index owner mode lives =
-        runs_as code
+        family_runs code
         (record {
           want = remove_want;
           after = remove_after;
-          kept = λ c (room : Unit {0}) old. room;
           given = record { index = place_of capacity index; owner = owner; mode = mode };
-          Low = λ c. Unit {0};
-          flight = λ c room. flights.Container
-              (under_way.Remove (record { call = c; given = record { index = place_of capacity index; owner = owner; mode = mode }; room = room }));
-          answer = λ e room. removed e;
-          wants = λ c room low. refl;
-          goes = λ c room old low.
-              twice flights.Container under_way.Remove removed as_it_is (record { index = place_of capacity index; owner = owner; mode = mode }) room
-              (remove_after c (record { index = place_of capacity index; owner = owner; mode = mode }) old);
-          stays = λ c old low. any_low (remove_after c (record { index = place_of capacity index; owner = owner; mode = mode }) old);
+          outer = flights.Container;
+          wrap = under_way.Remove;
+          answer = removed;
+          wants = λ c room. refl;
+          goes = λ c room old. refl;
         })
         (remove_at codes capacity 0 (record { index = place_of capacity index; owner = owner; mode = mode }) refl lives refl h.0)
-        tt
         (λ e room last p.
         let still_stands = still code.value_of code.size capacity 0 (λ (s : Contents T). contents.removed s (handle_to capacity index owner) mode)
         (λ s. contents.after_remove s (handle_to capacity index owner) mode) words
@@ -155,24 +143,18 @@ module _ {T : Type 0} (code : Coding T) (capacity : ℕ) where
     -- a replace, run alone, answers and leaves what the map does
     pub replaces_one : (index : ℕ) (value : T) (owner : ℕ) → owner < empty → RunsAsMap (calls.Replace index value owner)
     replaces_one index value owner lives =
-        runs_as code
+        family_runs code
         (record {
           want = replace_want code.words_of code.size;
           after = replace_after code.size;
-          kept = λ c (room : Unit {0}) old. room;
           given = record { index = place_of capacity index; owner = owner; value = value };
-          Low = λ c. Unit {0};
-          flight = λ c room. flights.Container
-              (under_way.Replace (record { call = c; given = record { index = place_of capacity index; owner = owner; value = value }; room = room }));
-          answer = λ e room. replaced e;
-          wants = λ c room low. refl;
-          goes = λ c room old low.
-              twice flights.Container under_way.Replace replaced as_it_is (record { index = place_of capacity index; owner = owner; value = value }) room
-              (replace_after code.size c (record { index = place_of capacity index; owner = owner; value = value }) old);
-          stays = λ c old low. any_low (replace_after code.size c (record { index = place_of capacity index; owner = owner; value = value }) old);
+          outer = flights.Container;
+          wrap = under_way.Replace;
+          answer = replaced;
+          wants = λ c room. refl;
+          goes = λ c room old. refl;
         })
         (replace_at codes capacity 0 (record { index = place_of capacity index; owner = owner; value = value }) refl lives refl h.0)
-        tt
         (λ e room last p.
         let still_stands = still code.value_of code.size capacity 0 (λ (s : Contents T). contents.replaced s (handle_to capacity index owner))
         (λ s. contents.after_replace s (handle_to capacity index owner) value) words
@@ -186,22 +168,18 @@ module _ {T : Type 0} (code : Coding T) (capacity : ℕ) where
         → FlightRuns code (Answers words (views p) start)
         (flights.Container (under_way.Count which (record { call = first_borrowed capacity; given = tt; room = tt }))) words
     counts_so which start so =
-        runs_as code
+        family_runs code
         (record {
           want = λ (c : BorrowedIndices) (given : Unit {0}). borrowed_want c;
           after = λ c given old. borrowed_after c old;
-          kept = λ c (room : Unit {0}) old. room;
           given = tt;
-          Low = λ c. Unit {0};
-          flight = λ c room. flights.Container (under_way.Count which (record { call = c; given = tt; room = room }));
-          answer = λ e room. counted which e;
-          wants = λ c room low. refl;
-          goes = λ c room old low.
-              twice flights.Container (λ r. under_way.Count which r) (counted which) as_it_is tt room (borrowed_after c old);
-          stays = λ c old low. any_low (borrowed_after c old);
+          outer = flights.Container;
+          wrap = under_way.Count which;
+          answer = counted which;
+          wants = λ c room. refl;
+          goes = λ c room old. refl;
         })
         (count_at code.value_of code.size capacity 0 refl h.0)
-        tt
         (λ e room last p.
         let still_stands = still code.value_of code.size capacity 0 (contents.number {V = T}) (contents.counted {V = T}) words
         (filled_counted (contents_in code.value_of code.size capacity 0 words) h.1) p in
@@ -210,21 +188,18 @@ module _ {T : Type 0} (code : Coding T) (capacity : ℕ) where
     -- a look whether the container is locked, run alone, answers and leaves what the map does
     pub looks : RunsAsMap calls.IsLocked
     looks =
-        runs_as code
+        family_runs code
         (record {
           want = λ (c : IsLocked) (given : Unit {0}). load 0;
           after = λ c given old. locked_after c old;
-          kept = λ c (room : Unit {0}) old. room;
           given = tt;
-          Low = λ c. Unit {0};
-          flight = λ c room. flights.Container (under_way.IsLocked (record { call = c; given = tt; room = room }));
-          answer = λ e room. answers.Truth e;
-          wants = λ c room low. refl;
-          goes = λ c room old low. refl;
-          stays = λ c old low. tt;
+          outer = flights.Container;
+          wrap = under_way.IsLocked;
+          answer = answers.Truth;
+          wants = λ c room. refl;
+          goes = λ c room old. refl;
         })
         (look_at code.value_of code.size capacity 0 h.0)
-        tt
         (λ e room last p.
         let still_stands = still code.value_of code.size capacity 0 (contents.is_locked {V = T}) (λ s. s) words h.1 p in
         record { said = ap answers.Truth still_stands.1; holds = still_stands.0; object = still_stands.2 })

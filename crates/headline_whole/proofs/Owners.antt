@@ -38,18 +38,15 @@ use Rattle.model.specs.declared.families.indices.robust.calls.RobustFlight.TheVa
 use Rattle.model.specs.declared.turn.Kind.TheVariants as kinds
 use Rattle.model.specs.declared.turn.Turn.TheVariants.{Begin}
 use Rattle.model.specs.Coding.{Coding}
-use Rattle.model.specs.Families.{first_of, after_of, kept_after_begin}
+use Rattle.model.specs.Families.{first_of, kept_after_begin}
 use Rattle.model.specs.Families.Indices.Robust.Calls.{first, acquire_answer, release_answer}
 use Rattle.model.specs.Families.Indices.Robust.Opening.{names_owner, kept_rows}
 use Rattle.model.specs.Families.Indices.Robust.Opening.{opening_words as robust_words}
-use Rattle.model.specs.Families.Queues.Calls.{as_it_is}
 use Rattle.model.specs.Refusals.{refusal_of}
 use Rattle.model.specs.Rows.{first_row}
-use Rattle.model.specs.Step.{as_call}
 use Rattle.model.specs.Turns.{IsReached, number_of}
 use Rattle.model.specs.World.{Trace, capacity_error}
 use Rattle.model.proofs.Rows.{passes, may_begin, row_passed}
-use Rattle.plain.specs.declared.drive.Stop.{Stop}
 use Rattle.plain.specs.declared.drive.Stop.TheVariants as stops
 use Rattle.plain.specs.Alone.{StopsAlike}
 use Rattle.plain.specs.Callable.{HasFound, index_in}
@@ -59,14 +56,14 @@ use Rattle.plain.proofs.Robust.Finding as finding
 use Rattle.plain.proofs.Robust.Looks.{borrowed_at, looked_at}
 use Rattle.plain.proofs.Robust.Recovering as recovering
 use Rattle.plain.proofs.Robust.Releases.{give_at}
-use Rattle.plain.proofs.Walks.{any_low}
-use Rattle.headline_whole.specs.Dialogues.{Decision, decided, decided_at}
+use Rattle.headline_whole.specs.Dialogues.{Decision, decided_at}
 use Rattle.headline_whole.specs.Objects.{owners_after, owners_questions, owners_answer, owners_freed, whole_owners}
 use Rattle.headline_whole.proofs.Agree.{Agree}
 use Rattle.headline_whole.proofs.Courses.{Course, IsMadeSo, Rules}
-use Rattle.headline_whole.proofs.Flights.{FlightRuns, AsFlight, Turns, AtStop, Talks, talks_once, lift_stop, runs_as, talks_as, alike, twice}
+use Rattle.headline_whole.proofs.Flights.{FlightRuns, AsFlight, Talks, talks_once, family_flight, family_runs}
 use Rattle.headline_whole.proofs.Replies.{course}
 use Rattle.headline_whole.proofs.SoloCalls.{Speech, EndsAsObject, Speaks, talking, talk_rules}
+use Rattle.headline_whole.proofs.Talking.{Standing, LeadsTo, Hears, talks_all}
 use Rattle.headline_whole.proofs.Decisions.{goes_on, progression, same_decision, same_number, yes_number, yes_of, decision, found_so, asked_so}
 
 -- A robust index set opens with a capacity from 1 to 2 ^ 32 - 1.
@@ -135,84 +132,69 @@ module _ {T : Type 0} where
     -- an acquire, run alone, answers and leaves what the map does
     acquires : (owner : ℕ) → owner < empty → RunsAsMap (calls.Acquire owner)
     acquires owner lives =
-        runs_as code
+        family_runs code
         (record {
           want = acquire_want;
           after = λ c given old. acquire_after c old;
-          kept = λ c (room : Unit {0}) old. room;
           given = owner;
-          Low = λ c. Unit {0};
-          flight = λ c room. flights.Robust (under_way.Acquire (record { call = c; given = owner; room = room }));
-          answer = λ e room. acquire_answer e;
-          wants = λ c room low. refl;
-          goes = λ c room old low. twice flights.Robust under_way.Acquire acquire_answer as_it_is owner room (acquire_after c old);
-          stays = λ c old low. any_low (acquire_after c old);
+          outer = flights.Robust;
+          wrap = under_way.Acquire;
+          answer = acquire_answer;
+          wants = λ c room. refl;
+          goes = λ c room old. refl;
         })
         (take_at capacity owner owner refl lives (first_acquire capacity) refl words fits)
-        tt
         (λ e room last h. record { said = ap acquire_answer h.1; holds = h.0; object = h.2 })
 
     -- a release, run alone, answers and leaves what the map does
     releases : (index owner : ℕ) (mode : ReleaseMode) → owner < empty → index < capacity → RunsAsMap (calls.Release index owner mode)
     releases index owner mode lives low =
-        runs_as code
+        family_runs code
         (record {
           want = release_want;
           after = release_after;
-          kept = λ c (room : Unit {0}) old. room;
           given = record { index = index; owner = owner; mode = mode };
-          Low = λ c. Unit {0};
-          flight = λ c room. flights.Robust
-              (under_way.Release (record { call = c; given = record { index = index; owner = owner; mode = mode }; room = room }));
-          answer = λ e room. release_answer e;
-          wants = λ c room low. refl;
-          goes = λ c room old low.
-              twice flights.Robust under_way.Release release_answer as_it_is (record { index = index; owner = owner; mode = mode }) room
-              (release_after c (record { index = index; owner = owner; mode = mode }) old);
-          stays = λ c old low. any_low (release_after c (record { index = index; owner = owner; mode = mode }) old);
+          outer = flights.Robust;
+          wrap = under_way.Release;
+          answer = release_answer;
+          wants = λ c room. refl;
+          goes = λ c room old. refl;
         })
         (give_at capacity index owner mode owner refl lives (first_release capacity) refl words fits low)
-        tt
         (λ e room last h. record { said = ap release_answer h.1; holds = h.0; object = h.2 })
 
     -- a count of the indices in use, run alone, answers and leaves what the map does
     counts : RunsAsMap calls.BorrowedIndices
     counts =
-        runs_as code
+        family_runs code
         (record {
           want = λ (c : BorrowedIndices) (given : Unit {0}). borrowed_want c;
           after = λ c given old. borrowed_after c old;
-          kept = λ c (room : Unit {0}) old. room;
           given = tt;
-          Low = λ c. Unit {0};
-          flight = λ c room. flights.Robust (under_way.BorrowedIndices (record { call = c; given = tt; room = room }));
-          answer = λ e room. answers.Number e;
-          wants = λ c room low. refl;
-          goes = λ c room old low. twice flights.Robust under_way.BorrowedIndices answers.Number as_it_is tt room (borrowed_after c old);
-          stays = λ c old low. any_low (borrowed_after c old);
+          outer = flights.Robust;
+          wrap = under_way.BorrowedIndices;
+          answer = answers.Number;
+          wants = λ c room. refl;
+          goes = λ c room old. refl;
         })
         (borrowed_at capacity (first_borrowed capacity) refl words fits)
-        tt
         (λ e room last h. record { said = ap answers.Number h.1; holds = h.0; object = h.2 })
 
     -- a look whether the set is locked, run alone, answers and leaves what the map does
     looks : RunsAsMap calls.IsLocked
     looks =
-        runs_as code
+        family_runs code
         (record {
           want = λ (c : IsLocked) (given : Unit {0}). load 0;
           after = λ c given old. locked_after c old;
-          kept = λ c (room : Unit {0}) old. room;
           given = tt;
-          Low = λ c. Unit {0};
-          flight = λ c room. flights.Robust (under_way.IsLocked (record { call = c; given = tt; room = room }));
-          answer = λ e room. answers.Truth e;
-          wants = λ c room low. refl;
-          goes = λ c room old low. refl;
-          stays = λ c old low. tt;
+          outer = flights.Robust;
+          wrap = under_way.IsLocked;
+          answer = answers.Truth;
+          wants = λ c room. refl;
+          goes = λ c room old. refl;
         })
         (looked_at capacity (record {}) words fits)
-        tt
         (λ e room last h. record { said = ap answers.Truth h.1; holds = h.0; object = h.2 })
 
     -- ---- a find
@@ -228,28 +210,23 @@ module _ {T : Type 0} where
       find_case = record { capacity = capacity; owner = owner; words = words; step = finds; first = [] }
 
       -- The find, alone, has gone through `done` of its owner's indices, as `Searching` says.
-      abbrev Searches : ℕ → Find → List (Decision T) → List ℕ → Type 0
-      Searches done call now ws = finding.Searching find_case done call now ws
-
-      -- The find as a call of the machine.
-      abbrev find_flight : Find → Unit {0} → Flight T
-      find_flight c room = flights.Robust (under_way.Find (record { call = c; given = owner; room = room }))
+      abbrev Searches : ℕ → Standing T Find (Unit {0}) → Type 0
+      Searches done z = finding.Searching find_case done z.call z.told z.words
 
       -- each step of the machine's find is a step of the find of `steps`
       abbrev find_is : AsFlight code Find ℕ (Unit {0}) ℕ
       find_is =
-          record {
+          family_flight code
+          (record {
             want = λ c given. find_want c;
             after = find_after;
-            kept = λ c room old. room;
             given = owner;
-            Low = λ c. Unit {0};
-            flight = find_flight;
-            answer = λ e room. answers.Number e;
-            wants = λ c room low. refl;
-            goes = λ c room old low. twice flights.Robust under_way.Find answers.Number as_it_is owner room (find_after c owner old);
-            stays = λ c old low. any_low (find_after c owner old);
-          }
+            outer = flights.Robust;
+            wrap = under_way.Find;
+            answer = answers.Number;
+            wants = λ c room. refl;
+            goes = λ c room old. refl;
+          })
 
       -- a find that has come to its end says what the map says, if it has left the words
       found : (told : List (Decision T)) (n : ℕ) (last : List ℕ) → HasFound finds (objects.indices_of (owners_in words) owner) [] n told
@@ -261,64 +238,45 @@ module _ {T : Type 0} where
             ap owners_in same,
           )
 
-      module _ (m done : ℕ) (call : Find) (now : List (Decision T)) (ws : List ℕ) (t : Searches done call now ws)
-          (rest : (d : Find) (later : List (Decision T)) (last : List ℕ) → Searches (done + 1) d later last
-          → Talks code (EndsRight (calls.Find owner)) m later (find_flight d tt) last) where
-        -- After an answer to its question a find goes on, or it has ended with the number that the map gives.
-        further : (a : After Find ℕ) (later : List (Decision T)) (last : List ℕ) → finding.Further find_case (done + 1) a later last
-            → Turns code (EndsRight (calls.Find owner)) (Talks code (EndsRight (calls.Find owner)) m) later
-            (as_call (λ c. find_flight c tt) (λ e. answers.Number e) a) last
-        further (GoOn d) later last further_on = rest d later last further_on
-        further (Done n) later last further_on = found later n last further_on.0 further_on.1
+      -- after an answer to its question a find goes on, or it has ended with the number that the map gives
+      leads_find : (done : ℕ) (a : After Find ℕ) (room : Unit {0}) (told : List (Decision T)) (last : List ℕ)
+          → finding.Further find_case done a told last → LeadsTo code find_is (EndsRight (calls.Find owner)) (Searches done) a room told last
+      leads_find done (GoOn d) room told last further = further
+      leads_find done (Done n) room told last further = found told n last further.0 further.1
 
-        -- a question of a find is about the index that it names
-        find_asks : (question : Question (Unit {0})) (asks : Find) (r : Unit {0}) (last : List ℕ)
-            → StopsAlike (λ (c : Find) (given : ℕ). find_want c) find_after (λ c (room : Unit {0}) old. room) owner call tt ws
-            (stops.Asked question asks) r last
-            → find_want asks ≡ wants.Question (questions.Index (index_in question))
-        find_asks question asks r last alone =
-            let stop_is = finding.asked t alone in
-            ap find_want stop_is.stands ∙ ap (λ q. wants.Question (questions.Index (index_in q))) (sym stop_is.asks)
-
-        -- at each stop a find has ended as the map says, or talks on, whatever is decided
-        find_stops : (s : Stop Find ℕ) (r : Unit {0}) (last : List ℕ)
-            → StopsAlike (λ (c : Find) (given : ℕ). find_want c) find_after (λ c (room : Unit {0}) old. room) owner call tt ws s r last
-            → AtStop code (EndsRight (calls.Find owner)) (Talks code (EndsRight (calls.Find owner)) m) now
-            (lift_stop code find_is s r) last
-        find_stops (stops.Ended n) r last alone =
-            let end = finding.ended_so t alone in found now n last end.0 end.1
-        find_stops (stops.Asked question asks) r last alone = λ said.
-            let later : List (Decision T) = now ++ decision (questions.Index (index_in question)) said ∷ [] in
-            let next = finding.further_so t alone refl (progression said) later
-            (ap (λ b. now ++ decision (questions.Index (index_in question)) b ∷ []) (sym (same_decision said)))
-            (same_number said) refl in
-            let told : now ++ decided code (Some (find_flight asks r)) said ≡ later =
-            ap (λ w. now ++ decided_at {T = T} None w said) (find_asks question asks r last alone) in
-            subst (λ ds. Turns code (EndsRight (calls.Find owner)) (Talks code (EndsRight (calls.Find owner)) m) ds
-            (after_of code (find_flight asks r) (number_of said)) last)
-            (sym told)
-            (subst (λ a. Turns code (EndsRight (calls.Find owner)) (Talks code (EndsRight (calls.Find owner)) m) later a last)
-            (sym (find_is.goes asks r (number_of said) tt)) (further (find_after asks owner (number_of said)) later last next))
-
-      -- a find that has put `done` questions talks on as the object does, to its end, within `m` more
-      find_talks : (m done : ℕ) (call : Find) (now : List (Decision T)) (ws : List ℕ) → done + m ≡ 2 ^ 64 - 1
-          → Searches done call now ws → Talks code (EndsRight (calls.Find owner)) m now (find_flight call tt) ws
-      find_talks zero done call now ws sum searching =
-          let few = finding.few_rounds searching in absurd (omega arith)
-      find_talks (suc m) done call now ws sum searching =
-          let can = finding.can_go searching in
-          talks_as code find_is (EndsRight (calls.Find owner)) m now tt can
-          (find_stops m done call now ws searching (λ d later last u. find_talks m (done + 1) d later last (omega arith) u)
-          can.stop can.last_room can.last_words
-          (alike can))
+      -- a find that asks about an index hears each decision on it, and goes on or ends as the map says
+      find_hears : (done : ℕ) (z : Standing T Find (Unit {0})) → Searches done z → (question : Question (Unit {0})) (put : Find) (room : Unit {0})
+          (last : List ℕ)
+          → StopsAlike find_is.want find_after find_is.kept owner z.call z.room z.words (stops.Asked question put) room last
+          → (said : Bool) → Hears code find_is (EndsRight (calls.Find owner)) (Searches (done + 1)) z.told put room last said
+      find_hears done z searches question put room last alone said =
+          let stop_is = finding.asked searches alone in
+          let asks : find_want put ≡ wants.Question (questions.Index (index_in question)) =
+          ap find_want stop_is.stands ∙ ap (λ q. wants.Question (questions.Index (index_in q))) (sym stop_is.asks) in
+          let later : List (Decision T) = z.told ++ decision (questions.Index (index_in question)) said ∷ [] in
+          record {
+            later = later;
+            told_is = ap (λ w. z.told ++ decided_at {T = T} None w said) asks;
+            leads_to = leads_find (done + 1) (find_after put owner (number_of said)) room later last
+                (finding.further_so searches alone refl (progression said) later
+                (ap (λ b. z.told ++ decision (questions.Index (index_in question)) b ∷ []) (sym (same_decision said)))
+                (same_number said) refl);
+          }
 
       -- a find, alone, says what the map says
       finds_all : SaysAsMap (calls.Find owner)
-      finds_all = (
-        2 ^ 64 - 1,
-        find_talks (2 ^ 64 - 1) 0 (first_find capacity) [] words (omega arith)
-            (finding.starts find_case (first_find capacity) refl fits lives),
-      )
+      finds_all =
+          talks_all code find_is (EndsRight (calls.Find owner))
+          (record {
+            Under = Searches;
+            low = λ c. tt;
+            few = λ done z searches. finding.few_rounds searches;
+            can_stop = λ done z searches. finding.can_go searches;
+            ended = λ done z searches n room last alone. let end = finding.ended_so searches alone in found z.told n last end.0 end.1;
+            asked = find_hears;
+          })
+          (record { call = first_find capacity; room = tt; told = []; words = words })
+          (finding.starts find_case (first_find capacity) refl fits lives)
 
     -- ---- a recovery
 
@@ -336,28 +294,23 @@ module _ {T : Type 0} where
       recover_case = record { mode = mode; capacity = capacity; words = words; step = asks; answering = []; tell = tells; hearing = tt }
 
       -- The recovery, alone, has gone through `done` of the taken indices, as `Recovering` says.
-      abbrev Recovers : ℕ → Recover → List (Decision T) → List ℕ → Type 0
-      Recovers done call now ws = recovering.Recovering recover_case done call now tt ws
-
-      -- The recovery as a call of the machine.
-      abbrev recover_flight : Recover → Unit {0} → Flight T
-      recover_flight c room = flights.Robust (under_way.Recover (record { call = c; given = mode; room = room }))
+      abbrev Recovers : ℕ → Standing T Recover (Unit {0}) → Type 0
+      Recovers done z = recovering.Recovering recover_case done z.call z.told tt z.words
 
       -- each step of the machine's recovery is a step of the recovery of `steps`
       abbrev recover_is : AsFlight code Recover ReleaseMode (Unit {0}) ReleaseState
       recover_is =
-          record {
+          family_flight code
+          (record {
             want = λ c given. recover_want c;
             after = recover_after;
-            kept = λ c room old. room;
             given = mode;
-            Low = λ c. Unit {0};
-            flight = recover_flight;
-            answer = λ e room. answers.State e;
-            wants = λ c room low. refl;
-            goes = λ c room old low. twice flights.Robust under_way.Recover answers.State as_it_is mode room (recover_after c mode old);
-            stays = λ c old low. any_low (recover_after c mode old);
-          }
+            outer = flights.Robust;
+            wrap = under_way.Recover;
+            answer = answers.State;
+            wants = λ c room. refl;
+            goes = λ c room old. refl;
+          })
 
       -- a recovery that has come to its end says what the map says
       gone : (told : List (Decision T)) (state : ReleaseState) (last : List ℕ) → recovering.Gone recover_case state told tt last
@@ -372,73 +325,50 @@ module _ {T : Type 0} where
             is,
           )
 
-      module _ (m done : ℕ) (call : Recover) (now : List (Decision T)) (ws : List ℕ)
-          (t : Recovers done call now ws)
-          (rest : (d : Recover) (later : List (Decision T)) (last : List ℕ) → Recovers (done + 1) d later last
-          → Talks code (EndsRight (calls.Recover mode)) m later (recover_flight d tt) last) where
-        -- at each stop a recovery has ended as the map says, or talks on, whatever is decided
-        recover_stops : (s : Stop Recover ReleaseState) (r : Unit {0}) (last : List ℕ)
-            → StopsAlike (λ (c : Recover) (given : ReleaseMode). recover_want c) recover_after (λ c (room : Unit {0}) old. room) mode call tt ws s r last
-            → AtStop code (EndsRight (calls.Recover mode)) (Talks code (EndsRight (calls.Recover mode)) m) now
-            (lift_stop code recover_is s r) last
-        recover_stops (stops.Ended state) r last alone =
-            gone now state last (recovering.ended_so t alone)
-        recover_stops (stops.Asked question put) r last alone = λ said.
-            let at = recovering.asks_so t alone in
-            let later : List (Decision T) = now ++ decision (questions.Owned at.owner at.index) said ∷ [] in
-            let handed : ℕ = if said then 1 else 0 in
-            let after : After Recover ReleaseState = recover_after put mode handed in
-            let next : recovering.Onward recover_case (done + 1) later tt after last =
-            recovering.onward_so t at at.asks said later tt (record { called = refl; told = λ is. tt; passed = λ is. refl }) refl refl in
-            let told : now ++ decided code (Some (recover_flight put r)) said ≡ later =
-            ap (λ c. now ++ decided_at {T = T} None (recover_want c) said) at.stands in
-            subst (λ ds. Turns code (EndsRight (calls.Recover mode)) (Talks code (EndsRight (calls.Recover mode)) m) ds
-            (after_of code (recover_flight put r) (number_of said)) last)
-            (sym told)
-            (subst (λ a. Turns code (EndsRight (calls.Recover mode)) (Talks code (EndsRight (calls.Recover mode)) m) later a last)
-            (sym (recover_is.goes put r (number_of said) tt))
-            (subst (λ old. Turns code (EndsRight (calls.Recover mode)) (Talks code (EndsRight (calls.Recover mode)) m) later
-            (as_call (λ c. recover_flight c tt) (λ e. answers.State e) (recover_after put mode old)) last)
-            (sym (yes_number said))
-            (onward last later after next)))
-          where
-            -- what a decision leads to talks on, or ends as the map says
-            onward : (last : List ℕ) (later : List (Decision T)) (a : After Recover ReleaseState)
-                → recovering.Onward recover_case (done + 1) later tt a last
-                → Turns code (EndsRight (calls.Recover mode)) (Talks code (EndsRight (calls.Recover mode)) m) later
-                (as_call (λ c. recover_flight c tt) (λ e. answers.State e) a) last
-            onward last later (GoOn d) goes_onward = rest d later last goes_onward
-            onward last later (Done state) goes_onward = absurd goes_onward
+      -- after an answer to its question a recovery goes on
+      leads_recover : (done : ℕ) (a : After Recover ReleaseState) (room : Unit {0}) (told : List (Decision T)) (last : List ℕ)
+          → recovering.Onward recover_case done told tt a last → LeadsTo code recover_is (EndsRight (calls.Recover mode)) (Recovers done) a room told last
+      leads_recover done (GoOn d) room told last onward = onward
+      leads_recover done (Done state) room told last onward = absurd onward
 
-      -- a recovery that has put `done` questions talks on as the object does, to its end, within `m` more
-      recover_talks : (m done : ℕ) (call : Recover) (now : List (Decision T)) (ws : List ℕ) → done + m ≡ 2 ^ 64 - 1
-          → Recovers done call now ws → Talks code (EndsRight (calls.Recover mode)) m now (recover_flight call tt) ws
-      recover_talks zero done call now ws sum so_far =
-          let few = recovering.few_rounds fits so_far in absurd (omega arith)
-      recover_talks (suc m) done call now ws sum so_far =
-          let can = recovering.can_go so_far in
-          talks_as code recover_is (EndsRight (calls.Recover mode)) m now tt can
-          (recover_stops m done call now ws so_far (λ d later last u. recover_talks m (done + 1) d later last (omega arith) u)
-          can.stop can.last_room can.last_words
-          (alike can))
+      -- a recovery that asks about an index hears each decision on it, and goes on
+      recover_hears : (done : ℕ) (z : Standing T Recover (Unit {0})) → Recovers done z → (question : Question (Unit {0})) (put : Recover)
+          (room : Unit {0}) (last : List ℕ)
+          → StopsAlike recover_is.want recover_after recover_is.kept mode z.call z.room z.words (stops.Asked question put) room last
+          → (said : Bool) → Hears code recover_is (EndsRight (calls.Recover mode)) (Recovers (done + 1)) z.told put room last said
+      recover_hears done z so_far question put room last alone said =
+          let at = recovering.asks_so so_far alone in
+          let later : List (Decision T) = z.told ++ decision (questions.Owned at.owner at.index) said ∷ [] in
+          record {
+            later = later;
+            told_is = ap (λ c. z.told ++ decided_at {T = T} None (recover_want c) said) at.stands;
+            leads_to = leads_recover (done + 1) (recover_after put mode (number_of said)) room later last
+                (recovering.onward_so so_far at at.asks said later tt (record { called = refl; told = λ is. tt; passed = λ is. refl }) (yes_number said) refl);
+          }
 
       -- a recovery, alone, says what the map says
       recovers_all : SaysAsMap (calls.Recover mode)
-      recovers_all = (
-        2 ^ 64 - 1,
-        recover_talks (2 ^ 64 - 1) 0 (first_recover capacity) [] words (omega arith)
-            (recovering.starts recover_case (first_recover capacity) refl fits),
-      )
+      recovers_all =
+          talks_all code recover_is (EndsRight (calls.Recover mode))
+          (record {
+            Under = Recovers;
+            low = λ c. tt;
+            few = λ done z so_far. recovering.few_rounds fits so_far;
+            can_stop = λ done z so_far. recovering.can_go so_far;
+            ended = λ done z so_far state room last alone. gone z.told state last (recovering.ended_so so_far alone);
+            asked = recover_hears;
+          })
+          (record { call = first_recover capacity; room = tt; told = []; words = words })
+          (recovering.starts recover_case (first_recover capacity) refl fits)
 
   -- ---- the law
 
   -- A call of the robust set that is let begin is named as one of its family, and the machine
   -- keeps who has died.
-  has_registry : (capacity p : ℕ) (start : RobustStart) (flight : Flight T) (kept : Registry T) → flights.Robust (first capacity start) ≡ flight
-      → first_row (kept_rows capacity start kept p) ≡ None → Agree (starts.Robust start) flight kept
-  has_registry capacity p start flight (registries.Owners dead) flight_is rows_passed =
-      subst (λ f. Agree (starts.Robust start) f (registries.Owners dead)) flight_is tt
-  has_registry capacity p start flight kept flight_is rows_passed = absurd (cc)
+  has_registry : (capacity p : ℕ) (start : RobustStart) (kept : Registry T) → first_row (kept_rows capacity start kept p) ≡ None
+      → Agree (starts.Robust start) (flights.Robust (first capacity start)) kept
+  has_registry capacity p start (registries.Owners dead) rows_passed = tt
+  has_registry capacity p start kept rows_passed = absurd (cc)
 
   -- A release that is let begin names an index below the capacity.
   low_index : (capacity p index owner : ℕ) (mode : ReleaseMode) (kept : Registry T)
@@ -457,9 +387,10 @@ module _ {T : Type 0} where
         let first_flight = named_if flights.Robust (first capacity start) flight (names_owner start) named in
         let rows = subst (λ n. first_row (kept_rows n start t.world.kept p) ≡ None) made.capacity
         (may_begin t.world p (starts.Robust start) (passes t.world (Begin p (starts.Robust start)) free).on).rows in
-        let talk = subst (λ f. (n : ℕ) × Talks code (EndsAsObject (robust_course capacity) (robust_speech capacity) code (owners_in t.world.words)
-        t.world.turns p (starts.Robust start)) n [] f t.world.words) first_flight.1 (runs start first_flight.0 rows) in
-        (has_registry capacity p start flight t.world.kept first_flight.1 rows, talk.0, talk.1)
+        let talk = runs start first_flight.0 rows in
+        subst (λ f. Speaks (robust_course capacity) (robust_speech capacity) code (owners_in t.world.words) t.world.turns p (starts.Robust start) [] f
+        t.world.words t.world.kept)
+        first_flight.1 (has_registry capacity p start t.world.kept rows, talk.0, talk.1)
       where
         -- it does, whichever call begins
         runs : (s : RobustStart) → names_owner s ≡ true → first_row (kept_rows capacity s t.world.kept p) ≡ None

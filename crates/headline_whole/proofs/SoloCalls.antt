@@ -1,5 +1,5 @@
 -- The calls of a kind that go on from their words alone: a machine takes their steps as a call alone does.
-use Rattle.std.proofs.Common.{◌≡◌, ℕ, zero, suc, ◌+◌, ◌≤◌, Bool, true, false, Option, Some, None, List, [], ◌++◌, refl, sym, subst}
+use Rattle.std.proofs.Common.{◌≡◌, ℕ, ◌+◌, ◌≤◌, Bool, true, false, Option, Some, None, List, [], ◌++◌, refl, sym, subst}
 use Rattle.steps.specs.declared.ask.After.{After}
 use Rattle.steps.specs.declared.ask.After.TheVariants.{GoOn, Done}
 use Rattle.model.specs.declared.event.Answer.{Answer}
@@ -16,7 +16,7 @@ use Rattle.model.specs.World.{Trace, words_opened}
 use Rattle.headline_whole.specs.Dialogues.{Decision, decided, as_request, as_reply}
 use Rattle.headline_whole.proofs.Agree.{Agree, goes_so, agrees_then, agrees_still, writes_none}
 use Rattle.headline_whole.proofs.Courses.{Course, IsMadeSo, Holding, IsAfterStep, Steps, Rules}
-use Rattle.headline_whole.proofs.Flights.{Turns, Talks, talk_goes, talk_hears}
+use Rattle.headline_whole.proofs.Flights.{Turns, Talks, talks_go, talks_hear}
 
 -- `C` is how a structure goes from call to call.
 module _ {T : Type 0} (C : Course T) where
@@ -90,11 +90,10 @@ module _ {T : Type 0} (C : Course T) where
         → is_question (want_of code flight) ≡ false
         → Steps C talking s turns p start told (words_after words (ask_of (want_of code flight)))
         (step_of code words beside p start flight (old_of words (ask_of (want_of code flight))) kept)
-    goes s turns p start told flight words kept beside agrees zero talks calm = absurd talks
-    goes s turns p start told flight words kept beside agrees (suc n) talks calm =
+    goes s turns p start told flight words kept beside agrees n talks calm =
         steps s turns p start flight words (words_after words (ask_of (want_of code flight))) kept beside
-        (old_of words (ask_of (want_of code flight))) agrees (suc n) told
-        (talk_goes code (EndsAsObject s turns p start) (λ told f ws. Talks code (EndsAsObject s turns p start) n told f ws) told flight words talks calm)
+        (old_of words (ask_of (want_of code flight))) agrees n told
+        (talks_go code (EndsAsObject s turns p start) n told flight words talks calm)
 
     -- a step that is told yes or no goes as the rules say
     hears : (s : C.State) (turns p : ℕ) (start : Start T) (told : List (Decision T)) (flight : Flight T) (words : List ℕ) (kept : Registry T)
@@ -102,10 +101,9 @@ module _ {T : Type 0} (C : Course T) where
         → is_question (want_of code flight) ≡ true
         → Steps C talking s turns p start (told ++ decided code (Some flight) said) words
         (step_of code words beside p start flight (number_of said) kept)
-    hears s turns p start told flight words kept beside said agrees zero talks asks = absurd talks
-    hears s turns p start told flight words kept beside said agrees (suc n) talks asks =
-        steps s turns p start flight words words kept beside (number_of said) agrees n (told ++ decided code (Some flight) said)
-        (talk_hears code (EndsAsObject s turns p start) (λ told f ws. Talks code (EndsAsObject s turns p start) n told f ws) told flight words talks asks said)
+    hears s turns p start told flight words kept beside said agrees n talks asks =
+        let heard = talks_hear code (EndsAsObject s turns p start) n told flight words talks asks said in
+        steps s turns p start flight words words kept beside (number_of said) agrees heard.0 (told ++ decided code (Some flight) said) heard.1
 
     -- a kind whose calls begin so keeps to the rules
     pub talk_rules : (kind : Kind) (capacity : ℕ) → Begins kind capacity → Rules C talking code kind capacity

@@ -254,45 +254,22 @@ module _ {T : Type 0} where
       early : events ≡ [] → v.seen ≡ events
       early events_are_empty = none_left v.seen mine_seen.rest (sym events_are_empty ∙ mine_seen.is) ∙ sym events_are_empty
 
+      -- where the joined view knows all events, all is known
+      joined : HasSeen (joined_view v w) events → Known both events
+      joined all =
+          record { shares = shares; by = id; last = joined_view v w; at = there; any = more part; all = all; someone = known.someone; spent = spent }
+
       -- if the seat that takes in had seen all, the joined one has
       mine : known.by ≡ id → Known both events
       mine by_is_id =
           let same : known.last ≡ v = some-injective known.last v (sym known.at ∙ (ap (get_elem? views) by_is_id ∙ first_has_view)) in
-          record {
-            shares = shares;
-            by = id;
-            last = joined_view v w;
-            at = there;
-            any = more part;
-            all = seen (subst (λ z. HasSeen z events) same known.all);
-            someone = known.someone;
-            spent = spent;
-          }
-        where
-          -- what it had seen, the joined view has seen
-          seen : HasSeen v events → HasSeen (joined_view v w) events
-          seen (inl h) = inl h
-          seen (inr h) = inl (early (sym h ∙ alone))
+          joined (⊎_elim (λ h. inl h) (λ h. inl (early (sym h ∙ alone))) (subst (λ z. HasSeen z events) same known.all))
 
       -- if the seat that was taken in had seen all, the joined one knows it as `other`
       theirs : known.by ≡ other → Known both events
       theirs by_is_other =
           let same : known.last ≡ w = some-injective known.last w (sym known.at ∙ (ap (get_elem? views) by_is_other ∙ second_has_view)) in
-          record {
-            shares = shares;
-            by = id;
-            last = joined_view v w;
-            at = there;
-            any = more part;
-            all = seen (subst (λ z. HasSeen z events) same known.all);
-            someone = known.someone;
-            spent = spent;
-          }
-        where
-          -- what the seat that was taken in had seen, the joined view knows
-          seen : HasSeen w events → HasSeen (joined_view v w) events
-          seen (inl h) = inr h
-          seen (inr h) = inl (early (sym h ∙ alone'))
+          joined (⊎_elim (λ h. inr h) (λ h. inl (early (sym h ∙ alone'))) (subst (λ z. HasSeen z events) same known.all))
 
       -- if a third seat had seen all, it still has
       third : known.by ≢ id → known.by ≢ other → Known both events

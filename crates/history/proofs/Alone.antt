@@ -362,19 +362,4 @@ module _ {T : Type 0} (machine : OneMachine T) where
       -- fields take over
       so : List (Turn T) → List (Event T) → Option (Start T × Flight T) → Option (ContainerState T) → ℕ → View T
       so xs zs o z n =
-          record {
-            capacity = capacity;
-            party = Some 0;
-            share = all_shares;
-            seen = zs;
-            other = [];
-            turns = xs;
-            other_turns = [];
-            made = es;
-            going = o;
-            state = z;
-            asked = nexts ts;
-            aside = 0;
-            taken = 0;
-            others = n;
-          }
+          record (maker ts es) { seen = zs; turns = xs; going = o; state = z; others = n }

@@ -1,6 +1,6 @@
 -- The calls on the roles and the lengths of a queue begin in the same way on each kind of queue: bounded,
 -- overflowing, of indices or of values.
-use Rattle.history.proofs.Names.{inl, ◌≡◌, ℕ, ◌<◌, ◌≤◌, false, Option, Some, None, List, [], refl, subst, arith}
+use Rattle.history.proofs.Names.{◌≡◌, ℕ, ◌<◌, ◌≤◌, false, Option, Some, None, List, [], refl, subst, arith}
 use Rattle.history.proofs.Names.{Producer, Consumer, first_len, Event, Queues, Flight, Registry}
 use Rattle.history.proofs.Names.{QueueKind, Roles, LengthOf, Coding, first_of, opening_of, machine_kind}
 use Rattle.steps.specs.declared.queues.roles.Role.{Role}
@@ -9,6 +9,7 @@ use Rattle.history.specs.declared.view.View.{View}
 use Rattle.history.specs.Queues.{takes_role, gives_role, looks_role, length_start, counts_waiting}
 use Rattle.history.specs.Roles.{role_word, holder, acquire_start, release_start, look_start, HasRole}
 use Rattle.history.specs.Stages.{At}
+use Rattle.history.proofs.Beginning.{at_begin}
 use Rattle.history.proofs.Drives.{Driven, IsCallBy}
 use Rattle.history.proofs.Queues.{plain_begins, role_begins}
 
@@ -64,60 +65,24 @@ module _ {T : Type 0} (code : Coding T) (kd : QueueKind) (x : View T) (m : Unit 
   -- the first step of an acquire of a role, for a pass that needs none
   pub acquire_first_on : (role : Role) → At code (machine_kind kd) (takes_role role) x x (record { word = role_word role }) m
   acquire_first_on role =
-      inl (record {
-        is = refl;
-        idle = idle;
-        fresh = alone;
-        standing = refl;
-        some = any;
-        first = acquire_is kd role x.capacity m ((opening_of (machine_kind kd)).kept x.capacity);
-        starts =
-            plain_begins kd (acquire_start role) refl (acquire_is kd role x.capacity m) (λ o p h. h) (acquire_lacks T role);
-        wrote = λ p. refl;
-      })
+      at_begin idle alone any refl (acquire_is kd role x.capacity m ((opening_of (machine_kind kd)).kept x.capacity))
+      (plain_begins kd (acquire_start role) refl (acquire_is kd role x.capacity m) (λ o p h. h) (acquire_lacks T role)) (λ p. refl)
 
   -- the first step of the release of a role, for a pass that has it
   pub release_first_on : (role : Role) → HasRole role x.made → At code (machine_kind kd) (gives_role role) x x (record { word = role_word role }) m
   release_first_on role has =
-      inl (record {
-        is = refl;
-        idle = idle;
-        fresh = alone;
-        standing = refl;
-        some = any;
-        first = release_is kd role x.capacity m ((opening_of (machine_kind kd)).kept x.capacity);
-        starts =
-            role_begins kd (release_start role) refl (release_is kd role x.capacity m) role (λ o p. tt) (release_lacks T role) has;
-        wrote = λ p. refl;
-      })
+      at_begin idle alone any refl (release_is kd role x.capacity m ((opening_of (machine_kind kd)).kept x.capacity))
+      (role_begins kd (release_start role) refl (release_is kd role x.capacity m) role (λ o p. tt) (release_lacks T role) has) (λ p. refl)
 
   -- the first step of a look at a role
   pub look_first_on : (role : Role) → At code (machine_kind kd) (looks_role role) x x (record { word = role_word role }) m
   look_first_on role =
-      inl (record {
-        is = refl;
-        idle = idle;
-        fresh = alone;
-        standing = refl;
-        some = any;
-        first = look_is kd role x.capacity m ((opening_of (machine_kind kd)).kept x.capacity);
-        starts =
-            plain_begins kd (look_start role) refl (look_is kd role x.capacity m) (λ o p h. h) (look_lacks T role);
-        wrote = λ p. refl;
-      })
+      at_begin idle alone any refl (look_is kd role x.capacity m ((opening_of (machine_kind kd)).kept x.capacity))
+      (plain_begins kd (look_start role) refl (look_is kd role x.capacity m) (λ o p h. h) (look_lacks T role)) (λ p. refl)
 
   -- a call on lengths begins on a pass with no call under way
   pub len_first_on : (which : LengthOf) (size : ℕ) → x.capacity ≡ size → At code (machine_kind kd) (counts_waiting which size) x x (first_len size) m
   len_first_on which size same =
       subst (λ n. At code (machine_kind kd) (counts_waiting which n) x x (first_len n) m) same
-      (inl (record {
-        is = refl;
-        idle = idle;
-        fresh = alone;
-        standing = (refl, refl);
-        some = any;
-        first = len_is kd which x.capacity m ((opening_of (machine_kind kd)).kept x.capacity);
-        starts =
-            plain_begins kd (length_start which) refl (len_is kd which x.capacity m) (λ o p h. h) (len_lacks T which);
-        wrote = λ p. refl;
-      }))
+      (at_begin idle alone any (refl, refl) (len_is kd which x.capacity m ((opening_of (machine_kind kd)).kept x.capacity))
+      (plain_begins kd (length_start which) refl (len_is kd which x.capacity m) (λ o p h. h) (len_lacks T which)) (λ p. refl))

@@ -53,16 +53,7 @@ module _ {T C M E : Type 0} {code : Coding T} {kind : Kind} {call : Calling T C 
   -- since the drive began at most the steps of its call were asked for
   pub asked_so : At code kind call base v c m
       → v.asked + taken_by base.going base.taken ≤ base.asked + taken_by v.going v.taken
-  asked_so (inl first) =
-      subst (λ (z : View T). z.asked + taken_by base.going base.taken ≤ base.asked + taken_by z.going z.taken) (sym first.is)
-      (as_much (base.asked + taken_by base.going base.taken))
-    where
-      -- a number is at most itself
-      as_much : (n : ℕ) → n ≤ n
-      as_much n = omega arith
-  asked_so (inr under) =
-      subst (λ (o : Option (Start T × Flight T)). v.asked + taken_by base.going base.taken ≤ base.asked + taken_by o v.taken)
-      (sym under.going) under.asked
+  asked_so = grind arith
 
 module _ {T C M E : Type 0} (machines : Machines T) (call : Calling T C M E) where
   open machines use {code, kind, effects, size_of, laws}

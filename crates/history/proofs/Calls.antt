@@ -1,14 +1,14 @@
 -- What a turn of the model makes of a party's latest call: which call is under way, how many steps it has
 -- taken, how many changes others made, and what the machine keeps.
 use Rattle.history.proofs.Names.{◌≡◌, ◌≢◌, ℕ, zero, suc, ◌+◌, ◌-◌, ◌<◌, ◌==◌, Bool, false, Option, Some, None, List}
-use Rattle.history.proofs.Names.{[], ◌∷◌, ◌++◌, length, get_or, set, refl, ap, ◌∙◌, arith, nat_tests, Ask, After}
+use Rattle.history.proofs.Names.{[], ◌∷◌, ◌++◌, length, get_or, set, refl, sym, ap, subst, ◌∙◌, arith, nat_tests, Ask, After}
 use Rattle.history.proofs.Names.{GoOn, Answer, Event, Start, Flight, Registry}
 use Rattle.history.proofs.Names.{Doing, Going, Over, Party, Kind, Begin, Next, Coding, opening_of, kept_after_begin}
 use Rattle.history.proofs.Names.{want_of, after_of, goes_of, ask_of, is_look_of, state_in, is_looking, party_of}
 use Rattle.history.proofs.Names.{Step, answer_in, after_begin, after_next, after_answer}
 use Rattle.history.proofs.Names.{after_decision, after_step}
 use Rattle.history.proofs.Names.{number_of, step_in, events_of_next, events_of_decision, events_of_step}
-use Rattle.history.proofs.Names.{ending_of, old_of, ask_of_doing, World, flight_in, party_put_same}
+use Rattle.history.proofs.Names.{ending_of, old_of, World, flight_in, party_put_same}
 use Rattle.history.proofs.Names.{party_put_other}
 use Rattle.steps.specs.declared.ask.After.TheVariants.{Done}
 use Rattle.model.specs.declared.families.Registry.TheVariants as registries
@@ -36,6 +36,13 @@ module _ {T : Type 0} where
   pub stands : (w : World T) (p : ℕ) (start : Start T) (flight : Flight T) → call_in w p ≡ Some (start, flight) → Stands w p start flight
   stands = grind arith
 
+  -- what holds of the party that was found holds of whichever party the world has there
+  pub at_found : {w : World T} {p : ℕ} {start : Start T} {flight : Flight T} (here : Stands w p start flight) (Holds : Party T → Type 0) → Holds here.x
+      → (x : Party T) → party_of p w.latest ≡ Some x → Holds x
+  at_found here Holds holds x found =
+      let same : here.x ≡ x = (let both : Some here.x ≡ Some x = sym here.found ∙ found in cc) in
+      subst Holds same holds
+
   -- where a call of the party is under way at this flight, the world has this flight for the party
   pub flight_is : (w : World T) (p : ℕ) (start : Start T) (flight : Flight T) → Stands w p start flight → flight_in w p ≡ Some flight
   flight_is = grind arith
@@ -46,62 +53,55 @@ module _ {T : Type 0} where
 
   -- ---- the calls of other parties
 
+  -- an answer that another party's call takes leaves this party's latest call
+  answer_other : (w : World T) (p q : ℕ) → q ≢ p → (x : Party T) (ask : Option Ask) (n : ℕ) (doing : Doing T)
+      → party_of q (after_answer w p x ask n doing).latest ≡ party_of q w.latest
+  answer_other w p q ne x ask n (Over others) = refl
+  answer_other w p q ne x ask n (Going flight since) = party_put_other q p _ w.latest ne
+
+  -- so does a step of another party
+  latest_next : (w : World T) (p q : ℕ) → q ≢ p → (o : Option (Party T)) → party_of q (after_next w p o).latest ≡ party_of q w.latest
+  latest_next = grind (arith, answer_other)
+
+  -- so does a begin of another party
+  latest_begin : (w : World T) (p q : ℕ) (start : Start T) → q ≢ p → (o : Option (Flight T))
+      → party_of q (after_begin w p start o).latest ≡ party_of q w.latest
+  latest_begin w p q start ne None = refl
+  latest_begin w p q start ne (Some flight) = party_put_other q p _ w.latest ne
+
+  -- so does an answer to a question of another party's call
+  latest_decision : (w : World T) (p q : ℕ) (said : Bool) → q ≢ p → (o : Option (Party T))
+      → party_of q (after_decision w p said o).latest ≡ party_of q w.latest
+  latest_decision w p q said ne None = refl
+  latest_decision w p q said ne (Some x) = answer_other w p q ne x None (number_of said) x.doing
+
   -- a step of another party leaves this party's call
   pub next_other : (w : World T) (p q : ℕ) → q ≢ p → (o : Option (Party T)) → call_in (after_next w p o) q ≡ call_in w q
-  next_other w p q ne None = refl
-  next_other w p q ne (Some x) = go x.doing
-    where
-      -- whether the call of the other party is over or not, this party's call stays
-      go : (doing : Doing T)
-          → call_in (after_answer w p x (ask_of_doing w.coding x.doing) (old_of w.words (ask_of_doing w.coding x.doing)) doing) q
-          ≡ call_in w q
-      go (Over others) = refl
-      go (Going flight since) = ap call_of (party_put_other q p _ w.latest ne)
+  next_other w p q ne o = ap call_of (latest_next w p q ne o)
 
   -- a begin of another party leaves this party's call
   pub begin_other : (w : World T) (p q : ℕ) (start : Start T) → q ≢ p → (o : Option (Flight T)) → call_in (after_begin w p start o) q ≡ call_in w q
-  begin_other = grind (arith, party_put_other)
+  begin_other w p q start ne o = ap call_of (latest_begin w p q start ne o)
 
   -- an answer to a question of another party's call leaves this party's call
   pub decision_other : (w : World T) (p q : ℕ) (said : Bool) → q ≢ p → (o : Option (Party T)) → call_in (after_decision w p said o) q ≡ call_in w q
-  decision_other w p q said ne None = refl
-  decision_other w p q said ne (Some x) = go x.doing
-    where
-      -- whether the call of the other party is over or not, this party's call stays
-      go : (doing : Doing T) → call_in (after_answer w p x None (number_of said) doing) q ≡ call_in w q
-      go (Over others) = refl
-      go (Going flight since) = ap call_of (party_put_other q p _ w.latest ne)
+  decision_other w p q said ne o = ap call_of (latest_decision w p q said ne o)
 
   -- ---- the steps of calls
 
   -- a step of another party leaves the steps of this party's call
   pub steps_next_other : (w : World T) (p q : ℕ) → q ≢ p → (o : Option (Party T)) → steps_in (after_next w p o) q ≡ steps_in w q
-  steps_next_other w p q ne None = refl
-  steps_next_other w p q ne (Some x) = go x.doing
-    where
-      -- whether the call of the other party is over or not, the steps stay
-      go : (doing : Doing T)
-          → steps_in (after_answer w p x (ask_of_doing w.coding x.doing) (old_of w.words (ask_of_doing w.coding x.doing)) doing) q
-          ≡ steps_in w q
-      go (Over others) = refl
-      go (Going flight since) = ap steps_of (party_put_other q p _ w.latest ne)
+  steps_next_other w p q ne o = ap steps_of (latest_next w p q ne o)
 
   -- a begin of another party leaves the steps of this party's call
   pub steps_begin_other : (w : World T) (p q : ℕ) (start : Start T) → q ≢ p → (o : Option (Flight T))
       → steps_in (after_begin w p start o) q ≡ steps_in w q
-  steps_begin_other w p q start ne None = refl
-  steps_begin_other w p q start ne (Some flight) = ap steps_of (party_put_other q p _ w.latest ne)
+  steps_begin_other w p q start ne o = ap steps_of (latest_begin w p q start ne o)
 
   -- an answer to a question of another party's call leaves the steps of this party's call
   pub steps_decision_other : (w : World T) (p q : ℕ) (said : Bool) → q ≢ p → (o : Option (Party T))
       → steps_in (after_decision w p said o) q ≡ steps_in w q
-  steps_decision_other w p q said ne None = refl
-  steps_decision_other w p q said ne (Some x) = go x.doing
-    where
-      -- whether the call of the other party is over or not, the steps stay
-      go : (doing : Doing T) → steps_in (after_answer w p x None (number_of said) doing) q ≡ steps_in w q
-      go (Over others) = refl
-      go (Going flight since) = ap steps_of (party_put_other q p _ w.latest ne)
+  steps_decision_other w p q said ne o = ap steps_of (latest_decision w p q said ne o)
 
   -- as the party begins a call, that has taken no step
   pub steps_begin_own : (w : World T) (p : ℕ) (start : Start T) (flight : Flight T) (o : Option (Flight T))

@@ -1,5 +1,5 @@
 -- The adds and replaces of containers are calls of the model, each step of which keeps the rule of the table.
-use Rattle.history.proofs.Names.{◌≡◌, inl, ℕ, ◌+◌, ◌<◌, nat_lt, true, false, None, List, [], ◌++◌}
+use Rattle.history.proofs.Names.{◌≡◌, ℕ, ◌+◌, ◌<◌, nat_lt, true, false, None, List, [], ◌++◌}
 use Rattle.history.proofs.Names.{refl, sym, ap, subst, arith, nat_tests}
 use Rattle.history.proofs.Names.{total_words, Replaced, first_replace, replace_asks, replace_want, replace_takes}
 use Rattle.history.proofs.Names.{replace_after, empty, went_on, Ask, After, GoOn, ReplaceStage}
@@ -23,6 +23,7 @@ use Rattle.model.specs.declared.turn.Kind.TheVariants as kinds
 use Rattle.history.specs.declared.view.View.{View}
 use Rattle.history.specs.Container.{AddIn, AddedAt, HasAdded, adds_value, ReplaceIn, ReplacedAt, HasReplaced, replaces_value}
 use Rattle.history.specs.Stages.{Calling, At}
+use Rattle.history.proofs.Beginning.{at_begin}
 use Rattle.history.proofs.CallsIn.{AsksFor, Driven, IsCallBy, KeepsEnds, each_tells, last_tells}
 use Rattle.history.proofs.ContainerCalls.{set_words, change_low, count_low, place_is}
 use Rattle.history.proofs.Containers.{plain_effects, container_words, container_keeps, container_starts, fewer}
@@ -123,16 +124,8 @@ module _ {T : Type 0} (code : Coding T) (law : IsCoding code) (given : Owned T) 
       → At code kinds.Container adding v v (first_add v.capacity) m
   container_add_first v m idle alone any fits =
       let named : nat_lt given.owner empty ≡ true = grind (arith, nat_tests) in
-      inl (record {
-        is = refl;
-        idle = idle;
-        fresh = alone;
-        standing = (refl, tt);
-        some = any;
-        first = rw named refl;
-        starts = container_starts (Add given.value given.owner) refl (λ o p h. h) named refl;
-        wrote = λ p new. refl;
-      })
+      at_begin idle alone any (refl, tt) (rw named refl)
+      (container_starts (Add given.value given.owner) refl (λ o p h. h) named refl) (λ p new. refl)
 
 -- ---- replace
 
@@ -233,13 +226,5 @@ module _ {T : Type 0} (code : Coding T) (law : IsCoding code) (given : Replaceme
       (record { call = first_replace v.capacity i; given = record { index = i; owner = given.owner; value = given.value }; room = tt })))
       (place_is v.capacity given.index low)
       in
-      inl (record {
-        is = refl;
-        idle = idle;
-        fresh = alone;
-        standing = (refl, low, rw below tt);
-        some = any;
-        first = rw named (ap Some flies);
-        starts = container_starts (Replace given.index given.value given.owner) refl (λ o p h. h) named flies;
-        wrote = λ p new. rw below refl;
-      })
+      at_begin idle alone any (refl, low, rw below tt) (rw named (ap Some flies))
+      (container_starts (Replace given.index given.value given.owner) refl (λ o p h. h) named flies) (λ p new. rw below refl)

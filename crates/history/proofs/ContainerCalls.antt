@@ -27,6 +27,7 @@ use Rattle.model.specs.declared.turn.Kind.TheVariants as kinds
 use Rattle.history.specs.declared.view.View.{View}
 use Rattle.history.specs.Container.{RemoveIn, HasRemovedIt, RemovedAt, HasRemoved, removes_value, count_start, counts_values, sees_lock}
 use Rattle.history.specs.Stages.{At}
+use Rattle.history.proofs.Beginning.{at_begin}
 use Rattle.history.proofs.CallsIn.{AsksFor, Driven, IsCallBy, KeepsEnds, each_tells, last_tells}
 use Rattle.history.proofs.Containers.{plain_effects, container_words, container_keeps, container_first, container_starts, fewer}
 use Rattle.history.proofs.Drives.{goes}
@@ -102,16 +103,8 @@ module _ {T : Type 0} (code : Coding T) where
   pub container_lock_first : (v : View T) (c : Looking) (m : Unit {0}) → v.going ≡ None → v.other ≡ [] → 0 < v.share.part
       → At code kinds.Container sees_lock v v c m
   container_lock_first v c m idle alone any =
-      inl (record {
-        is = refl;
-        idle = idle;
-        fresh = alone;
-        standing = tt;
-        some = any;
-        first = refl;
-        starts = container_starts IsLocked refl (λ o p h. h) refl refl;
-        wrote = λ p. refl;
-      })
+      at_begin idle alone any tt refl
+      (container_starts IsLocked refl (λ o p h. h) refl refl) (λ p. refl)
 
 -- ---- remove
 
@@ -219,13 +212,5 @@ module _ {T : Type 0} (code : Coding T) (given : GiveBack) where
       (record { call = first_remove v.capacity i; given = record { index = i; owner = given.owner; mode = given.mode }; room = tt })))
       (place_is v.capacity given.index low)
       in
-      inl (record {
-        is = refl;
-        idle = idle;
-        fresh = alone;
-        standing = (refl, low, rw below tt);
-        some = any;
-        first = rw named (ap Some flies);
-        starts = container_starts (Remove given.index given.owner given.mode) refl (λ o p h. h) named flies;
-        wrote = λ p new. rw below refl;
-      })
+      at_begin idle alone any (refl, low, rw below tt) (rw named (ap Some flies))
+      (container_starts (Remove given.index given.owner given.mode) refl (λ o p h. h) named flies) (λ p new. rw below refl)

@@ -25,10 +25,11 @@ use Rattle.history.specs.History.{IsMachine}
 use Rattle.history.specs.Rooms.{room_of}
 use Rattle.history.specs.Settled.{IsResting, RestsAt, EndsAsked}
 use Rattle.history.specs.Value.{value_of_room}
+use Rattle.history.proofs.Beginning.{at_begin}
 use Rattle.history.proofs.CallsIn.{goes, AsksFor, StepsOf, Driven, KeepsSo, each_tells, last_tells}
 use Rattle.history.proofs.Containers.{plain_effects, container_words, plain_acts}
 use Rattle.history.proofs.Containers.{container_starts, container_machines}
-use Rattle.history.proofs.Decisions.{AskingCall, IsAskingIn, keeps_said, keeps_word, hears_said, ends_said, AsksElse}
+use Rattle.history.proofs.Decisions.{AskingCall, IsAskingIn, keeps_said, keeps_word, hears_said, AsksElse}
 use Rattle.history.proofs.Rooms.{room_set, room_read}
 use Rattle.history.proofs.Written.{same_written}
 use Rattle.history.specs.Stages.{Calling, IsUnderWay, Ends, AtAsked}
@@ -265,12 +266,6 @@ module _ {T R : Type 0} (code : Coding T) (law : IsCoding code) (words_in : R �
   container_find_hears =
       hears_said (asking FindOver ended_step)
 
-  -- a find that has asked ends with the answer, where that ends it
-  pub container_find_ends : (base v : View T) (c : Finding T R) (m : Room) (said : Bool) (e : ℕ) → is_question (want c) ≡ true
-      → after c (number_of said) ≡ Done e → AtAsked code kinds.Container after kept finding base v c m → FindOver base e (kept c m (number_of said)) v
-  container_find_ends =
-      ends_said (asking FindOver ended_step) rests_so
-
   -- a find begins in a room of zeros in which a value fits
   pub container_find_first : (v : View T) (m : Room) → room m.0 ≡ fresh_cell → m.1 ≡ [] → v.going ≡ None
       → v.other ≡ [] → 0 < v.share.part → 0 < v.capacity → owner < empty
@@ -280,16 +275,8 @@ module _ {T R : Type 0} (code : Coding T) (law : IsCoding code) (words_in : R �
       let flies : flights.Container (find_of v.capacity owner) ≡ finding.flight (first_find v.capacity) m =
       ap (λ x. flights.Container (calls.Find (record { call = call_at v.capacity (finds.LoadsCell 0 0); given = owner; room = x }))) (sym zeros)
       in
-      inl (inl (record {
-        is = refl;
-        idle = idle;
-        fresh = alone;
-        standing = (refl, some);
-        some = any;
-        first = rw named (ap Some flies);
-        starts = container_starts (Find owner) refl (λ o p h. h) named flies;
-        wrote = λ p new. ap (copies_of p) (sym none);
-      }))
+      inl (at_begin idle alone any (refl, some) (rw named (ap Some flies))
+      (container_starts (Find owner) refl (λ o p h. h) named flies) (λ p new. ap (copies_of p) (sym none)))
 
   -- ---- what a pass has seen tells what its find has copied
 

@@ -13,7 +13,6 @@ use Rattle.steps.specs.Container.Recover.{recover_takes, recover_after}
 use Rattle.steps.specs.declared.ask.After.TheVariants.{Done}
 use Rattle.steps.specs.declared.container.recover.Recover.{Recover as Recovering}
 use Rattle.steps.specs.declared.container.recover.RecoverStage.{RecoverStage}
-use Rattle.steps.specs.declared.container.recover.RecoverStage.TheVariants as recovers
 use Rattle.steps.specs.declared.copied.Buffer as buffers
 use Rattle.model.specs.declared.event.Answer.TheVariants.{State}
 use Rattle.model.specs.declared.families.Flight.TheVariants as flights
@@ -153,18 +152,7 @@ module _ {T R : Type 0} (code : Coding T) (law : IsCoding code) (words_in : R â†
     where
       -- a value that is the same is kept, as `Keeps` says, at each stage
       same_keeps : (value : T) (stage : RecoverStage) â†’ Keeps stage value value
-      same_keeps value recovers.LoadsCounter = tt
-      same_keeps value (recovers.LoadsCell index) = tt
-      same_keeps value (recovers.LoadsCount index) = tt
-      same_keeps value (recovers.LoadsWord index count at) = tt
-      same_keeps value (recovers.ChecksCount index count) = refl
-      same_keeps value (recovers.Asks index count) = tt
-      same_keeps value (recovers.EmptiesCell index count) = tt
-      same_keeps value (recovers.Hides index count) = tt
-      same_keeps value (recovers.Raises index raise) = tt
-      same_keeps value (recovers.Locks index lock) = tt
-      same_keeps value recovers.LoadsCounterAgain = tt
-      same_keeps value (recovers.AddsChange state) = tt
+      same_keeps = grind arith
 
   -- ---- which recovery a flight is, and with which room
 

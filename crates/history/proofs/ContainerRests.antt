@@ -2,7 +2,7 @@
 -- step the machine is handed the answer that ended the `find`.
 use Rattle.std.proofs.Common.{arith}
 use Rattle.history.proofs.Names.{Bool, true, false, ◌≡◌, ℕ, ◌+◌, ◌<◌, Option, None, List, []}
-use Rattle.history.proofs.Names.{sym, ◌∙◌, subst, Allows, After, GoOn, Want}
+use Rattle.history.proofs.Names.{sym, ◌∙◌, subst, After, GoOn, Want}
 use Rattle.history.proofs.Names.{Answer, Event, Start, Flight, Coding, want_of}
 use Rattle.history.proofs.Names.{goes_of, is_question, number_of, World}
 use Rattle.history.proofs.Names.{KeepsRule}
@@ -10,11 +10,11 @@ use Rattle.steps.specs.declared.ask.After.TheVariants.{Done}
 use Rattle.model.specs.declared.turn.Kind.TheVariants as kinds
 use Rattle.history.specs.declared.view.View.{View}
 use Rattle.history.specs.History.{IsMachine, IsLate}
-use Rattle.history.specs.Settled.{IsResting, Settles, AtRested, EndsRested}
+use Rattle.history.specs.Settled.{IsResting, AtRested, EndsRested}
 use Rattle.history.specs.Stages.{Calling, At, Ends, AtAsked}
 use Rattle.history.proofs.CallsIn.{AsksFor}
 use Rattle.history.proofs.Containers.{container_effects, container_words, container_machines}
-use Rattle.history.proofs.Settling.{KeepsWhere, Hearing, NextCall, keeps_waiting, keeps_waiting_where, settles_at}
+use Rattle.history.proofs.Settling.{KeepsWhere, Hearing, NextCall, keeps_waiting, keeps_waiting_where}
 
 -- a Bool is not true and false
 pub clash : {A : Type 0} (b : Bool) → b ≡ true → b ≡ false → A
@@ -51,11 +51,6 @@ module _ {T : Type 0} (code : Coding T) where
   -- containers hear answers, and an answer that ends a call writes nothing
   abbrev pub container_hears : Hearing T
   container_hears = record { machines = container_machines code; decides = tt; alone = never_late; quiet = ends_quiet code }
-
-  -- a pass whose call rests settles by a load of any word
-  pub container_settles : (key slots id word : ℕ) (v : View T) → v.capacity ≡ key → IsResting code v
-      → Allows (IsMachine code kinds.Container key) slots id (v, []) word (λ n. n) (λ found me. Settles code kinds.Container v me.0 × (me.1 ≡ []))
-  container_settles = settles_at container_hears
 
   module _ {C M E : Type 0} (call : Calling T C M E) (want : C → Want (Unit {0})) (same_want : (c : C) (m : M) → want_of code (call.flight c m) ≡ want c) where
     module _ (Begins : ℕ → C → M → Type 0)

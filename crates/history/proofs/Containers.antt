@@ -1,9 +1,9 @@
 -- Containers as tables that are machines: how many words they have, what their calls write
 -- (`container_effects`), where each step leads, and how a call begins.
 use Rattle.history.proofs.Names.{◌≡◌, ℕ, ◌+◌, ◌-◌, ◌≤◌, true, false, Option, Some, None, IfSome, List, [], ◌++◌, length}
-use Rattle.history.proofs.Names.{sum_by, refl, sym, ap, subst, ◌∙◌, arith, Want, ContainerState, total_words}
+use Rattle.history.proofs.Names.{sum_by, refl, sym, ap, subst, arith, Want, ContainerState, total_words}
 use Rattle.history.proofs.Names.{Event, Start, Container, Flight, Registry, ContainerStart}
-use Rattle.history.proofs.Names.{Party, Turn, Coding, first_of}
+use Rattle.history.proofs.Names.{Turn, Coding, first_of}
 use Rattle.history.proofs.Names.{step_of, beside_of, goes_of, going_rows, first, is_look_of, state_in}
 use Rattle.history.proofs.Names.{names_owner, questions, has_died, SetAct, set_acts_of, first_row, step_in}
 use Rattle.history.proofs.Names.{after_turn, World, Trace, stands_there, Word, open_refusal, AllLive}
@@ -27,7 +27,7 @@ use Rattle.history.specs.declared.view.View.{View}
 use Rattle.history.specs.History.{IsRun, call_in}
 use Rattle.history.specs.Known.{owned}
 use Rattle.history.specs.Stages.{Calling, Starts, rows_as}
-use Rattle.history.proofs.Calls.{stands}
+use Rattle.history.proofs.Calls.{stands, at_found}
 use Rattle.history.proofs.CallsIn.{Driven, AsksFor, ActsAlone, IsCallBy, KeepsEnds, steps_alone}
 use Rattle.history.proofs.Drives.{keeps_all_there}
 use Rattle.history.proofs.Known.{AreOf, by_other}
@@ -149,18 +149,14 @@ module _ {T : Type 0} (code : Coding T) (capacity : ℕ) where
       record {
         -- nothing refuses the step, and its effects are those of the party's own call
         may = no_rows t is_on world_now.capacity world_now.coding.size all done here.x.start flight mine;
-        writes = λ x n found. (
-            let same : here.x ≡ x = (let both : Some here.x ≡ Some x = sym here.found ∙ found in cc) in
-            subst (λ (z : Party T). (step_in world_now p z flight n).wrote ≡ container_effects world_now p flight n) same
-            (writes_here n all done world_now.kept is_sound.state here.x.start flight is_sound.fit.kept mine));
+        writes = λ x n found. at_found here (λ z. (step_in world_now p z flight n).wrote ≡ container_effects world_now p flight n)
+            (writes_here n all done world_now.kept is_sound.state here.x.start flight is_sound.fit.kept mine) x found;
         -- each of them is of this party, and of no other
         someone = λ n. all_someone p (container_effects world_now p flight n) (effects_of_party world_now.coding world_now.kept p flight n);
         beside = λ n q ne. by_other p q (container_effects world_now p flight n) ne (effects_of_party world_now.coding world_now.kept p flight n);
         -- the step leads where `goes_of` says, by what the machine keeps
-        goes = λ x n found. (
-            let same : here.x ≡ x = (let both : Some here.x ≡ Some x = sym here.found ∙ found in cc) in
-            subst (λ (z : Party T). (step_in world_now p z flight n).after ≡ goes_of world_now.coding p flight n world_now.kept) same
-            (goes_here n all done world_now.kept is_sound.state here.x.start flight is_sound.fit.kept mine));
+        goes = λ x n found. at_found here (λ z. (step_in world_now p z flight n).after ≡ goes_of world_now.coding p flight n world_now.kept)
+            (goes_here n all done world_now.kept is_sound.state here.x.start flight is_sound.fit.kept mine) x found;
       }
 
   -- a turn that is no look of a party's state leaves that state

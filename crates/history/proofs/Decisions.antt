@@ -1,13 +1,12 @@
 -- Calls that put questions: the machine is handed an answer with the call's next step, as it is told of a begin with the first.
 use Rattle.history.proofs.Names.{Bool, true, false, ◌≡◌, inl, inr, ℕ, ◌+◌, ◌<◌, Option, Some, None, List, [], ◌++◌}
-use Rattle.history.proofs.Names.{slice_index, slice_set, set-set, refl, sym, ap, subst, ◌∙◌, append-nil, arith}
+use Rattle.history.proofs.Names.{slice_index, slice_set, refl, sym, ap, subst, ◌∙◌, append-nil, arith}
 use Rattle.history.proofs.Names.{sum_by-append, set_here, written, Ask, After, GoOn, Want, Event, Start, Flight, Kind}
 use Rattle.history.proofs.Names.{Decide, Coding, want_of, goes_of, is_question, after_turn}
 use Rattle.history.proofs.Names.{events_of, number_of, Trace, IsAll, Owes, OwesAsk, NextKnown}
 use mathlib.Core.Option.{some}
 use lib.ListN.{get_elem?}
 use Rattle.atomic_table.specs.Table.{State}
-use Rattle.atomic_table.specs.Table as table
 use Rattle.steps.specs.declared.ask.After.TheVariants.{Done}
 use Rattle.steps.specs.declared.ask.Want.TheVariants as wants
 use Rattle.threaded.specs.Driver.{Told}
@@ -29,6 +28,7 @@ use Rattle.history.proofs.CallReady.{Ready, ready, asked_so, Told_by}
 use Rattle.history.proofs.Drives.{ToldOver, keeps_at, next_ended}
 pub use Rattle.history.proofs.AskingCalls.{AsksElse, IsAskingIn, AskingCall}
 use Rattle.history.proofs.AskingCalls.{both_ways, flight_or, same_stage}
+use Rattle.history.proofs.Telling.{word_owes, holds_put}
 
 module _ {T C M E : Type 0} (asking_call : AskingCall T C M E) where
   open asking_call use {machines, machines.{code, kind, effects, size_of, laws}, decides, own, driven, driven.{want, after, kept, call}}
@@ -347,12 +347,8 @@ module _ {T C M E : Type 0} (asking_call : AskingCall T C M E) where
     -- a call that has heard no answer owes just the step at its word
     at_once : (base₀ v : View T) → v.capacity ≡ key → CallStands base₀ v c m → OwedAt v ToldAsked
     at_once base₀ v known at₀ =
-        let (below_all, step) = at_word base₀ v known at₀ in (
-          below_all,
-          λ s r long at small. (
-              let (w, act, valid, holds, (told, counts, carried)) = step s r long at small in
-              (w, act, valid, holds, (told_asked c m _ v v w refl as_it_is told, counts, carried))),
-        )
+        word_owes (record { key = key; words = words; slots = slots; id = id; v = v; told = ToldSo c m }) (ToldAsked c m) ask (at_word base₀ v known at₀)
+        (λ n w. told_asked c m n v v w refl as_it_is)
       where
         -- the call is at a word, so it has heard no answer
         as_it_is : (base : View T) → AtAsked code kind after kept call base v c m → CallStands base v c m
@@ -370,13 +366,7 @@ module _ {T C M E : Type 0} (asking_call : AskingCall T C M E) where
             w,
             act,
             valid,
-            subst (λ vs. IsMachine code kind key
-                (record {
-                  words = slice_set s.words ask.word (written ask.op (slice_index s.words ask.word));
-                  homes = table.homes_after s.homes [] act;
-                  views = vs;
-                }))
-                (set-set s.views id (view_heard it) w) holds,
+            holds_put (IsMachine code kind key) s id (view_heard it) w ask.word (written ask.op (slice_index s.words ask.word)) act holds,
             (told_asked c m _ (view_heard it) v w refl (as_heard s r at) told, counts, carried),
           )),
     )

@@ -1,5 +1,5 @@
 -- The driver over the rule of a machine: what it asks of the steps of a call, shown once for all calls of all kinds.
-use Rattle.history.proofs.Names.{◌^◌, true, false, ◌≡◌, inl, inr, ℕ, ◌+◌, ◌<◌, ◌≤◌, Some, List, [], ◌∷◌}
+use Rattle.history.proofs.Names.{◌^◌, true, false, ◌≡◌, inl, inr, ℕ, ◌+◌, ◌<◌, Some, List, [], ◌∷◌}
 use Rattle.history.proofs.Names.{length, slice_index, refl, sym, ap, subst, ◌∙◌, arith, written}
 use Rattle.history.proofs.Names.{Ask, After, GoOn, Want, Event, Flight, Kind, Coding, want_of}
 use Rattle.history.proofs.Names.{goes_of, is_question, Trace, answered, Owes, NextKnown}
@@ -19,13 +19,10 @@ use Rattle.history.proofs.PassLooks.{look_by}
 use Rattle.history.proofs.CallsIn.{by_bool, AsksFor, StepsThere, IsCallThere, ActsAlone, steps_alone, with_goes}
 use Rattle.history.proofs.CallTurns.{Stepping, view_then, writing, asked_then, goes_then, ends_so, settled_then}
 use Rattle.history.proofs.CallReady.{same_capacity, some_share, still_stands, seat_at, Seat}
+use Rattle.history.proofs.Telling.{owes_more}
 pub use Rattle.history.proofs.CallsIn.{Driven, goes, IsCallBy, IsCallOf, KeepsSo, KeepsEnds, KeepsOver, Met, IsCallIn, in_machine, NeverPushes}
 pub use Rattle.history.proofs.Called.{called, at_itself}
 pub use Rattle.history.proofs.Sized.{AtSized, EndsSized, keeps_sized}
-
--- a number is at most itself
-as_much : (n : ℕ) → n ≤ n
-as_much n = omega arith
 
 module _ {T C M E Asks : Type 0} (machines : Machines T) (driven : Driven T C M E)
     (is_call : StepsThere Asks machines.code machines.kind machines.effects driven) where
@@ -259,19 +256,8 @@ module _ {T C M E Asks : Type 0} (machines : Machines T) (driven : Driven T C M 
     pub keeps_ends : KeepsOver code kind size_of driven → KeepsEnds code kind size_of driven
     keeps_ends keeps base₀ v c m key words slots id wide known at₀ =
         let keeps_here = keeps base₀ v c m key words slots id in
-        go (want c) (keeps_here wide known at₀)
-      where
-        -- whatever the call wants next, what is told of it over all is told of its end
-        go : (w : Want (Unit {0})) → Owes (λ (z : View T). z.asked) (IsMachine code kind key) words slots id (ToldOver c m) w (v, [])
-            → Owes (λ (z : View T). z.asked) (IsMachine code kind key) words slots id (ToldEnds c m) w (v, [])
-        go (wants.Ask a) owes = (
-          owes.0,
-          λ s r long at small. (
-              let (w, act, valid, holds, (told, counts, carried)) = owes.1 s r long at small in
-              (w, act, valid, holds, (told_all c m v _ w told, counts, carried))),
-        )
-        go (wants.Question q) owes = told_all c m v 0 v owes
-        go wants.Nothing owes = told_all c m v 0 v owes
+        owes_more (record { key = key; words = words; slots = slots; id = id; v = v; told = ToldOver c m }) (ToldEnds c m) (want c) (keeps_here wide known at₀)
+        (λ n w. told_all c m v n w)
 
 -- ---- a call each step of which is at a word
 

@@ -1,12 +1,12 @@
 -- A property of events holds of each event of a run, if it holds of what each step of a call writes, and of
 -- every begin and end (`each_event`).
 use Rattle.std.proofs.Common.{arith}
-use Rattle.history.proofs.Names.{◌≡◌, ◌⊎◌, inl, inr, ℕ, Bool, true, Option, Some, None, List, [], ◌∷◌}
+use Rattle.history.proofs.Names.{◌≡◌, ◌⊎◌, ℕ, Bool, true, Option, Some, None, List, [], ◌∷◌}
 use Rattle.history.proofs.Names.{◌++◌, refl, Answer, Event, Begun, Finished, Died, Start, Flight, Doing, Going, Over}
 use Rattle.history.proofs.Names.{Party, Refusal, Turn, Decide, want_of, ask_of}
 use Rattle.history.proofs.Names.{party_of, doing_of, flight_of, Each, call_refusal, is_due, after_turn}
 use Rattle.history.proofs.Names.{events_of, events_of_next, events_of_decision, events_of_answer, ending_of, old_of, number_of}
-use Rattle.history.proofs.Names.{ask_of_doing, unless_refused, attempt_on, run_on, step_in, Trace}
+use Rattle.history.proofs.Names.{ask_of_doing, unless_refused, run_on, step_in, Trace}
 use Rattle.history.proofs.Names.{flight_in, Family, Sound, AreRight, Each-append, LawsWhere, AllMay}
 use Rattle.history.proofs.Names.{attempt_sound}
 
@@ -45,25 +45,13 @@ module _ {T : Type 0} {F : Family T} {May : Trace T → Turn T → Type 0} (laws
 
     -- what a turn that goes on with a call writes is right
     next_right : (p : ℕ) (o : Option (Party T)) → party_of p t.world.latest ≡ o → AreRight P t.events (events_of_next t.world p o)
-    next_right p None party_is = tt
-    next_right p (Some x) party_is = answer_right p (old_of t.world.words (ask_of_doing t.world.coding x.doing)) x party_is x.doing refl (handed x.doing)
-      where
-        -- the call is handed what stands in its word
-        handed : (doing : Doing T) → HandedAt (old_of t.world.words (ask_of_doing t.world.coding doing)) doing
-        handed (Over others) = tt
-        handed (Going flight since) = inl refl
+    next_right = grind (arith, answer_right, old_of, ask_of_doing)
 
     -- what the machine writes with an answer to a question is right
     decision_right : (p : ℕ) (said : Bool) (o : Option (Party T)) → party_of p t.world.latest ≡ o
         → is_due t.world.coding (flight_of (doing_of o)) ≡ true
         → AreRight P t.events (events_of_decision t.world p said o)
-    decision_right p said None party_is due = tt
-    decision_right p said (Some x) party_is due = answer_right p (number_of said) x party_is x.doing refl (handed x.doing due)
-      where
-        -- the call is handed the answer to its question
-        handed : (doing : Doing T) → is_due t.world.coding (flight_of (Some doing)) ≡ true → HandedAt (number_of said) doing
-        handed (Over others) due = tt
-        handed (Going flight since) due = inr due
+    decision_right = grind (arith, answer_right, number_of, is_due, flight_of)
 
     -- an answer that is not refused is one for which a call waits
     due_of : (p : ℕ) (said : Bool) → call_refusal t.world (Decide p said) ≡ None → is_due t.world.coding (flight_in t.world p) ≡ true

@@ -53,61 +53,59 @@ module _ {A : Type 0} where
 module _ {T : Type 0} where
   -- ---- the end of a call is the last event of its turn
 
-  -- an end of a call among the events of a turn is the last of them, where the turn's effects end no call
-  last_of : (wrote tail xs : List (Event T)) (p : ℕ) (start : Start T) (answer : Answer T) (ys : List (Event T)) → ends wrote ≡ 0 → length tail ≤ 1
-      → wrote ++ tail ≡ xs ++ Finished p start answer ∷ ys → ys ≡ []
-  last_of [] [] [] p start answer ys none few lists_are = absurd (cc)
-  last_of [] [] (x ∷ xs) p start answer ys none few lists_are = absurd (cc)
-  last_of [] (t ∷ []) [] p start answer ys none few lists_are = (let rest : [] ≡ ys = cc in sym rest)
-  last_of [] (t ∷ u ∷ tail) [] p start answer ys none few lists_are = absurd (omega arith)
-  last_of [] (t ∷ tail) (x ∷ xs) p start answer ys none few lists_are =
-      last_of [] tail xs p start answer ys refl (omega arith) (let rest : tail ≡ xs ++ Finished p start answer ∷ ys = cc in rest)
-  last_of (w ∷ wrote) tail [] p start answer ys none few lists_are =
-      let is : w ≡ Finished p start answer = cc in
-      let one : end_of w ≡ 1 = ap end_of is in
-      absurd (omega (arith, sum_by-cons end_of w wrote))
-  last_of (w ∷ wrote) tail (x ∷ xs) p start answer ys none few lists_are =
-      last_of wrote tail xs p start answer ys (omega (arith, sum_by-cons end_of w wrote)) few
-      (let rest : wrote ++ tail ≡ xs ++ Finished p start answer ∷ ys = cc in rest)
-
   -- a step ends at most one call
   one_ending : (p : ℕ) (start : Start T) (o : Option (Answer T)) → length (ending_of p start o) ≤ 1
   one_ending p start None = omega arith
   one_ending p start (Some answer) = omega arith
 
-  -- the end of a call that an answer to a step writes is the last event of the turn
-  last_answered : (w : World T) (q : ℕ) (x : Party T) (n : ℕ) (doing : Doing T) (xs : List (Event T)) (p : ℕ) (start : Start T) (answer : Answer T)
-      (ys : List (Event T)) → events_of_answer w q x n doing ≡ xs ++ Finished p start answer ∷ ys → ys ≡ []
-  last_answered w q x n (Over others) [] p start answer ys events_of_answer_is = absurd (cc)
-  last_answered w q x n (Over others) (y ∷ xs) p start answer ys events_of_answer_is = absurd (cc)
-  last_answered w q x n (Going flight since) xs p start answer ys events_of_answer_is =
-      last_of (step_in w q x flight n).wrote (ending_of q x.start (answer_in (step_in w q x flight n).after)) xs p start answer ys
-      (writes_no_end T w.coding w.words (beside_of w.words w.kept w.latest q) q x.start flight n w.kept)
-      (one_ending q x.start (answer_in (step_in w q x flight n).after)) events_of_answer_is
+  -- of the end of a call with this answer, and events ys behind it
+  module _ (p : ℕ) (start : Start T) (answer : Answer T) (ys : List (Event T)) where
+    -- an end of a call among the events of a turn is the last of them, where the turn's effects end no call
+    last_of : (wrote tail xs : List (Event T)) → ends wrote ≡ 0 → length tail ≤ 1 → wrote ++ tail ≡ xs ++ Finished p start answer ∷ ys → ys ≡ []
+    last_of [] [] [] none few lists_are = absurd (cc)
+    last_of [] [] (x ∷ xs) none few lists_are = absurd (cc)
+    last_of [] (t ∷ []) [] none few lists_are = (let rest : [] ≡ ys = cc in sym rest)
+    last_of [] (t ∷ u ∷ tail) [] none few lists_are = absurd (omega arith)
+    last_of [] (t ∷ tail) (x ∷ xs) none few lists_are =
+        last_of [] tail xs refl (omega arith) (let rest : tail ≡ xs ++ Finished p start answer ∷ ys = cc in rest)
+    last_of (w ∷ wrote) tail [] none few lists_are =
+        let is : w ≡ Finished p start answer = cc in
+        let one : end_of w ≡ 1 = ap end_of is in
+        absurd (omega (arith, sum_by-cons end_of w wrote))
+    last_of (w ∷ wrote) tail (x ∷ xs) none few lists_are =
+        last_of wrote tail xs (omega (arith, sum_by-cons end_of w wrote)) few
+        (let rest : wrote ++ tail ≡ xs ++ Finished p start answer ∷ ys = cc in rest)
 
-  -- the end of a call that a turn of a step writes is the last event of the turn
-  last_next : (w : World T) (q : ℕ) (o : Option (Party T)) (xs : List (Event T)) (p : ℕ) (start : Start T) (answer : Answer T)
-      (ys : List (Event T)) → events_of_next w q o ≡ xs ++ Finished p start answer ∷ ys → ys ≡ []
-  last_next w q None [] p start answer ys events_of_next_is = absurd (cc)
-  last_next w q None (y ∷ xs) p start answer ys events_of_next_is = absurd (cc)
-  last_next w q (Some x) xs p start answer ys events_of_next_is =
-      last_answered w q x (old_of w.words (ask_of_doing w.coding x.doing)) x.doing xs p start answer ys events_of_next_is
+    -- the end of a call that an answer to a step writes is the last event of the turn
+    last_answered : (w : World T) (q : ℕ) (x : Party T) (n : ℕ) (doing : Doing T) (xs : List (Event T))
+        → events_of_answer w q x n doing ≡ xs ++ Finished p start answer ∷ ys → ys ≡ []
+    last_answered w q x n (Over others) [] events_of_answer_is = absurd (cc)
+    last_answered w q x n (Over others) (y ∷ xs) events_of_answer_is = absurd (cc)
+    last_answered w q x n (Going flight since) xs events_of_answer_is =
+        last_of (step_in w q x flight n).wrote (ending_of q x.start (answer_in (step_in w q x flight n).after)) xs
+        (writes_no_end T w.coding w.words (beside_of w.words w.kept w.latest q) q x.start flight n w.kept)
+        (one_ending q x.start (answer_in (step_in w q x flight n).after)) events_of_answer_is
 
-  -- the end of a call that an answer to a question writes is the last event of the turn
-  last_decision : (w : World T) (q : ℕ) (said : Bool) (o : Option (Party T)) (xs : List (Event T)) (p : ℕ) (start : Start T) (answer : Answer T)
-      (ys : List (Event T)) → events_of_decision w q said o ≡ xs ++ Finished p start answer ∷ ys → ys ≡ []
-  last_decision w q said None [] p start answer ys events_of_decision_is = absurd (cc)
-  last_decision w q said None (y ∷ xs) p start answer ys events_of_decision_is = absurd (cc)
-  last_decision w q said (Some x) xs p start answer ys events_of_decision_is =
-      last_answered w q x (number_of said) x.doing xs p start answer ys events_of_decision_is
+    -- the end of a call that a turn of a step writes is the last event of the turn
+    last_next : (w : World T) (q : ℕ) (o : Option (Party T)) (xs : List (Event T)) → events_of_next w q o ≡ xs ++ Finished p start answer ∷ ys → ys ≡ []
+    last_next w q None [] events_of_next_is = absurd (cc)
+    last_next w q None (y ∷ xs) events_of_next_is = absurd (cc)
+    last_next w q (Some x) xs events_of_next_is =
+        last_answered w q x (old_of w.words (ask_of_doing w.coding x.doing)) x.doing xs events_of_next_is
 
-  -- the end of a call that any turn writes is the last event of the turn
-  last_end : (w : World T) (turn : Turn T) (xs : List (Event T)) (p : ℕ) (start : Start T) (answer : Answer T) (ys : List (Event T))
-      → events_of w turn ≡ xs ++ Finished p start answer ∷ ys → ys ≡ []
-  last_end w (Begin q s) xs p start answer ys events_are = last_of [] (Begun q s ∷ []) xs p start answer ys refl (omega arith) events_are
-  last_end w (Next q) xs p start answer ys events_are = last_next w q (party_of q w.latest) xs p start answer ys events_are
-  last_end w (Decide q said) xs p start answer ys events_are = last_decision w q said (party_of q w.latest) xs p start answer ys events_are
-  last_end w (Die owner) xs p start answer ys events_are = last_of [] (events_of w (Die owner)) xs p start answer ys refl (omega arith) events_are
+    -- the end of a call that an answer to a question writes is the last event of the turn
+    last_decision : (w : World T) (q : ℕ) (said : Bool) (o : Option (Party T)) (xs : List (Event T))
+        → events_of_decision w q said o ≡ xs ++ Finished p start answer ∷ ys → ys ≡ []
+    last_decision w q said None [] events_of_decision_is = absurd (cc)
+    last_decision w q said None (y ∷ xs) events_of_decision_is = absurd (cc)
+    last_decision w q said (Some x) xs events_of_decision_is = last_answered w q x (number_of said) x.doing xs events_of_decision_is
+
+    -- the end of a call that any turn writes is the last event of the turn
+    last_end : (w : World T) (turn : Turn T) (xs : List (Event T)) → events_of w turn ≡ xs ++ Finished p start answer ∷ ys → ys ≡ []
+    last_end w (Begin q s) xs events_are = last_of [] (Begun q s ∷ []) xs refl (omega arith) events_are
+    last_end w (Next q) xs events_are = last_next w q (party_of q w.latest) xs events_are
+    last_end w (Decide q said) xs events_are = last_decision w q said (party_of q w.latest) xs events_are
+    last_end w (Die owner) xs events_are = last_of [] (events_of w (Die owner)) xs refl (omega arith) events_are
 
   -- ---- the turns until then
 
@@ -161,7 +159,7 @@ module _ {T : Type 0} where
           → UpTo (after_turn t turn) turns ((t.events ++ es) ++ (less ++ Finished p start answer ∷ [])))
           → ((rest : List (Event T)) × (end ≡ es ++ rest)) ⊎ ((rest : List (Event T)) × (es ≡ end ++ rest)) → UpTo t (turn ∷ turns) (t.events ++ end)
       go on (inr b) =
-          let none : b.0 ≡ [] = last_end t.world turn xs p start answer b.0 (b.1 ∙ append_assoc xs (Finished p start answer ∷ []) b.0) in
+          let none : b.0 ≡ [] = last_end p start answer b.0 t.world turn xs (b.1 ∙ append_assoc xs (Finished p start answer ∷ []) b.0) in
           here (sym (b.1 ∙ (ap (λ zs. end ++ zs) none ∙ append-nil end)))
       go on (inl a) = ⊎_elim now later_on (last_too xs es a.0 (Finished p start answer) a.1)
         where

@@ -93,11 +93,4 @@ module _ {T : Type 0} where
 
       -- with one index more, which does not have the owner now
       pub owned_past : filled_of index new ≢ Some owner → WereOwned owner (index + 1) indices old new
-      owned_past has_not = record { had = h.had; had_not = past }
-        where
-          -- each index up to this one that is not in the list did not have the owner at a moment
-          past : (i : ℕ) → i < index + 1 → (Contains indices i → ⊥) → HadNot new i
-          past i below out =
-              ⊎_elim (λ (e : i ≡ index). subst (HadNot new) (sym e) (held_now on has_not))
-              (λ (ne : i ≢ index). h.had_not i (omega arith) out)
-              (cases_eq i index)
+      owned_past = grind (arith, held_now, cases_eq)

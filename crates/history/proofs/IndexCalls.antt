@@ -22,6 +22,7 @@ use Rattle.steps.specs.declared.indices.unique.LockMode.{LockMode}
 use Rattle.steps.specs.declared.indices.looks.BorrowedIndices.{BorrowedIndices as Counting}
 use Rattle.steps.specs.declared.indices.looks.IsLocked.{IsLocked as Looking}
 use Rattle.steps.specs.declared.indices.enums.ReleaseMode.TheVariants as modes
+use Rattle.model.specs.declared.event.Answer.TheVariants.{State}
 use Rattle.model.specs.declared.families.Flight.TheVariants as flights
 use Rattle.model.specs.declared.families.indices.calls.IndexFlight.TheVariants as calls
 use Rattle.model.specs.declared.turn.Kind.TheVariants as kinds
@@ -32,6 +33,7 @@ use Rattle.history.specs.declared.view.View.{View}
 use Rattle.history.specs.Held.{Holds}
 use Rattle.history.specs.Indices.{StandsIn, claimed_by, takes_index, freed_at, gives_index, given_by, gives_or_locks, counts_out, looks_locked}
 use Rattle.history.specs.Stages.{At}
+use Rattle.history.proofs.Beginning.{at_begin}
 use Rattle.history.proofs.Drives.{goes, keeps_to_end}
 use Rattle.history.proofs.Indices.{index_effects, plain_starts, release_starts}
 use Rattle.history.proofs.CallsIn.{Driven, IsCallBy, KeepsEnds}
@@ -63,12 +65,9 @@ hears_at : (c : Acquiring) (stage : AcquireStage) (a : Ask) (n : ℕ)
 hears_at = grind arith
 
 module _ {T : Type 0} (code : Coding T) where
-  -- how the model's acquire goes on
-  abbrev told_as : After Acquiring Acquired → After (Flight T) (Answer T)
-  told_as r = as_call flights.Indices (λ answer. answer) (as_call calls.Acquire acquire_answer (went_on as_it_is tt tt r))
-
   -- the model's acquire goes on as the driver's does
-  as_told : (r : After Acquiring Acquired) → told_as r ≡ goes takes_index r tt
+  as_told : (r : After Acquiring Acquired) → as_call flights.Indices (λ (answer : Answer T). answer)
+      (as_call calls.Acquire acquire_answer (went_on as_it_is tt tt r)) ≡ goes takes_index r tt
   as_told (GoOn d) = refl
   as_told (Done e) = refl
 
@@ -131,14 +130,9 @@ abbrev Giving : Type 0
 Giving = Releasing DefaultMode
 
 module _ {T : Type 0} (code : Coding T) (index : ℕ) where
-  -- how the model's release goes on
-  abbrev given_as : After Giving ReleaseState → After (Flight T) (Answer T)
-  given_as r =
-      as_call flights.Indices (λ answer. answer)
-      (as_call calls.ReleaseDefault Rattle.model.specs.declared.event.Answer.TheVariants.State (went_on as_it_is index tt r))
-
   -- the model's release goes on as the driver's does
-  as_given : (r : After Giving ReleaseState) → given_as r ≡ goes (gives_index index) r tt
+  as_given : (r : After Giving ReleaseState) → as_call flights.Indices (λ (answer : Answer T). answer)
+      (as_call calls.ReleaseDefault State (went_on as_it_is index tt r)) ≡ goes (gives_index index) r tt
   as_given (GoOn d) = refl
   as_given (Done e) = refl
 
@@ -173,17 +167,8 @@ module _ {T : Type 0} (code : Coding T) (index : ℕ) where
       → index < v.capacity → Holds index v.made
       → At code kinds.Indices (gives_index index) v v (first_release v.capacity) m
   release_first v m idle alone any low held =
-      inl (record {
-        is = refl;
-        idle = idle;
-        fresh = alone;
-        standing = (refl, low);
-        some = any;
-        first = refl;
-        starts =
-            release_starts modes.Default refl (λ o p. tt) (λ kept. refl) low held;
-        wrote = λ p new. refl;
-      })
+      at_begin idle alone any (refl, low) refl
+      (release_starts modes.Default refl (λ o p. tt) (λ kept. refl) low held) (λ p new. refl)
 
 -- ---- release that may lock
 
@@ -192,14 +177,9 @@ abbrev Locking : Type 0
 Locking = Releasing LockMode
 
 module _ {T : Type 0} (code : Coding T) (index : ℕ) where
-  -- how the model's release goes on, in the mode that may lock
-  abbrev locked_as : After Locking ReleaseState → After (Flight T) (Answer T)
-  locked_as r =
-      as_call flights.Indices (λ answer. answer)
-      (as_call calls.ReleaseLock Rattle.model.specs.declared.event.Answer.TheVariants.State (went_on as_it_is index tt r))
-
   -- the model's release in the mode that may lock goes on as the driver's does
-  as_locked : (r : After Locking ReleaseState) → locked_as r ≡ goes (gives_or_locks index) r tt
+  as_locked : (r : After Locking ReleaseState) → as_call flights.Indices (λ (answer : Answer T). answer)
+      (as_call calls.ReleaseLock State (went_on as_it_is index tt r)) ≡ goes (gives_or_locks index) r tt
   as_locked (GoOn d) = refl
   as_locked (Done e) = refl
 
@@ -235,17 +215,8 @@ module _ {T : Type 0} (code : Coding T) (index : ℕ) where
       → index < v.capacity → Holds index v.made
       → At code kinds.Indices (gives_or_locks index) v v (first_release v.capacity) m
   lock_first v m idle alone any low held =
-      inl (record {
-        is = refl;
-        idle = idle;
-        fresh = alone;
-        standing = (refl, low);
-        some = any;
-        first = refl;
-        starts =
-            release_starts modes.LockIfLastIndex refl (λ o p. tt) (λ kept. refl) low held;
-        wrote = λ p new. refl;
-      })
+      at_begin idle alone any (refl, low) refl
+      (release_starts modes.LockIfLastIndex refl (λ o p. tt) (λ kept. refl) low held) (λ p new. refl)
 
 -- ---- looks at the head
 

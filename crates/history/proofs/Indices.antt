@@ -2,9 +2,9 @@
 -- leads, and how a call begins.
 use Rattle.history.proofs.Names.{◌≡◌, ℕ, ◌<◌, ◌==◌, nat_le, true, false, Option, Some, None, is_none, IfSome, List}
 use Rattle.history.proofs.Names.{[], length, refl, sym, ap, subst, ◌∙◌, arith, sum_by, slice_index_or, nat_tests}
-use Rattle.history.proofs.Names.{ReleaseMode, Event, Start, Flight, Registry, Party, Coding, first_of}
+use Rattle.history.proofs.Names.{ReleaseMode, Event, Start, Flight, Registry, Coding, first_of}
 use Rattle.history.proofs.Names.{begin_rows, step_of, beside_of, after_of, going_rows, IsIndexSet, IsKeptBy}
-use Rattle.history.proofs.Names.{promise_of, first_row, step_in, Trace, stands_there}
+use Rattle.history.proofs.Names.{promise_of, first_row, Trace, stands_there}
 use Rattle.model.specs.declared.event.Start.TheVariants.{Indices}
 use Rattle.model.specs.declared.families.Flight.TheVariants as flights
 use Rattle.model.specs.declared.families.Registry.TheVariants as registries
@@ -28,7 +28,7 @@ use Rattle.history.proofs.Held.{held_by}
 use Rattle.history.proofs.Known.{AreOf}
 use Rattle.history.proofs.Starting.{starts_by_last}
 use Rattle.history.proofs.Paid.{Pays, progress_kept, pays_run}
-use Rattle.history.proofs.Turns.{CallGoesOn, KindLaws, LoneMachines}
+use Rattle.history.proofs.KindLaws.{CallGoesOn, KindLaws, LoneMachines, goes_on_so}
 
 module _ {T : Type 0} where
   -- what a step of a call on a unique index set writes
@@ -93,20 +93,11 @@ module _ {T : Type 0} (code : Coding T) (capacity : ℕ) where
       let beside = beside_of world_now.words world_now.kept world_now.latest p in
       let writes_here = writes_there world_now.coding world_now.words beside world_now.capacity p in
       let goes_here = goes_there world_now.coding world_now.words beside world_now.capacity p in
-      record {
-        -- nothing refuses the step, and its effects are of this party
-        may = no_rows world_now.coding world_now.capacity world_now.kept is_sound.state.holders p here.x.start flight mine;
-        own = λ n. own_there world_now.capacity p n is_sound.state.holders here.x.start flight mine;
-        -- its effects are those of the call, and it leads where the call's flight says
-        writes = λ x n found. (
-            let same : here.x ≡ x = (let both : Some here.x ≡ Some x = sym here.found ∙ found in cc) in
-            subst (λ (z : Party T). (step_in world_now p z flight n).wrote ≡ index_effects p flight n) same
-            (writes_here n world_now.kept is_sound.state here.x.start flight is_sound.fit.kept mine));
-        goes = λ x n found. (
-            let same : here.x ≡ x = (let both : Some here.x ≡ Some x = sym here.found ∙ found in cc) in
-            subst (λ (z : Party T). (step_in world_now p z flight n).after ≡ after_of world_now.coding flight n) same
-            (goes_here n world_now.kept is_sound.state here.x.start flight is_sound.fit.kept mine));
-      }
+      goes_on_so here
+      (no_rows world_now.coding world_now.capacity world_now.kept is_sound.state.holders p here.x.start flight mine)
+      (λ n. own_there world_now.capacity p n is_sound.state.holders here.x.start flight mine)
+      (λ n. writes_here n world_now.kept is_sound.state here.x.start flight is_sound.fit.kept mine)
+      (λ n. goes_here n world_now.kept is_sound.state here.x.start flight is_sound.fit.kept mine)
 
   -- unique index sets keep the laws of a kind: what their steps write, and where they lead
   pub indices_owe : KindLaws code kinds.Indices capacity (core.size capacity) index_effects

@@ -10,7 +10,7 @@ use Rattle.history.proofs.Names.{step_in, World, Trace, whose}
 use Rattle.history.specs.Known.{events_by, of_none}
 use Rattle.history.specs.History.{IsRun, call_in, IsLate, refusal_as}
 use Rattle.history.proofs.Known.{by_other, none_late, AreOf, sum_first}
-use Rattle.history.proofs.Calls.{IsStateless, goes_alike}
+use Rattle.history.proofs.Calls.{IsStateless, Stands, at_found, goes_alike}
 
 module _ {T : Type 0} where
   -- events of one party are each of a party
@@ -97,6 +97,21 @@ module _ {T : Type 0} where
               });
           stateless = laws.stateless;
         }
+
+-- a call under way goes on as `CallGoesOn` says, where that holds of the party that was found for it
+pub goes_on_so : {T : Type 0} {code : Coding T} {kind : Kind} {capacity words : ℕ} {effects : ℕ → Flight T → ℕ → List (Event T)}
+    {t : Trace T} {p : ℕ} {start : Start T} {flight : Flight T} (here : Stands t.world p start flight)
+    → first_row (going_rows t.world.coding t.world.kept (Some flight) None) ≡ None → ((n : ℕ) → AreOf p (effects p flight n))
+    → ((n : ℕ) → (step_in t.world p here.x flight n).wrote ≡ effects p flight n)
+    → ((n : ℕ) → (step_in t.world p here.x flight n).after ≡ after_of t.world.coding flight n)
+    → CallGoesOn code kind capacity words effects t p flight
+goes_on_so {effects = effects} {t = t} {p = p} {flight = flight} here may own writes goes =
+    record {
+      may = may;
+      own = own;
+      writes = λ x n found. at_found here (λ z. (step_in t.world p z flight n).wrote ≡ effects p flight n) (writes n) x found;
+      goes = λ x n found. at_found here (λ z. (step_in t.world p z flight n).after ≡ after_of t.world.coding flight n) (goes n) x found;
+    }
 
 -- by the laws of a kind whose calls go on by their stage alone, a call goes on by its flight alone
 pub goes_by_flight : {T : Type 0} {code : Coding T} {kind : Kind} {capacity words : ℕ} {effects : World T → ℕ → Flight T → ℕ → List (Event T)}

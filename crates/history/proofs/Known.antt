@@ -1,7 +1,7 @@
 -- Which events are a party's and which a seat's (`events_by`, `owned`), as parties are handed from one seat
 -- to another, and what may be late for a call.
 use Rattle.history.proofs.Names.{◌≡◌, ◌≢◌, ⊎_elim, ℕ, zero, suc, ◌+◌, ◌<◌, Option, Some, None, List, []}
-use Rattle.history.proofs.Names.{◌∷◌, ◌++◌, length, refl, sym, ap, subst, ◌∙◌, arith, append_assoc, append-nil}
+use Rattle.history.proofs.Names.{◌∷◌, ◌++◌, length, refl, sym, ap, ◌∙◌, arith, append_assoc, append-nil}
 use Rattle.history.proofs.Names.{sum_by, ◌==◌, false, if◌then◌else◌, ◌≤◌, ◌⊎◌, cases_eq, nat_tests}
 use Rattle.history.proofs.Names.{sum_by-append, sum_by-cons, AllByRecursion, Event, whose, Trace}
 use Rattle.history.proofs.Names.{Start, Flight, Kind}
@@ -255,23 +255,4 @@ module _ {T : Type 0} where
   -- nothing is late for a seat's party without a call under way
   pub quiet_late : {owner : ℕ → ℕ} {t : Trace T} {j : ℕ} {v : View T} → (f : Fits owner t j v) → (p : ℕ)
       → owner p ≡ j → call_in t.world p ≡ None → events_by p f.late ≡ []
-  quiet_late {t = t} {v = v} f p of_j idle = go v.party refl
-    where
-      -- the late events are of the seat's latest party, which has a call under way
-      go : (o : Option ℕ) → v.party ≡ o → events_by p f.late ≡ []
-      go None party_is = (let none : [] ≡ f.late = subst (λ (o : Option ℕ). by_party o f.late ≡ f.late) party_is f.of_party in ap (events_by p) (sym none))
-      go (Some q) party_is = ⊎_elim mine other (cases_eq q p)
-        where
-          -- the late events are all of the seat's latest party
-          of_q : events_by q f.late ≡ f.late
-          of_q = subst (λ (o : Option ℕ). by_party o f.late ≡ f.late) party_is f.of_party
-
-          -- party p has no call under way, so it is not the one for which events are late
-          mine : q ≡ p → events_by p f.late ≡ []
-          mine q_is =
-              let none : v.going ≡ None = sym (f.going p of_j (party_is ∙ ap Some q_is)) ∙ idle in
-              ap (events_by p) (late_none t.world.kind f.late (subst (λ o. IsLate t.world.kind o f.late) none f.waits))
-
-          -- another party has no late events
-          other : q ≢ p → events_by p f.late ≡ []
-          other ne = ap (events_by p) (sym of_q) ∙ by_apart q p f.late (λ e. ne (sym e))
+  quiet_late = grind (arith, cases_eq, late_none, by_apart)

@@ -17,6 +17,8 @@ pub mod Passes
 pub mod PassLooks
 pub mod Looking
 pub mod Called
+pub mod Telling
+pub mod Beginning
 pub mod Sized
 pub mod CallsIn
 pub mod CallReady

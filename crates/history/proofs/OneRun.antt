@@ -182,16 +182,7 @@ module _ {T : Type 0} where
 
     -- the first pass knows that nothing has happened
     pub knows_first : IsCoding code → capacity_error kind capacity ≡ None → Knows code kind capacity (first_view capacity)
-    knows_first coded admitted =
-        record {
-          coded = coded;
-          admitted = admitted;
-          allowed = tt;
-          fresh = tt;
-          is = refl;
-          others = refl;
-          asked = record { share = (omega arith, omega arith); most = omega arith; all = λ whole. refl };
-        }
+    knows_first = grind arith
 
     pub seats_know_one : {s : State (Unit {0}) (View T)} → IsMachine code kind capacity s → SeatsKnowOneRun s
     seats_know_one is_machine i j v w at there = know_one is_machine.one.turns v w (is_machine.one.knew i v at) (is_machine.one.knew j w there)

@@ -1,6 +1,6 @@
 -- A push of an overflowing queue is a call of the model, whose act another party's pop may write; each step
 -- keeps the rule of the table.
-use Rattle.history.proofs.Names.{inl, ◌≡◌, ℕ, ◌+◌, ◌^◌, ◌%◌, ◌<◌, ◌==◌, Bool, true, false, cond, Option}
+use Rattle.history.proofs.Names.{◌≡◌, ℕ, ◌+◌, ◌^◌, ◌%◌, ◌<◌, ◌==◌, true, false, Option}
 use Rattle.history.proofs.Names.{Some, None, List, [], ◌∷◌, ◌++◌, get_or, slice_index, fold, refl, sym, ap, subst}
 use Rattle.history.proofs.Names.{◌∙◌, append_assoc, append-nil, arith, nat_tests, AllByRecursion, written, Ask}
 use Rattle.history.proofs.Names.{Exchange, GoOn, OneWord, Producer, after_position, Answer}
@@ -14,11 +14,10 @@ use Rattle.steps.specs.declared.ask.After.TheVariants.{Done}
 use Rattle.steps.specs.declared.ask.Want.TheVariants as wants
 use Rattle.steps.specs.declared.queues.overflow.Push.{Push as Pushing}
 use Rattle.steps.specs.declared.queues.overflow.PushEnd.{PushEnd}
-use Rattle.steps.specs.declared.queues.overflow.PushEnd.TheVariants.{Added, Own, Oldest}
+use Rattle.steps.specs.declared.queues.overflow.PushEnd.TheVariants.{Own}
 use Rattle.steps.specs.declared.queues.overflow.PushStage.{PushStage}
 use Rattle.steps.specs.declared.queues.overflow.PushStage.TheVariants as pushes
-use Rattle.steps.specs.Queues.Ring.{distance}
-use Rattle.steps.specs.Queues.Overflow.{at_push, cell_word, first_push, push_asks, push_want, push_takes, push_after}
+use Rattle.steps.specs.Queues.Overflow.{cell_word, first_push, push_asks, push_want, push_takes, push_after}
 use Rattle.steps.specs.Queues.Overflow.{push_keeps, push_kept, push_answer}
 use Rattle.model.specs.declared.event.Item.TheVariants.{Index}
 use Rattle.model.specs.declared.families.queues.QueueKind.TheVariants as queues
@@ -31,6 +30,7 @@ use Rattle.history.specs.Known.{events_by}
 use Rattle.history.specs.Overflow.{IsWithin, over_push_skips, HasPushWord, HasActed, over_push_wrote, pushes_over}
 use Rattle.history.specs.Roles.{HasRole}
 use Rattle.history.specs.Stages.{Calling, At}
+use Rattle.history.proofs.Beginning.{at_begin}
 use Rattle.history.proofs.Calls.{stands}
 use Rattle.history.proofs.Drives.{IsCallIn, goes, keeps_in}
 use Rattle.history.proofs.Known.{by_mine}
@@ -78,25 +78,7 @@ module _ {T : Type 0} where
 -- a push that no word ends outside the history ends with an end that is in the history
 acts : (c : Pushing) (e : PushEnd) (n : ℕ) (stage : PushStage) → HasPushWord stage
     → over_push_skips stage n ≡ false → push_takes c stage n ≡ Done e → HasActed e
-acts c e n pushes.HandsBack push_word skip ends = absurd push_word
-acts c e n pushes.LoadsWrite push_word skip ends = (let no : GoOn (at_push c (pushes.LoadsRead n)) ≡ Done e = rw skip at ends in absurd (cc))
-acts c e n (pushes.LoadsRead write) push_word skip ends = absurd (cc)
-acts c e n (pushes.StoresCell write at) push_word skip ends = absurd (cc)
-acts c e n (pushes.StoresWrite write at) push_word skip ends = go (distance write at == c.capacity) ends
-  where
-    -- where the queue is over its capacity the push goes on to move the read position, else it
-    -- ends with its index added
-    go : (b : Bool) → cond b (GoOn (at_push c (pushes.MovesRead at))) (Done Added) ≡ Done e → HasActed e
-    go true leads = absurd (cc)
-    go false leads = (let same : Added ≡ e = cc in subst HasActed same tt)
-acts c e n (pushes.MovesRead at) push_word skip ends = go (n == at) ends
-  where
-    -- where the read position is still the one that it loaded the push goes on to load the oldest index, else
-    -- it ends with its own index added
-    go : (b : Bool) → cond b (GoOn (at_push c (pushes.LoadsCell at))) (Done Added) ≡ Done e → HasActed e
-    go true leads = absurd (cc)
-    go false leads = (let same : Added ≡ e = cc in subst HasActed same tt)
-acts c e n (pushes.LoadsCell at) push_word skip ends = (let same : Oldest ≡ e = cc in subst HasActed same tt)
+acts = grind arith
 
 module _ {T : Type 0} (code : Coding T) (v : ℕ) where
   -- a push of this value, as a call of the model
@@ -267,14 +249,5 @@ module _ {T : Type 0} (code : Coding T) (v : ℕ) where
       → At code kinds.Overflow pushing x x (first_push x.capacity) (record { 0 = 0 })
   over_push_first x idle alone any has_cells small has =
       let some : (x.capacity == 0) ≡ false = grind (arith, nat_tests) in
-      inl (record {
-        is = refl;
-        idle = idle;
-        fresh = alone;
-        standing = (small, refl, rw some tt);
-        some = any;
-        first = refl;
-        starts =
-            role_begins queues.Overflow (PushIndex v) refl (λ kept. refl) Producer (λ o p. tt) (λ roles p is. holds_it roles.producer p is) has;
-        wrote = λ p. (refl, tt);
-      })
+      at_begin idle alone any (small, refl, rw some tt) refl
+      (role_begins queues.Overflow (PushIndex v) refl (λ kept. refl) Producer (λ o p. tt) (λ roles p is. holds_it roles.producer p is) has) (λ p. (refl, tt))

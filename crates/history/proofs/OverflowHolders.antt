@@ -31,7 +31,7 @@ use Rattle.model.proofs.Frame as frame
 use Rattle.laws_queues.proofs.Overflow.Waiting.{Pushing}
 use Rattle.laws_queues.proofs.Queues.Core.{Core, Good}
 use Rattle.laws_queues.proofs.Queues.Invariant.{family}
-use Rattle.laws_queues.proofs.Queues.Sound.{opening_sound, fresh_laws, IsFreshTurn}
+use Rattle.laws_queues.proofs.Queues.Sound.{opening_sound, fresh_laws}
 use Rattle.history.specs.History.{IsRun, IsHistory}
 use Rattle.history.specs.Overflow.{ByOverHolder}
 use Rattle.history.specs.Roles.{ByHolderOf}
@@ -125,17 +125,7 @@ module _ {T : Type 0} (c : ℕ) where
       → ((q v : ℕ) → waits ≡ Some (q, v) → producer_of before ≡ Some q) → PopFits before words capacity n stage
       → consumer_of before ≡ Some p
       → AllRightly before (effects_of p Pop (overflow_pop_effect words waits capacity stage n) o)
-  pop_right words capacity p n waits pops.FindsNone o before known fits holds = pop_acts p o before holds
-  pop_right words capacity p n waits pops.LoadsRead o before known fits holds = tt
-  pop_right words capacity p n waits (pops.LoadsWrite read) o before known fits holds = pop_acts p o before holds
-  pop_right words capacity p n waits (pops.LoadsCell read) o before known fits holds = tt
-  pop_right words capacity p n waits (pops.MovesRead read) o before known fits holds =
-      on_bool (λ b. AllRightly before (effects_of p Pop (cond b (takes_effect (Index (slice_index words (cell_word capacity read))) waits) Quiet) o))
-      (n == read)
-      (λ d.
-      (let is : n ≡ read = grind (arith, nat_tests) in
-      takes_right p (Index (slice_index words (cell_word capacity read))) waits o before known (fits is) holds))
-      (λ d. tt)
+  pop_right = grind (arith, pop_acts, on_bool, takes_effect, slice_index, nat_tests, takes_right)
 
   -- ---- what a call knows of the list
 

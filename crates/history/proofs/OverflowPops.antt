@@ -1,6 +1,6 @@
 -- A pop of an overflowing queue is a call of the model, which may write the act of a push that waits for
 -- room; each step keeps the rule of the table.
-use Rattle.history.proofs.Names.{inl, ◌≡◌, ◌≢◌, ℕ, ◌+◌, ◌^◌, ◌%◌, ◌<◌, ◌==◌, Bool, false, Option, Some}
+use Rattle.history.proofs.Names.{◌≡◌, ◌≢◌, ℕ, ◌+◌, ◌^◌, ◌%◌, ◌<◌, ◌==◌, Bool, false, Option, Some}
 use Rattle.history.proofs.Names.{None, List, [], ◌∷◌, ◌++◌, get_or, length, slice_index, refl, sym, ap, subst, ◌∙◌}
 use Rattle.history.proofs.Names.{arith, nat_tests, Ask, Exchange, GoOn, OneWord, Consumer, after_position}
 use Rattle.history.proofs.Names.{Answer, Event, HandedOut, Acted, Item, Start, Queues, Flight, PushIndex}
@@ -27,6 +27,7 @@ use Rattle.history.specs.Overflow.{HasPopWord, pops_over}
 use Rattle.history.specs.Queues.{pop_wrote}
 use Rattle.history.specs.Roles.{HasRole}
 use Rattle.history.specs.Stages.{Calling, At}
+use Rattle.history.proofs.Beginning.{at_begin}
 use Rattle.history.proofs.Calls.{stands}
 use Rattle.history.proofs.Drives.{IsCallIn, Met, goes, keeps_all_in}
 use Rattle.history.proofs.Known.{by_mine}
@@ -216,14 +217,5 @@ module _ {T : Type 0} (code : Coding T) where
       → At code kinds.Overflow popping x x (first_pop x.capacity) (record { 0 = 0 })
   over_pop_first x idle alone any has_cells small has =
       let some : (x.capacity == 0) ≡ false = grind (arith, nat_tests) in
-      inl (record {
-        is = refl;
-        idle = idle;
-        fresh = alone;
-        standing = (small, refl, rw some tt);
-        some = any;
-        first = refl;
-        starts =
-            role_begins queues.Overflow Pop refl (λ kept. refl) Consumer (λ o p. tt) (λ roles p is. holds_it roles.consumer p is) has;
-        wrote = λ p. refl;
-      })
+      at_begin idle alone any (small, refl, rw some tt) refl
+      (role_begins queues.Overflow Pop refl (λ kept. refl) Consumer (λ o p. tt) (λ roles p is. holds_it roles.consumer p is) has) (λ p. refl)

@@ -1,20 +1,17 @@
 -- The calls on the roles and the lengths of an overflowing queue are those of an index queue, over one cell
--- more; each step keeps the rule of the table, which opens empty.
-use Rattle.history.proofs.Names.{◌≡◌, ℕ, ◌+◌, ◌-◌, ◌*◌, ◌^◌, ◌<◌, ◌≤◌, nat_lt, false, List, [], ◌∷◌, ◌++◌, replicate}
-use Rattle.history.proofs.Names.{refl, ap, ◌∙◌, arith, nat_tests, len_want, len_after, LengthOf, Coding}
-use Rattle.history.proofs.Names.{IsCoding, KeepsRule}
-use Rattle.atomic_table.specs.Table.{opening}
+-- more; each step keeps the rule of the table.
+use Rattle.history.proofs.Names.{ℕ, ◌+◌, ◌≤◌}
+use Rattle.history.proofs.Names.{refl, arith, len_want, len_after, LengthOf, Coding}
+use Rattle.history.proofs.Names.{KeepsRule}
 use Rattle.steps.specs.declared.queues.roles.Role.{Role}
 use Rattle.model.specs.declared.turn.Kind.TheVariants as kinds
 use Rattle.history.specs.declared.view.View.{View}
 use Rattle.history.specs.History.{IsMachine}
 use Rattle.history.specs.Queues.{counts_waiting}
 use Rattle.history.specs.Stages.{At, Ends}
-use Rattle.history.specs.Views.{first_view}
 use Rattle.history.proofs.AnyRoles.{wider}
 use Rattle.history.proofs.Drives.{IsCallIn, KeepsEnds, in_machine, keeps_all_in, keeps_sized}
 use Rattle.history.proofs.Overflows.{over_effects, overflow_machines}
-use Rattle.history.proofs.Passes.{opens}
 use Rattle.history.proofs.QueueRoles.{acquire_driven, release_driven, look_driven, len_driven, len_is_call}
 use Rattle.history.proofs.Queues.{queue_effects}
 
@@ -70,22 +67,3 @@ module _ {T : Type 0} (code : Coding T) where
         (λ key. 4 + (key + 1) + 1) (λ key. key) (λ key. IsMachine code kinds.Overflow key) len_want len_after
         (λ c m n. m)
     over_lens_keep = keeps_sized code kinds.Overflow words_of len_want len_after (λ c m n. m) (counts_waiting which) len_keeps
-
--- ---- the table of an overflowing queue opens empty
-
-module _ {T : Type 0} {code : Coding T} (law : IsCoding code) (capacity : ℕ) (small : capacity < 2 ^ 32) where
-  -- a capacity below 2^32 is admitted
-  most : nat_lt (2 ^ 32 - 1) capacity ≡ false
-  most = grind (arith, nat_tests)
-
-  -- no capacity is too small
-  least : nat_lt capacity 0 ≡ false
-  least = grind (arith, nat_tests)
-
-  -- a table with these words, the opening's, opens as an empty overflowing queue
-  pub overflow_opens : (words : List ℕ) → words ≡ 0 ∷ 0 ∷ 1 ∷ 1 ∷ (replicate (capacity + 1) 0 ++ 0 ∷ [])
-      → IsMachine code kinds.Overflow capacity (opening words [] (first_view capacity))
-  overflow_opens words same =
-      (let many : capacity + 1 ≡ 1 * (capacity + 1) = omega arith in
-      opens code kinds.Overflow capacity words law (rw (most, least) refl)
-      (same ∙ ap (λ n. 0 ∷ 0 ∷ 1 ∷ 1 ∷ (replicate {A = ℕ} n 0 ++ 0 ∷ [])) many))

@@ -1,16 +1,15 @@
 -- The overflowing queue as a table that is a machine: what its calls write (a pop also the act of a push that
 -- waits for room), and where each step leads.
-use Rattle.history.proofs.Names.{◌≡◌, ◌≢◌, ℕ, ◌+◌, ◌==◌, Bool, true, false, cond, Option, Some, None, List}
+use Rattle.history.proofs.Names.{◌≡◌, ◌≢◌, ℕ, ◌+◌, Option, Some, None, List}
 use Rattle.history.proofs.Names.{[], ◌∷◌, length, slice_index, sum_by, sym, ap, subst, ◌∙◌}
 use Rattle.history.proofs.Names.{arith, Answer, PoppedNone, Event, Acted, Item, Start, Queues, Flight}
 use Rattle.history.proofs.Names.{Registry, QueueStart, PushIndex, Pop, Roles, QueueFlight, OnRole, Values, Length}
-use Rattle.history.proofs.Names.{Effect, Quiet, Acts, HandsOut, MakesRoom}
+use Rattle.history.proofs.Names.{Effect, HandsOut, MakesRoom}
 use Rattle.history.proofs.Names.{Party, Coding, step_of, beside_of, after_of, going_rows, read_word, holds, effect_of}
-use Rattle.history.proofs.Names.{pending, overflow_push_effect, overflow_pop_effect, takes_effect}
+use Rattle.history.proofs.Names.{overflow_push_effect, overflow_pop_effect, takes_effect}
 use Rattle.history.proofs.Names.{party_of, producer_of, whose, first_row, answer_in, World, Trace, stands_there}
 use Rattle.steps.specs.declared.queues.overflow.PushStage as pushes
 use Rattle.steps.specs.declared.queues.overflow.PopStage.{PopStage}
-use Rattle.steps.specs.declared.queues.overflow.PopStage.TheVariants as pops
 use Rattle.model.specs.declared.families.Flight.TheVariants as flights
 use Rattle.model.specs.declared.families.Registry.TheVariants as registries
 use Rattle.model.specs.declared.families.queues.QueueKind.TheVariants as queues
@@ -26,7 +25,7 @@ use Rattle.laws_queues.proofs.Overflow.Waiting.{pending_is, IsPending, Pushing}
 use Rattle.history.specs.History.{IsLate, call_at, call_of, call_in}
 use Rattle.history.specs.Known.{events_by, of_none}
 use Rattle.history.proofs.Known.{AreOf, by_other, none_late}
-use Rattle.history.proofs.Calls.{stands, IsStateless, goes_alike}
+use Rattle.history.proofs.Calls.{stands, at_found, IsStateless, goes_alike}
 use Rattle.history.proofs.Queues.{IsOf, sound_of, sized_so}
 use Rattle.history.proofs.Turns.{StepsOn, MachineLaws, SteadyMachines}
 
@@ -143,15 +142,7 @@ module _ {T : Type 0} (code : Coding T) (capacity : ℕ) where
     -- a party that `beside_of` names has a push that waits for room
     pub beside_waits : (kept : Registry T) (p q v : ℕ) → beside_of t.world.words kept t.world.latest p ≡ Some (q, v)
         → kept ≡ registries.Queues s.state.roles → Waits t q v
-    beside_waits kept p q v beside_is kept_is =
-        go (holds s.state.roles.consumer p) (subst (λ z. beside_of t.world.words z t.world.latest p ≡ Some (q, v)) kept_is beside_is)
-      where
-        -- whether the machine has a push that waits or not, the party that it names has one
-        go : (b : Bool) → cond b (pending (slice_index t.world.words read_word) s.state.roles.producer t.world.latest) None ≡ Some (q, v) → Waits t q v
-        go true leads =
-            (let x = pending_is (slice_index t.world.words read_word) t.world.latest q v s.state.roles.producer leads in
-            waiting_push x.4 x.0)
-        go false leads = absurd (cc)
+    beside_waits = grind (arith, beside_of, slice_index, read_word, pending_is, waiting_push)
 
   module _ (t : Trace T) where
     -- the act of a push that waits may come late for it, and is no other party's
@@ -175,22 +166,7 @@ module _ {T : Type 0} (code : Coding T) (capacity : ℕ) where
           → (stage : PopStage)
           → IsLate kinds.Overflow (call_in t.world r)
           (events_by r (effects_of p Pop (overflow_pop_effect t.world.words waits capacity stage n) o))
-      pop_late c waits known pops.FindsNone = own_late p r (effects_of p Pop Acts o) ne (own_of_effect p Pop Acts o tt)
-      pop_late c waits known pops.LoadsRead = own_late p r [] ne tt
-      pop_late c waits known (pops.LoadsWrite read) = own_late p r (effects_of p Pop Acts o) ne (own_of_effect p Pop Acts o tt)
-      pop_late c waits known (pops.LoadsCell read) = own_late p r [] ne tt
-      pop_late c waits known (pops.MovesRead read) = go (n == read)
-        where
-          -- whether the pop moves the read position or not, what it writes for another party is an
-          -- act of that party's pending push
-          go : (b : Bool) → IsLate kinds.Overflow (call_in t.world r)
-              (events_by r (effects_of p Pop (cond b (takes_effect (Rattle.model.specs.declared.event.Item.TheVariants.Index
-              (slice_index t.world.words (Rattle.steps.specs.Queues.Overflow.cell_word c read)))
-              waits)
-              Quiet)
-              o))
-          go true = takes_late _ waits known
-          go false = own_late p r [] ne tt
+      pop_late = grind (arith, own_late, own_of_effect, takes_late)
 
     -- what a step of any call writes of another party may come late for that party's push
     beside_late : (is_over : IsOverflowRun t) (p n r : ℕ) → r ≢ p → (flight : Flight T)
@@ -223,9 +199,8 @@ module _ {T : Type 0} (code : Coding T) (capacity : ℕ) where
       let kept = is_sound.fit.kept in
       let facts_here = facts t.world t.world.coding t.world.capacity p in
       let fact = λ (x : Party T) (n : ℕ) (found : party_of p t.world.latest ≡ Some x).
-      (let same : here.x ≡ x = (let both : Some here.x ≡ Some x = sym here.found ∙ found in cc) in
-      subst (λ (st : Start T). Facts t.world p n st flight t.world.kept) (ap (λ (y : Party T). y.start) same)
-      (facts_here n is_sound.state.roles is_sound.state.core here.x.start flight t.world.kept kept there.at))
+      at_found here (λ z. Facts t.world p n z.start flight t.world.kept)
+      (facts_here n is_sound.state.roles is_sound.state.core here.x.start flight t.world.kept kept there.at) x found
       in
       record {
         may = (fact here.x 0 here.found).may;

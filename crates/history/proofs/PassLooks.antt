@@ -14,9 +14,8 @@ use Rattle.model.specs.declared.turn.Kind.TheVariants as kinds
 use Rattle.history.specs.declared.view.View.{View}
 use Rattle.history.specs.History.{IsBeginning, IsMachine, Knew, Fits, HasSeenOf, IsLate, others_by, HaveAsked, steps_of_run}
 use Rattle.history.proofs.Asked.{Gains, gains_has, gains_have, asked_at}
-use Rattle.history.specs.Views.{Looks, LooksOnce, LooksAt, WhenIdle}
+use Rattle.history.specs.Views.{Looks, LooksOnce, WhenIdle}
 use Rattle.history.specs.Known.{Known, owned, events_by}
-use Rattle.history.proofs.Calls.{get_left}
 use Rattle.history.proofs.Known.{by_more, itself, nil_right, none_late, by_nothing}
 use Rattle.history.proofs.AllSeen.{known_step, known_whole, owned_whole}
 use Rattle.history.proofs.OneRun.{one_set, knew_all, continues_all}
@@ -133,20 +132,13 @@ module _ {T : Type 0} (code : Coding T) (kind : Kind) (capacity : ℕ) where
         λ g. (let no : sum_by g seat_fits.late ≡ 0 = ap (sum_by g) none in omega (arith, seat_fits.made g)) in
         -- the view after the look has all events and all turns of the machine
         let view_now : View T =
-        record {
-          capacity = v.capacity;
-          party = v.party;
-          share = v.share;
+        record v {
           seen = t.events;
           other = [];
           turns = m.one.turns;
           other_turns = [];
-          made = v.made;
-          going = v.going;
-          state = v.state;
           asked = v.asked + 1;
           aside = v.aside + 1;
-          taken = v.taken;
           others = others_by t.world v.party;
         } in
         -- the look is one operation, and no step of the run
@@ -225,14 +217,6 @@ module _ {T : Type 0} (code : Coding T) (kind : Kind) (capacity : ℕ) where
       let look = look_by (record { s = s; m = m; id = id; v = v; word = word; has_view = has_view; some_share = some_share; calm = calm }) in
       (look.w, table.keeps, tt, look.holds, (look.looks, refl), look.seen, look.asked)
 
-  -- a look by a load of any word is one operation
-  pub looks_once : (slots id word : ℕ) (v : View T) → 0 < v.share.part
-      → ((late : List (Event T)) → IsLate kind v.going late → late ≡ [])
-      → Allows IsTableMachine slots id (v, []) word (λ n. n) (λ found me. LooksOnce code kind capacity v me.0 × (me.1 ≡ []))
-  looks_once slots id word v some_share calm s m long at small =
-      let look = look_by (record { s = s; m = m; id = id; v = v; word = word; has_view = at; some_share = some_share; calm = calm }) in
-      (look.w, table.keeps, tt, look.holds, ((look.looks, look.asked), refl))
-
   -- a look is all that a seat owes for one load
   pub owes_look : (words slots id word : ℕ) (v : View T) → word < words → 0 < v.share.part
       → ((late : List (Event T)) → IsLate kind v.going late → late ≡ [])
@@ -298,26 +282,3 @@ module _ {T : Type 0} (code : Coding T) (kind : Kind) (capacity : ℕ) where
           looked.4,
         ),
       ))
-
-  -- a pass with a share may look by a load of any word, which tells it what the machine had in that word
-  pub looks_word : (slots id word : ℕ) (v : View T) → 0 < v.share.part
-      → Allows IsTableMachine slots id (v, []) word (λ n. n)
-      (λ found me. WhenIdle kind v.going (LooksAt code kind capacity word v found me.0) × (me.1 ≡ []))
-  looks_word slots id word v some_share s m long at small =
-      let looked = looks_when slots id word some_share s m long at small in (
-        looked.0,
-        looked.1,
-        looked.2,
-        looked.3,
-        (
-          told_of kind v.going (Looks code kind capacity v looked.0 × (looked.0.seen ≡ m.trace.events))
-              (LooksAt code kind capacity word v (slice_index s.words word) looked.0) (λ h. record {
-                looks = h.0;
-                trace = m.trace;
-                run = m.run;
-                seen = h.1;
-                word_is = λ below. ap (λ ws. slice_index ws word) m.words ∙ get_left m.trace.world.words (0 ∷ []) word below;
-              }) looked.5,
-          looked.4,
-        ),
-      )

@@ -18,14 +18,7 @@ module _ {T : Type 0} where
   -- are the step's effects
   last_is : (p q : ℕ) (start begun : Start T) (answer : Answer T) (o : Option (Answer T)) (wrote es : List (Event T)) → ends es ≡ 0
       → es ++ ending_of q begun o ≡ wrote ++ Finished p start answer ∷ [] → (begun ≡ start) × (wrote ≡ es)
-  last_is p q start begun answer None wrote es none lists_are =
-      let same : es ≡ wrote ++ Finished p start answer ∷ [] = sym (append-nil es) ∙ lists_are in
-      let one : ends es ≡ ends wrote + 1 = ap ends same ∙ sum_by-append _ wrote (Finished p start answer ∷ []) in
-      absurd (omega arith)
-  last_is p q start begun answer (Some other) wrote es none lists_are =
-      let both = same_from_push es wrote (Finished q begun other) (Finished p start answer) lists_are in
-      let last = both.1 in
-      (cc, sym both.0)
+  last_is = grind (arith, append-nil, sum_by-append, same_from_push)
 
   -- a list with an element is not empty
   none_last : (wrote : List (Event T)) (e : Event T) → [] ≡ wrote ++ e ∷ [] → ⊥

@@ -1,10 +1,9 @@
 -- A peek into an index queue, and into a queue of values, is a call of the model, each step of which keeps
 -- the rule of its table.
-use Rattle.history.proofs.Names.{inl, ◌≡◌, nat_lt, ℕ, ◌+◌, ◌^◌, ◌%◌, ◌*◌, ◌<◌, ◌==◌, ◌||◌, Bool}
-use Rattle.history.proofs.Names.{true, false, Option, Some, None, List, [], ◌++◌, slice_set, refl}
-use Rattle.history.proofs.Names.{sym, ap, subst, ◌∙◌, arith, nat_tests, Ask, After, GoOn, OneWord, read_in}
+use Rattle.history.proofs.Names.{◌≡◌, ℕ, ◌+◌, ◌^◌, ◌*◌, ◌<◌, Bool}
+use Rattle.history.proofs.Names.{Option, Some, None, List, [], slice_set, refl}
+use Rattle.history.proofs.Names.{sym, ap, arith, nat_tests, Ask, GoOn, OneWord}
 use Rattle.history.proofs.Names.{Flight, Values, Coding, IsCoding, after_of, fresh_cell, kept_at, answered, Consumer}
-use Rattle.steps.specs.declared.ask.After.TheVariants.{Done}
 use Rattle.steps.specs.declared.ask.Op.TheVariants.{Load}
 use Rattle.steps.specs.declared.ask.Want.TheVariants as wants
 use Rattle.steps.specs.declared.copied.Buffer as buffers
@@ -12,9 +11,8 @@ use Rattle.steps.specs.declared.queues.peek.Peek.{Peek as Peeking}
 use Rattle.steps.specs.declared.queues.peek.PeekStage.{PeekStage}
 use Rattle.steps.specs.declared.queues.peek.PeekStage.TheVariants as peeks
 use Rattle.steps.specs.Copied.{kept_in_one}
-use Rattle.steps.specs.Queues.Peek.{first_peek, at_peek, peek_asks, peek_want, peek_takes, peek_after, peek_kept, peek_keeps}
-use Rattle.steps.specs.Queues.Ring.{cell_word, word_at}
-use Rattle.model.specs.declared.event.Answer.TheVariants.{Popped}
+use Rattle.steps.specs.Queues.Peek.{first_peek, peek_asks, peek_want, peek_takes, peek_after, peek_kept, peek_keeps}
+use Rattle.steps.specs.Queues.Ring.{word_at}
 use Rattle.model.specs.declared.families.Flight.TheVariants as flights
 use Rattle.model.specs.declared.families.queues.QueueKind.TheVariants as queues
 use Rattle.model.specs.declared.families.queues.QueueStart.TheVariants.{Peek}
@@ -26,13 +24,13 @@ use Rattle.history.specs.Queues.{peeks_index}
 use Rattle.history.specs.Roles.{HasRole}
 use Rattle.history.specs.Rooms.{room_of}
 use Rattle.history.specs.Stages.{Calling, At}
-use Rattle.history.specs.ValueQueue.{IsWordOf, PeekPlace, peeks_value}
+use Rattle.history.specs.ValueQueue.{PeekPlace, peeks_value}
+use Rattle.history.proofs.Beginning.{at_begin}
 use Rattle.history.proofs.Drives.{goes, keeps_to_end}
-use Rattle.history.proofs.QueueCalls.{holds_it}
+use Rattle.history.proofs.QueueCalls.{holds_it, cell_low, index_low}
 use Rattle.history.proofs.Queues.{queue_effects, role_begins, index_queue_machines, queue_machines}
 use Rattle.history.proofs.Rooms.{room_set, room_read}
-use Rattle.history.proofs.CallsIn.{Driven, IsCallBy, KeepsEnds, each_tells, last_tells}
-use Rattle.laws_robust.proofs.Cases.{by_bool}
+use Rattle.history.proofs.CallsIn.{Driven, IsCallBy, KeepsEnds}
 
 -- ---- of an index queue
 
@@ -54,21 +52,7 @@ module _ {T : Type 0} (code : Coding T) where
   index_stays : (capacity : ℕ) (c d : indices.Peeking) (n : ℕ) (stage : PeekStage) → c.capacity ≡ capacity
       → indices.PeekStage capacity stage → peek_takes 1 c stage n ≡ GoOn d
       → (d.capacity ≡ capacity) × indices.PeekStage capacity d.stage
-  index_stays capacity c d n peeks.LoadsRead size peek_stage leads = let same : at_peek c (peeks.LoadsWrite n) ≡ d = cc in
-      subst (λ z. (z.capacity ≡ capacity) × indices.PeekStage capacity z.stage) same (size, tt)
-  index_stays capacity c d n (peeks.LoadsWrite read) size peek_stage leads =
-      by_bool (c.capacity == 0 || n == read)
-      (λ t. let no : ◌≡◌ {A = After indices.Peeking Bool} (Done false) (GoOn d) = rw t at leads in absurd (cc))
-      (λ t.
-      let is : ◌≡◌ {A = After indices.Peeking Bool} (GoOn (at_peek c (peeks.LoadsCell (cell_word c.capacity 1 read) 0))) (GoOn d) = rw t at leads in
-      let same : at_peek c (peeks.LoadsCell (cell_word c.capacity 1 read) 0) ≡ d = cc in
-      let some : 0 < capacity = grind (arith, nat_tests) in
-      subst (λ z. (z.capacity ≡ capacity) × indices.PeekStage capacity z.stage) same
-      (size, (read, some, ap (λ k. cell_word k 1 read) size, refl)))
-  index_stays capacity c d n (peeks.LoadsCell cell at) size peek_stage leads =
-      let not_below : nat_lt (at + 1) 1 ≡ false = (let none = peek_stage.3 in grind (arith, nat_tests)) in
-      let no : ◌≡◌ {A = After indices.Peeking Bool} (Done true) (GoOn d) = rw not_below at leads in
-      absurd (cc)
+  index_stays = grind (arith, nat_tests)
 
   -- a peek asks for a word of the queue at each stage
   index_finds_word : (capacity : ℕ) (stage : PeekStage) → capacity < 2 ^ 32 → indices.PeekStage capacity stage
@@ -76,12 +60,7 @@ module _ {T : Type 0} (code : Coding T) where
   index_finds_word capacity peeks.LoadsRead fits peek_stage = (record { word = 1; op = Load }, omega arith, refl)
   index_finds_word capacity (peeks.LoadsWrite read) fits peek_stage = (record { word = 0; op = Load }, omega arith, refl)
   index_finds_word capacity (peeks.LoadsCell cell at) fits peek_stage =
-      let tests_apart : (capacity == 0) ≡ false = (let some = peek_stage.1 in grind (arith, nat_tests)) in
-      let place : cell_word capacity 1 peek_stage.0 ≡ 4 + 1 * (peek_stage.0 % capacity) = rw tests_apart refl in
-      let is = peek_stage.2 in
-      let none = peek_stage.3 in
-      let some = peek_stage.1 in
-      (record { word = word_at cell at; op = Load }, (let low : peek_stage.0 % capacity < capacity = omega arith in omega arith), refl)
+      (record { word = word_at cell at; op = Load }, index_low capacity peek_stage.0 cell at (peek_stage.1, peek_stage.2, peek_stage.3), refl)
 
   -- what a peek hears of an operation is what the word was before it, and its room keeps that
   index_hears : (c : indices.Peeking) (m : OneWord) (a : Ask) (n : ℕ) (stage : PeekStage) → peek_asks stage ≡ wants.Ask a
@@ -95,21 +74,7 @@ module _ {T : Type 0} (code : Coding T) where
 
   -- a peek into an index queue is a call of the model
   peek_is_call : IsCallBy code (queue_effects code) (λ capacity. 4 + capacity) peek_driven
-  peek_is_call =
-      record {
-        same_want = λ c m. refl;
-        same_after = λ capacity c m n h. index_same_after c m n;
-        hears = λ c m a n e. index_hears c m a n c.stage e;
-        stays = λ capacity c d n h e. (let next = index_stays capacity c d n c.stage h.1 h.2 e in (h.0, next.0, next.1));
-        asks = λ capacity c h. index_finds_word capacity c.stage h.0 h.2;
-        past = λ capacity c d n k h e. refl;
-        finds = λ c m n small t. tt;
-        leaves = λ c a n t e. absurd (cc);
-        tells = each_tells (queue_effects code) peek_driven
-            (λ step d leads. ap (λ zs. zs ++ queue_effects code step.p (index_looking.flight step.c step.m) step.n) step.wrote);
-        tells_all = last_tells (queue_effects code) peek_driven
-            (λ step b skip leads. ap (λ zs. zs ++ queue_effects code step.p (index_looking.flight step.c step.m) step.n) step.wrote);
-      }
+  peek_is_call = grind (arith, index_same_after, index_hears, index_stays, index_finds_word)
 
   -- each step of a peek keeps the rule of the table
   pub peek_keep_all : KeepsEnds code kinds.IndexQueue (λ capacity. 4 + capacity) peek_driven
@@ -119,23 +84,10 @@ module _ {T : Type 0} (code : Coding T) where
   pub peek_first : (x : View T) → x.going ≡ None → x.other ≡ [] → 0 < x.share.part → x.capacity < 2 ^ 32
       → HasRole Consumer x.made → At code kinds.IndexQueue peeks_index x x (first_peek x.capacity) (record { 0 = 0 })
   peek_first x idle alone any small has =
-      inl (record {
-        is = refl;
-        idle = idle;
-        fresh = alone;
-        standing = (small, refl, tt);
-        some = any;
-        first = refl;
-        starts =
-            role_begins queues.IndexQueue Peek refl (λ kept. refl) Consumer (λ o p. tt) (λ roles p is. holds_it roles.consumer p is) has;
-        wrote = λ p. refl;
-      })
+      at_begin idle alone any (small, refl, tt) refl
+      (role_begins queues.IndexQueue Peek refl (λ kept. refl) Consumer (λ o p. tt) (λ roles p is. holds_it roles.consumer p is) has) (λ p. refl)
 
 -- ---- of a queue of values
-
--- a word of a cell is one of the table's words
-cell_low : (size capacity position cell at : ℕ) → IsWordOf size capacity position cell at → word_at cell at < 4 + size * capacity
-cell_low = grind arith
 
 -- R is the room of a value's words: `words_in` are its words, and `with_word` puts one of them
 module _ {T R : Type 0} (code : Coding T) (law : IsCoding code) (words_in : R → List ℕ) (with_word : R → ℕ → ℕ → R)
@@ -168,15 +120,7 @@ module _ {T R : Type 0} (code : Coding T) (law : IsCoding code) (words_in : R �
       → PeekPlace code.size capacity stage
       → after_of code (flight_at c.capacity stage (room_in m)) n
       ≡ goes looking (peek_takes code.size c stage n) (peek_keeps with_word m stage n)
-  peek_same_after capacity c m n peeks.LoadsRead peek_place = refl
-  peek_same_after capacity c m n (peeks.LoadsWrite read) peek_place =
-      by_bool (c.capacity == 0 || n == read)
-      (λ t. rw t refl)
-      (λ t. rw t refl)
-  peek_same_after capacity c m n (peeks.LoadsCell cell at) peek_place =
-      by_bool (nat_lt (at + 1) code.size)
-      (λ t. rw t (ap (λ r. GoOn (flight_at c.capacity (peeks.LoadsCell cell (at + 1)) r)) (put_there m at n peek_place.1.2)))
-      (λ t. rw t (ap (λ x. Done (Popped x)) (ap (read_in code) (put_there m at n peek_place.1.2) ∙ room_read code (words_in (with_word m at n)))))
+  peek_same_after = grind (arith, put_there, room_read)
 
   module _ (capacity : ℕ) where
     -- the peek is at a word of a position's cell, on a queue of this capacity
@@ -186,23 +130,7 @@ module _ {T R : Type 0} (code : Coding T) (law : IsCoding code) (words_in : R �
     -- a peek of a value that goes on is at a word of a cell of the queue
     peek_stays : (c d : Peeking T R) (n : ℕ) (stage : PeekStage) → c.capacity ≡ capacity
         → PeekPlace code.size capacity stage → peek_takes code.size c stage n ≡ GoOn d → PeeksNext d
-    peek_stays c d n peeks.LoadsRead size peek_place leads = let same : at_peek c (peeks.LoadsWrite n) ≡ d = cc in subst PeeksNext same (size, tt)
-    peek_stays c d n (peeks.LoadsWrite read) size peek_place leads =
-        by_bool (c.capacity == 0 || n == read)
-        (λ t. let no : ◌≡◌ {A = After (Peeking T R) Bool} (Done false) (GoOn d) = rw t at leads in absurd (cc))
-        (λ t.
-        let is : ◌≡◌ {A = After (Peeking T R) Bool} (GoOn (at_peek c (peeks.LoadsCell (cell_word c.capacity code.size read) 0))) (GoOn d) = rw t at leads in
-        let same : at_peek c (peeks.LoadsCell (cell_word c.capacity code.size read) 0) ≡ d = cc in
-        let some : 0 < capacity = grind (arith, nat_tests) in
-        subst PeeksNext same (size, (read, (some, ap (λ k. cell_word k code.size read) size, law.some))))
-    peek_stays c d n (peeks.LoadsCell cell at) size peek_place leads =
-        by_bool (nat_lt (at + 1) code.size)
-        (λ t.
-        let is : ◌≡◌ {A = After (Peeking T R) Bool} (GoOn (at_peek c (peeks.LoadsCell cell (at + 1)))) (GoOn d) = rw t at leads in
-        let same : at_peek c (peeks.LoadsCell cell (at + 1)) ≡ d = cc in
-        let low : at + 1 < code.size = grind (arith, nat_tests) in
-        subst PeeksNext same (size, (peek_place.0, (peek_place.1.0, peek_place.1.1, low))))
-        (λ t. let no : ◌≡◌ {A = After (Peeking T R) Bool} (Done true) (GoOn d) = rw t at leads in absurd (cc))
+    peek_stays = grind (arith, nat_tests, law)
 
   -- a peek asks for a word of the queue at each stage
   peek_finds_word : (capacity : ℕ) (stage : PeekStage) → PeekPlace code.size capacity stage
@@ -224,21 +152,7 @@ module _ {T R : Type 0} (code : Coding T) (law : IsCoding code) (words_in : R �
 
   -- a peek into a queue of values is a call of the model
   value_peek_is_call : IsCallBy code (queue_effects code) (λ capacity. 4 + code.size * capacity) value_peek_driven
-  value_peek_is_call =
-      record {
-        same_want = λ c m. refl;
-        same_after = λ capacity c m n h. peek_same_after capacity c m n c.stage h.2;
-        hears = λ c m a n e. peek_hears c m a n c.stage e;
-        stays = λ capacity c d n h e. (let next = peek_stays capacity c d n c.stage h.1 h.2 e in (h.0, next.0, next.1));
-        asks = λ capacity c h. peek_finds_word capacity c.stage h.2;
-        past = λ capacity c d n k h e. refl;
-        finds = λ c m n small t. tt;
-        leaves = λ c a n t e. absurd (cc);
-        tells = each_tells (queue_effects code) value_peek_driven
-            (λ step d leads. ap (λ zs. zs ++ queue_effects code step.p (looking.flight step.c step.m) step.n) step.wrote);
-        tells_all = last_tells (queue_effects code) value_peek_driven
-            (λ step b skip leads. ap (λ zs. zs ++ queue_effects code step.p (looking.flight step.c step.m) step.n) step.wrote);
-      }
+  value_peek_is_call = grind (arith, peek_same_after, peek_hears, peek_stays, peek_finds_word)
 
   -- each step of a peek keeps the rule of the table
   pub value_peek_keeps : KeepsEnds code kinds.Queue (λ capacity. 4 + code.size * capacity) value_peek_driven
@@ -249,17 +163,8 @@ module _ {T R : Type 0} (code : Coding T) (law : IsCoding code) (words_in : R �
       → 0 < x.share.part → x.capacity < 2 ^ 32 → HasRole Consumer x.made
       → At code kinds.Queue looking x x (first_peek x.capacity) m
   value_peek_first x m zeros idle alone any small has =
-      inl (record {
-        is = refl;
-        idle = idle;
-        fresh = alone;
-        standing = (small, refl, tt);
-        some = any;
-        first = named;
-        starts =
-            role_begins queues.Queue Peek refl (λ kept. named) Consumer (λ o p. tt) (λ roles p is. holds_it roles.consumer p is) has;
-        wrote = λ p. refl;
-      })
+      at_begin idle alone any (small, refl, tt) named
+      (role_begins queues.Queue Peek refl (λ kept. named) Consumer (λ o p. tt) (λ roles p is. holds_it roles.consumer p is) has) (λ p. refl)
     where
       named : ◌≡◌ {A = Option (Flight T)} (Some (flight_at x.capacity peeks.LoadsRead fresh_cell)) (Some (looking.flight (first_peek x.capacity) m))
       named = ap (λ r. Some (flight_at x.capacity peeks.LoadsRead r)) (sym zeros)

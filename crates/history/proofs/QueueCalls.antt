@@ -1,7 +1,7 @@
 -- A push and a pop of an index queue are calls of the model, each step of which keeps the rule of the table.
-use Rattle.history.proofs.Names.{inl, not, ◌≡◌, ℕ, ◌+◌, ◌^◌, ◌%◌, ◌*◌, ◌<◌, ◌==◌, Bool}
+use Rattle.history.proofs.Names.{not, ◌≡◌, ℕ, ◌+◌, ◌^◌, ◌*◌, ◌<◌, Bool}
 use Rattle.history.proofs.Names.{true, false, Option, Some, None, [], refl}
-use Rattle.history.proofs.Names.{arith, nat_tests, written, Ask, After, GoOn, OneWord, after_position}
+use Rattle.history.proofs.Names.{arith, written, Ask, After, GoOn, OneWord, after_position}
 use Rattle.history.proofs.Names.{Answer, Flight, PushIndex, Pop}
 use Rattle.history.proofs.Names.{Coding, after_of, words_of_index, popped, push_effect, pop_effect, answered}
 use Rattle.history.proofs.Names.{IsFresh, Producer, Consumer, holds}
@@ -24,6 +24,8 @@ use Rattle.history.specs.Roles.{HasRole}
 use Rattle.model.specs.declared.families.queues.QueueKind.TheVariants.{IndexQueue}
 use Rattle.history.specs.Queues.{push_skips, PushStage, pushes_index, Taking, PopStage, pop_wrote}
 use Rattle.history.specs.Queues.{pops_index}
+use Rattle.history.specs.ValueQueue.{IsWordOf}
+use Rattle.history.proofs.Beginning.{at_begin}
 use Rattle.history.proofs.Drives.{goes, keeps, keeps_to_end}
 use Rattle.history.proofs.Queues.{queue_effects, role_begins}
 use Rattle.history.proofs.CallsIn.{Driven, IsCallBy, KeepsEnds, KeepsOver}
@@ -32,6 +34,17 @@ use Rattle.history.proofs.Queues.{index_queue_machines}
 -- who holds the role does not lack it
 pub holds_it : (o : Option ℕ) (p : ℕ) → o ≡ Some p → not (holds o p) ≡ false
 holds_it = grind arith
+
+-- a word of a cell is one of the queue's words
+pub cell_low : (size capacity position cell at : ℕ) → IsWordOf size capacity position cell at → word_at cell at < 4 + size * capacity
+cell_low = grind arith
+
+-- the word of a cell of an index queue is one of the queue's words
+pub index_low : (capacity position cell at : ℕ) → (0 < capacity) × (cell ≡ cell_word capacity 1 position) × (at ≡ 0) → word_at cell at < 4 + capacity
+index_low capacity position cell at place =
+    let none = place.2 in
+    let low = cell_low 1 capacity position cell at (place.0, place.1, omega arith) in
+    omega arith
 
 module _ {T : Type 0} (code : Coding T) (v : ℕ) where
   -- a push of this index, as a call of the model
@@ -67,12 +80,7 @@ module _ {T : Type 0} (code : Coding T) (v : ℕ) where
   asks capacity pushes.TheVariants.LoadsWrite fits push_stage = (record { word = 0; op = Load }, omega arith, refl)
   asks capacity (pushes.TheVariants.LoadsRead write) fits push_stage = (record { word = 1; op = Load }, omega arith, refl)
   asks capacity (pushes.TheVariants.StoresCell write cell at) fits push_stage =
-      let tests_apart : (capacity == 0) ≡ false = (let some = push_stage.0 in grind (arith, nat_tests)) in
-      let place : cell_word capacity 1 write ≡ 4 + 1 * (write % capacity) = rw tests_apart refl in
-      let is = push_stage.1 in
-      let none = push_stage.2 in
-      let some = push_stage.0 in
-      (record { word = word_at cell at; op = Store _ }, (let low : write % capacity < capacity = omega arith in omega arith), refl)
+      (record { word = word_at cell at; op = Store _ }, index_low capacity write cell at push_stage, refl)
   asks capacity (pushes.TheVariants.StoresWrite write) fits push_stage = (record { word = 0; op = Store (after_position write) }, omega arith, refl)
 
   -- what a push hears of an operation is what the word was before it
@@ -150,12 +158,7 @@ module _ {T : Type 0} (code : Coding T) where
   pop_finds_word capacity pops.TheVariants.LoadsRead fits pop_stage = (record { word = 1; op = Load }, omega arith, refl)
   pop_finds_word capacity (pops.TheVariants.LoadsWrite read) fits pop_stage = (record { word = 0; op = Load }, omega arith, refl)
   pop_finds_word capacity (pops.TheVariants.LoadsCell read cell at) fits pop_stage =
-      let tests_apart : (capacity == 0) ≡ false = (let some = pop_stage.0 in grind (arith, nat_tests)) in
-      let place : cell_word capacity 1 read ≡ 4 + 1 * (read % capacity) = rw tests_apart refl in
-      let is = pop_stage.1 in
-      let none = pop_stage.2 in
-      let some = pop_stage.0 in
-      (record { word = word_at cell at; op = Load }, (let low : read % capacity < capacity = omega arith in omega arith), refl)
+      (record { word = word_at cell at; op = Load }, index_low capacity read cell at pop_stage, refl)
   pop_finds_word capacity (pops.TheVariants.StoresRead read) fits pop_stage = (record { word = 1; op = Store (after_position read) }, omega arith, refl)
 
   -- what a pop hears of an operation is what the word was before it, and its room keeps that
@@ -181,30 +184,12 @@ module _ {T : Type 0} (code : Coding T) where
       → x.capacity < 2 ^ 32 → HasRole Producer x.made
       → At code kinds.IndexQueue (pushes_index v) x x (first_push x.capacity) m
   push_first v x m idle alone any small has =
-      inl (record {
-        is = refl;
-        idle = idle;
-        fresh = alone;
-        standing = (small, refl, tt);
-        some = any;
-        first = refl;
-        starts =
-            role_begins IndexQueue (PushIndex v) refl (λ kept. refl) Producer (λ o p. tt) (λ roles p is. holds_it roles.producer p is) has;
-        wrote = λ p. refl;
-      })
+      at_begin idle alone any (small, refl, tt) refl
+      (role_begins IndexQueue (PushIndex v) refl (λ kept. refl) Producer (λ o p. tt) (λ roles p is. holds_it roles.producer p is) has) (λ p. refl)
 
   -- a pop begins on a pass that has the consumer's role and no call under way
   pub pop_first : (x : View T) → x.going ≡ None → x.other ≡ [] → 0 < x.share.part → x.capacity < 2 ^ 32
       → HasRole Consumer x.made → At code kinds.IndexQueue pops_index x x (first_pop x.capacity) (record { 0 = 0 })
   pop_first x idle alone any small has =
-      inl (record {
-        is = refl;
-        idle = idle;
-        fresh = alone;
-        standing = (small, refl, tt);
-        some = any;
-        first = refl;
-        starts =
-            role_begins IndexQueue Pop refl (λ kept. refl) Consumer (λ o p. tt) (λ roles p is. holds_it roles.consumer p is) has;
-        wrote = λ p. refl;
-      })
+      at_begin idle alone any (small, refl, tt) refl
+      (role_begins IndexQueue Pop refl (λ kept. refl) Consumer (λ o p. tt) (λ roles p is. holds_it roles.consumer p is) has) (λ p. refl)

@@ -1,17 +1,17 @@
 -- The calls on the roles and the lengths of an index queue are calls of the model, each step of which keeps
 -- the rule of the table.
-use Rattle.history.proofs.Names.{inl, ◌≡◌, ℕ, ◌+◌, ◌<◌, Bool, false, Option, Some, None}
-use Rattle.history.proofs.Names.{[], refl, sym, arith, Ask, GoOn, Queues}
-use Rattle.history.proofs.Names.{Flight, Coding, after_of, first_of, opening_of, answered, KeepsRule}
-use Rattle.history.proofs.Names.{first_len, len_asks, len_want, len_takes, len_after}
-use Rattle.history.proofs.Names.{Producer, Consumer, Registry, Roles, LengthOf}
+use Rattle.history.proofs.Names.{◌≡◌, ℕ, ◌+◌, ◌<◌, Bool, None}
+use Rattle.history.proofs.Names.{[], refl, arith, Ask, GoOn}
+use Rattle.history.proofs.Names.{Coding, after_of, answered, KeepsRule}
+use Rattle.history.proofs.Names.{len_asks, len_want, len_takes, len_after}
+use Rattle.history.proofs.Names.{LengthOf}
 use Rattle.steps.specs.declared.ask.Op.TheVariants.{Load}
 use Rattle.steps.specs.declared.ask.Want.TheVariants as wants
 use Rattle.history.specs.Stages.{Calling, At, Ends}
 use Rattle.model.specs.declared.turn.Kind.TheVariants as kinds
 use Rattle.history.specs.declared.view.View.{View}
 use Rattle.history.specs.History.{IsMachine}
-use Rattle.history.specs.Roles.{role_word, holder, acquire_start, release_start, HasRole}
+use Rattle.history.specs.Roles.{role_word, HasRole}
 use Rattle.steps.specs.Queues.Roles.{acquire_want, acquire_after, release_want, release_after, look_want, look_after}
 use Rattle.steps.specs.declared.queues.lengths.Len.{Len}
 use Rattle.steps.specs.declared.queues.lengths.LenStage.{LenStage}
@@ -21,12 +21,10 @@ use Rattle.steps.specs.declared.queues.roles.LookRole.{LookRole}
 use Rattle.steps.specs.declared.queues.roles.ReleaseRole.{ReleaseRole}
 use Rattle.steps.specs.declared.queues.roles.Role.{Role}
 use Rattle.model.specs.declared.families.queues.QueueKind.TheVariants.{IndexQueue}
-use Rattle.model.specs.declared.families.queues.calls.LengthOf.TheVariants as measures
-use Rattle.model.specs.Families.Queues.Opening.{lacks_role}
-use Rattle.history.specs.Queues.{takes_role, gives_role, looks_role, length_start, counts_waiting}
+use Rattle.history.specs.Queues.{takes_role, gives_role, looks_role, counts_waiting}
+use Rattle.history.proofs.AnyRoles.{acquire_first_on, release_first_on}
 use Rattle.history.proofs.Drives.{goes, keeps_sized, keeps_to_end}
-use Rattle.history.proofs.Queues.{queue_effects, plain_begins, role_begins, index_queue_machines}
-use Rattle.history.proofs.QueueCalls.{holds_it}
+use Rattle.history.proofs.Queues.{queue_effects, index_queue_machines}
 use Rattle.history.proofs.CallsIn.{Driven, IsCallBy, KeepsEnds}
 
 -- ---- acquires, releases and looks of roles
@@ -55,29 +53,7 @@ module _ {T : Type 0} (code : Coding T) (role : Role) where
   -- an acquire of a role begins on a pass with no call under way
   pub acquire_first : (x : View T) (m : Unit {0}) → x.going ≡ None → x.other ≡ [] → 0 < x.share.part
       → At code kinds.IndexQueue acquiring x x (record { word = role_word role }) m
-  acquire_first x m idle alone any =
-      inl (record {
-        is = refl;
-        idle = idle;
-        fresh = alone;
-        standing = refl;
-        some = any;
-        first = first_is ((opening_of kinds.IndexQueue).kept x.capacity) role;
-        starts =
-            plain_begins IndexQueue (acquire_start role) refl (λ kept. first_is kept role) (λ o p h. h) (λ roles p. none_lacks role roles p);
-        wrote = λ p. refl;
-      })
-    where
-      -- the model begins an acquire of either role at its only stage
-      first_is : (kept : Registry T) (r : Role)
-          → ◌≡◌ {A = Option (Flight T)} (first_of kinds.IndexQueue x.capacity (Queues (acquire_start r)) kept)
-          (Some ((takes_role r).flight (record { word = role_word r }) m))
-      first_is kept Producer = refl
-      first_is kept Consumer = refl
-
-      none_lacks : (r : Role) (roles : Roles) (p : ℕ) → lacks_role {T = T} roles p (acquire_start r) ≡ false
-      none_lacks Producer roles p = refl
-      none_lacks Consumer roles p = refl
+  acquire_first x m idle alone any = acquire_first_on code IndexQueue x m idle alone any role
 
   -- a release of a role, as the driver makes it
   abbrev pub release_driven : Driven T ReleaseRole (Unit {0}) (Unit {0})
@@ -94,29 +70,7 @@ module _ {T : Type 0} (code : Coding T) (role : Role) where
   -- a release of a role begins on a pass that has the role and no call under way
   pub release_first : (x : View T) (m : Unit {0}) → x.going ≡ None → x.other ≡ [] → 0 < x.share.part
       → HasRole role x.made → At code kinds.IndexQueue releasing x x (record { word = role_word role }) m
-  release_first x m idle alone any has =
-      inl (record {
-        is = refl;
-        idle = idle;
-        fresh = alone;
-        standing = refl;
-        some = any;
-        first = first_is ((opening_of kinds.IndexQueue).kept x.capacity) role;
-        starts =
-            role_begins IndexQueue (release_start role) refl (λ kept. first_is kept role) role (λ o p. tt) (λ roles p is. free role roles p is) has;
-        wrote = λ p. refl;
-      })
-    where
-      -- the model begins a release of either role at its only stage
-      first_is : (kept : Registry T) (r : Role)
-          → ◌≡◌ {A = Option (Flight T)} (first_of kinds.IndexQueue x.capacity (Queues (release_start r)) kept)
-          (Some ((gives_role r).flight (record { word = role_word r }) m))
-      first_is kept Producer = refl
-      first_is kept Consumer = refl
-
-      free : (r : Role) (roles : Roles) (p : ℕ) → holder r roles ≡ Some p → lacks_role {T = T} roles p (release_start r) ≡ false
-      free Producer roles p holder_is = holds_it roles.producer p holder_is
-      free Consumer roles p holder_is = holds_it roles.consumer p holder_is
+  release_first x m idle alone any has = release_first_on code IndexQueue x m idle alone any role has
 
   -- the call that tells whether a role is held, as the driver makes it
   abbrev pub look_driven : Driven T LookRole (Unit {0}) Bool
@@ -166,35 +120,6 @@ module _ {T : Type 0} (code : Coding T) (which : LengthOf) (size : ℕ) where
   -- each step of a call on lengths keeps the rule of the table
   pub len_keeps : KeepsEnds code kinds.IndexQueue (λ capacity. 4 + capacity) len_driven
   len_keeps = keeps_to_end (index_queue_machines code) len_driven len_is_call (λ c n. refl)
-
-  -- a length begins on a pass with no call under way
-  pub len_first : (x : View T) (m : Unit {0}) → x.capacity ≡ size → x.going ≡ None → x.other ≡ [] → 0 < x.share.part
-      → At code kinds.IndexQueue counting x x (first_len size) m
-  len_first x m same idle alone any =
-      inl (record {
-        is = refl;
-        idle = idle;
-        fresh = alone;
-        standing = (sym same, refl);
-        some = any;
-        first = first_is ((opening_of kinds.IndexQueue).kept x.capacity) which;
-        starts =
-            plain_begins IndexQueue (length_start which) refl (λ kept. first_is kept which) (λ o p h. h) (λ roles p. none_lacks which roles p);
-        wrote = λ p. refl;
-      })
-    where
-      -- the model begins each call on lengths as one that counts what waits
-      first_is : (kept : Registry T) (k : LengthOf)
-          → ◌≡◌ {A = Option (Flight T)} (first_of kinds.IndexQueue x.capacity (Queues (length_start k)) kept)
-          (Some ((counts_waiting k size).flight (first_len size) m))
-      first_is kept measures.Len = rw same refl
-      first_is kept measures.IsEmpty = rw same refl
-      first_is kept measures.IsFull = rw same refl
-
-      none_lacks : (k : LengthOf) (roles : Roles) (p : ℕ) → lacks_role {T = T} roles p (length_start k) ≡ false
-      none_lacks measures.Len roles p = refl
-      none_lacks measures.IsEmpty roles p = refl
-      none_lacks measures.IsFull roles p = refl
 
 -- each step of a call on lengths keeps the rule, for any capacity
 pub lens_keep : {T : Type 0} (code : Coding T) (which : LengthOf)

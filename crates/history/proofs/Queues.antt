@@ -3,10 +3,10 @@
 use Rattle.history.proofs.Names.{◌≡◌, ℕ, ◌+◌, ◌*◌, false, Option, Some, None, IfSome, List, [], length, sum_by, fold}
 use Rattle.history.proofs.Names.{refl, sym, ap, subst, ◌∙◌, arith, Event, Start, Queues, Flight}
 use Rattle.history.proofs.Names.{Registry, QueueKind, QueueStart, PushIndex, Pop, Roles, QueueFlight, Values}
-use Rattle.history.proofs.Names.{Party, Coding, first_of, step_of, beside_of, after_of, going_rows, read_in}
+use Rattle.history.proofs.Names.{Coding, first_of, step_of, beside_of, after_of, going_rows, read_in}
 use Rattle.history.proofs.Names.{cells_of, words_of_cell, IsKeptBy, push_effect, pop_effect}
-use Rattle.history.proofs.Names.{party_of, first_row, answer_in, Trace, stands_there}
-use Rattle.history.proofs.Names.{machine_kind, promised_by, free, layout, Val, encoded, Ring, of_indices, of_values, kind_of}
+use Rattle.history.proofs.Names.{first_row, answer_in, Trace, stands_there}
+use Rattle.history.proofs.Names.{machine_kind, promised_by, free, Val, encoded, Ring, of_indices, of_values, kind_of}
 use Rattle.model.specs.declared.event.Item.TheVariants.{Index, Value}
 use Rattle.model.specs.declared.families.Flight.TheVariants as flights
 use Rattle.model.specs.declared.families.Registry.TheVariants as registries
@@ -36,7 +36,7 @@ use Rattle.history.proofs.Calls.{stands, IsStateless}
 use Rattle.history.proofs.Reached.{queue_run}
 use Rattle.model.specs.Promises.Families.{promise_of}
 use Rattle.history.proofs.Paid.{Pays, progress_kept, pays_run}
-use Rattle.history.proofs.Turns.{CallGoesOn, KindLaws, LoneMachines}
+use Rattle.history.proofs.KindLaws.{CallGoesOn, KindLaws, LoneMachines, goes_on_so}
 
 -- who holds the role by the machine's record holds it by the events
 held_there : {T : Type 0} (role : Role) (roles : Roles) (events : List (Event T))
@@ -89,14 +89,7 @@ module _ {T : Type 0} (code : Coding T) (capacity : ℕ) (kd : QueueKind) where
 
   -- a reached queue has four words and those of its cells
   pub sized_so : (t : Trace T) → IsOf t → length t.world.words ≡ 4 + words_of_cell code.size kd * cells_of kd capacity
-  sized_so t run =
-      let is_sound = sound_of t run in
-      let cells : length is_sound.state.core.cells ≡ words_of_cell code.size kd * cells_of kd capacity =
-      is_sound.holds.good.cells
-      ∙ (ap (λ c. (encoded t.world.coding kd).size * cells_of kd c) run.sized
-      ∙ (ap (λ (z : Coding T). (encoded z kd).size * cells_of kd capacity) run.coded ∙ cell_sizes kd code)) in
-      let four : length (layout is_sound.state.roles is_sound.state.core) ≡ 4 + length is_sound.state.core.cells = omega arith in
-      ap length is_sound.fit.words ∙ (four ∙ ap (λ n. 4 + n) cells)
+  sized_so = grind (arith, sound_of, words_of_cell, cells_of, cell_sizes)
 
 -- ---- the laws of bounded queues, of indices or of values
 
@@ -142,17 +135,9 @@ module _ {T : Type 0} (code : Coding T) (capacity : ℕ) (r : Ring) where
       let there = stands_there (family t.world.coding (kind_of r) t.world.capacity) t is_sound p here.x here.since flight here.found here.doing in
       let waits = beside_of t.world.words t.world.kept t.world.latest p in
       let facts_here = facts t.world.coding t.world.words waits t.world.capacity p in
-      let fact = λ (x : Party T) (n : ℕ) (found : party_of p t.world.latest ≡ Some x).
-      (let same : here.x ≡ x = (let both : Some here.x ≡ Some x = sym here.found ∙ found in cc) in
-      subst (λ (st : Start T). StepFacts t.world.coding t.world.words waits p n st flight t.world.kept) (ap (λ (y : Party T). y.start) same)
-      (facts_here n is_sound.state here.x.start flight t.world.kept is_sound.fit.kept there.at))
-      in
-      record {
-        may = (fact here.x 0 here.found).may;
-        own = λ n. effects_own code p flight n;
-        writes = λ x n found. (fact x n found).writes ∙ ap (λ (z : Coding T). queue_effects z p flight n) run.coded;
-        goes = λ x n found. (fact x n found).goes;
-      }
+      let fact = λ (n : ℕ). facts_here n is_sound.state here.x.start flight t.world.kept is_sound.fit.kept there.at in
+      goes_on_so here (fact 0).may (λ n. effects_own code p flight n)
+      (λ n. (fact n).writes ∙ ap (λ (z : Coding T). queue_effects z p flight n) run.coded) (λ n. (fact n).goes)
 
   -- bounded queues keep the laws of a kind: what their steps write, and where they lead
   pub ring_owes : KindLaws code (machine_kind (kind_of r)) capacity ring_words (queue_effects code)

@@ -1,13 +1,12 @@
 -- What a container's recovery has written tells which visits it has made, and lies within its call.
 use Rattle.std.proofs.Common.{arith}
 use Rattle.history.proofs.Names.{◌≡◌, ℕ, Bool, true, false, Option, Some, None, List, [], ◌∷◌, ◌++◌, append_assoc}
-use Rattle.history.proofs.Names.{append-nil, fold, refl, sym, ap, ◌∙◌, fold-append, is_even, locked, by_test, Event}
+use Rattle.history.proofs.Names.{append-nil, fold, refl, sym, ap, ◌∙◌, fold-append, is_even, by_test, Event}
 use Rattle.history.proofs.Names.{FreedOf, Asked, Hidden, Copied, Shown, Start, own_after, Open}
 use Rattle.steps.specs.declared.container.recover.RecoverStage.{RecoverStage}
-use Rattle.steps.specs.declared.container.recover.RecoverStage.TheVariants as recovers
 use Rattle.model.specs.declared.event.Event.TheVariants.{Told, Locked}
 use Rattle.history.specs.Container.{when}
-use Rattle.history.specs.ContainerRecovery.{Came, HasAsked, HasFound, HasFreed, wrote_found, wrote_of, wrote_visits}
+use Rattle.history.specs.ContainerRecovery.{Came, HasAsked, HasFound, wrote_found, wrote_of, wrote_visits}
 use Rattle.history.specs.ContainerRecovery.{with_last, told, freed, hides, came_locked, told_yet}
 
 -- ---- what a recovery wrote tells its visits
@@ -66,14 +65,7 @@ module _ {T : Type 0} (p owner : ℕ) where
 
   -- what is written of a visit lies within the call
   inside_of : (index : ℕ) (came : Came T) → IsInside (wrote_of p owner index came)
-  inside_of index (HasAsked value) =
-      inside_both (Copied p index value ∷ []) (Asked p index owner ∷ []) (λ start ws. refl) (λ start ws. refl)
-  inside_of index (HasFound found) = inside_found index found
-  inside_of index (HasFreed found hid locked) =
-      inside_both (wrote_found p owner index found) (FreedOf p index owner ∷ (when hid (Hidden p index) ++ when locked (Locked p))) (inside_found index found)
-      (inside_both (FreedOf p index owner ∷ []) (when hid (Hidden p index) ++ when locked (Locked p)) (λ start ws. refl)
-      (inside_both (when hid (Hidden p index)) (when locked (Locked p)) (inside_when hid (Hidden p index) (λ start ws. refl))
-      (inside_when locked (Locked p) (λ start ws. refl))))
+  inside_of = grind (arith, inside_both, inside_found, inside_when, append_assoc)
 
   -- what is written of all visits lies within the call
   pub inside_visits : (visits : List (ℕ × Came T)) → IsInside (wrote_visits p owner visits)
@@ -83,16 +75,4 @@ module _ {T : Type 0} (p owner : ℕ) where
 
   -- the answer yes that a visit does not tell yet lies within the call
   pub inside_yet : (stage : RecoverStage) → IsInside (told_yet p owner stage)
-  inside_yet recovers.LoadsCounter = inside_none
-  inside_yet (recovers.LoadsCell index) = inside_none
-  inside_yet (recovers.LoadsCount index) = inside_none
-  inside_yet (recovers.LoadsWord index count at) = inside_none
-  inside_yet (recovers.ChecksCount index count) = inside_none
-  inside_yet (recovers.Asks index count) = inside_none
-  inside_yet (recovers.EmptiesCell index count) =
-      by_test IsInside (is_even count) [] (Told p index owner ∷ []) (λ t. inside_none) (λ t start ws. refl)
-  inside_yet (recovers.Hides index count) = inside_none
-  inside_yet (recovers.Raises index raise) = inside_none
-  inside_yet (recovers.Locks index lock) = inside_none
-  inside_yet recovers.LoadsCounterAgain = inside_none
-  inside_yet (recovers.AddsChange state) = inside_none
+  inside_yet = grind (arith, inside_none, by_test, is_even, append-nil)

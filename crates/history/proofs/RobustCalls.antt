@@ -29,6 +29,7 @@ use Rattle.model.specs.Families.Indices.Robust.Calls.{acquire_answer, release_an
 use Rattle.history.specs.declared.view.View.{View}
 use Rattle.history.specs.Robust.{AcquireIn, ReleaseIn, filled_at, AcquireWrote, takes_owned, freed_at, ReleaseWrote, gives_owned, counts_owned, looks_owned}
 use Rattle.history.specs.Stages.{At}
+use Rattle.history.proofs.Beginning.{at_begin}
 use Rattle.history.proofs.CallsIn.{AsksFor, Driven, IsCallBy, KeepsEnds}
 use Rattle.history.proofs.Drives.{goes, keeps_to_end}
 use Rattle.history.proofs.RobustParts.{count_found, raise_asks, count_asks, lock_asks, count_on, CountOn}
@@ -83,17 +84,8 @@ module _ {T : Type 0} (code : Coding T) (owner : ℕ) where
       → At code kinds.Robust (takes_owned owner) v v (first_acquire v.capacity) m
   acquire_first v m idle alone any fits =
       let named : nat_lt owner empty ≡ true = grind (arith, nat_tests) in
-      inl (record {
-        is = refl;
-        idle = idle;
-        fresh = alone;
-        standing = (refl, tt);
-        some = any;
-        first = rw named refl;
-        starts = robust_starts (Acquire owner) refl (λ o p h. h) (λ kept. rw named refl)
-            (λ dead none. rw (none owner) refl);
-        wrote = λ p new. refl;
-      })
+      at_begin idle alone any (refl, tt) (rw named refl)
+      (robust_starts (Acquire owner) refl (λ o p h. h) (λ kept. rw named refl) (λ dead none. rw (none owner) refl)) (λ p new. refl)
 
 -- ---- release
 
@@ -150,17 +142,9 @@ module _ {T : Type 0} (code : Coding T) (given : GiveBack) where
   release_first v m idle alone any low fits =
       let named : nat_lt given.owner empty ≡ true = grind (arith, nat_tests) in
       let past : nat_le v.capacity given.index ≡ false = grind (arith, nat_tests) in
-      inl (record {
-        is = refl;
-        idle = idle;
-        fresh = alone;
-        standing = (refl, low, tt);
-        some = any;
-        first = rw named refl;
-        starts = robust_starts (Release given.index given.owner given.mode) refl (λ o p h. h)
-            (λ kept. rw named refl) (λ dead none. rw (past, none given.owner) refl);
-        wrote = λ p new. refl;
-      })
+      at_begin idle alone any (refl, low, tt) (rw named refl)
+      (robust_starts (Release given.index given.owner given.mode) refl (λ o p h. h) (λ kept. rw named refl)
+      (λ dead none. rw (past, none given.owner) refl)) (λ p new. refl)
 
 -- ---- looks
 

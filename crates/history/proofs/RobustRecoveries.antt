@@ -2,7 +2,7 @@
 use Rattle.history.proofs.Names.{◌≡◌, inl, inr, ℕ, ◌+◌, ◌<◌, ◌≤◌, ◌==◌, Bool, true, false, Option, Some, None}
 use Rattle.history.proofs.Names.{List, [], ◌∷◌, ◌++◌, append_assoc, append-nil, refl, sym, ap, subst, ◌∙◌, arith}
 use Rattle.history.proofs.Names.{nat_tests, empty, locked, raise_after, lock_after, by_test}
-use Rattle.history.proofs.Names.{went_on, Ask, After, GoOn, Want, ReleaseMode, LockIfLastIndex, Default, ReleaseState}
+use Rattle.history.proofs.Names.{went_on, Ask, After, GoOn, ReleaseMode, LockIfLastIndex, Default, ReleaseState}
 use Rattle.history.proofs.Names.{Lock, Raise, Answer, Event, Begun, FreedOf, Flight, Coding}
 use Rattle.history.proofs.Names.{is_question, as_it_is, as_call, number_of, raise_asks_none, lock_asks_none, answered}
 use Rattle.history.proofs.Names.{Owes, NextKnown, ToldOf}
@@ -27,7 +27,7 @@ use Rattle.model.specs.Families.Indices.Robust.Steps.{recover_effects}
 use Rattle.history.specs.declared.view.View.{View}
 use Rattle.history.specs.History.{IsMachine}
 use Rattle.history.specs.Robust.{RecoverIn, Came, HasAsked, WasTold, HasFreed, HasLocked, Visit, visit, AreVisits}
-use Rattle.history.specs.Robust.{came_to, HasCome, VisitsAt, visits_locked, visits_taken, visits_after, wrote_by}
+use Rattle.history.specs.Robust.{came_to, HasCome, VisitsAt, visits_taken, visits_after, wrote_by}
 use Rattle.history.specs.Robust.{wrote_now, recovers_owned}
 use Rattle.history.specs.Stages.{opened, IsFirst, IsUnderWay, Ends, AtAsked}
 use Rattle.history.proofs.CallsIn.{AsksFor, Driven, KeepsSo, each_tells, last_tells}
@@ -36,6 +36,7 @@ use Rattle.history.proofs.Drives.{goes, acts_alone, lone_machines}
 use Rattle.history.proofs.RobustParts.{LockOn, lock_on}
 use Rattle.history.proofs.RobustVisits.{same_before, none_yet, wider, one_more, came_past, comes_on, wrote_last, wrote_on, same_visits}
 use Rattle.history.proofs.Robusts.{robust_effects, cells_and_counter, robust_starts, robust_machines}
+use Rattle.history.proofs.Telling.{owes_more}
 use Rattle.laws_robust.proofs.Cases.{by_bool}
 
 -- ---- what a recovery asks for
@@ -408,7 +409,8 @@ module _ {T : Type 0} (code : Coding T) (mode : ReleaseMode) where
       → Owes (λ (z : View T). z.asked) (IsMachine code kinds.Robust key) words slots id (Tells c) (recover_want c) (v, [])
   recover_tells base v c m key words slots id wide known idle recovery_stands =
       let keeps_here = recover_keeps base v c m key words slots id in
-      go (recover_want c) (keeps_here wide known recovery_stands)
+      owes_more (record { key = key; words = words; slots = slots; id = id; v = v; told = ToldOfVisits c m }) (Tells c) (recover_want c)
+      (keeps_here wide known recovery_stands) all
     where
       -- what a step tells of one list of visits it tells of each, since there is only one
       all : (n : ℕ) (w : View T) → ToldOfVisits c m v n w → Tells c v n w
@@ -419,15 +421,3 @@ module _ {T : Type 0} (code : Coding T) (mode : ReleaseMode) where
             subst (λ vs. NextKnown (λ (z : View T). z.capacity) RecoveryStands RecoveryEnded other (after c n) (visits_after c vs n) w) same
             (told_so.1 other (subst (RecoveryStands other v c) (sym same) there))),
       )
-
-      -- whatever the recovery wants next, a step of which `ToldOfVisits` holds is one of which `Tells` holds
-      go : (w : Want (Unit {0})) → Owes (λ (z : View T). z.asked) (IsMachine code kinds.Robust key) words slots id (ToldOfVisits c m) w (v, [])
-          → Owes (λ (z : View T). z.asked) (IsMachine code kinds.Robust key) words slots id (Tells c) w (v, [])
-      go (wants.Ask a) owes = (
-        owes.0,
-        λ s r long there small. (
-            let (w, act, valid, holds, (told, counts, carried)) = owes.1 s r long there small in
-            (w, act, valid, holds, (all _ w told, counts, carried))),
-      )
-      go (wants.Question q) owes = all 0 v owes
-      go wants.Nothing owes = all 0 v owes

@@ -1,15 +1,13 @@
 -- A pass that has a role, by what it made, has a party that holds the role, by the events (`role_by`).
 use Rattle.std.proofs.Common.{arith}
-use Rattle.history.proofs.Names.{◌≡◌, ◌≤◌, ℕ, ◌+◌, true, Option, Some, None, is_none, List, refl, sym, sum_by, fold}
+use Rattle.history.proofs.Names.{◌≡◌, ℕ, true, Option, Some, None, is_none, List, refl, sym, sum_by, fold}
 use Rattle.history.proofs.Names.{Answer, Truth, Event}
 use Rattle.history.proofs.Names.{Each}
 use Rattle.steps.specs.declared.queues.roles.Role.{Role}
 use Rattle.model.specs.Families.Queues.Roles.{GrantsRight}
-use Rattle.history.specs.declared.view.View.{View}
-use Rattle.history.specs.History.{IsOfParties}
 use Rattle.history.specs.Known.{owned}
 use Rattle.history.specs.Roles.{takes, gives, role_after, HasRole}
-use Rattle.history.proofs.Ledger.{Moves, held_by_one, at_most}
+use Rattle.history.proofs.Ledger.{Moves, held_by_one}
 
 -- an option of which `is_none` holds is none
 nobody : (o : Option ℕ) → is_none o ≡ true → o ≡ None
@@ -37,10 +35,3 @@ module _ {T : Type 0} (owner : ℕ → ℕ) (j : ℕ) where
       → ((f : Event T → ℕ) → sum_by f made ≡ sum_by (owned owner j f) all) → HasRole role made
       → (p : ℕ) × (owner p ≡ j) × (fold (role_after role) None all ≡ Some p)
   role_by role all made each sums has = held_by_one (takes role) (gives role) (role_after role) owner j made (all_move role all each) sums has
-
--- a pass has given back each acquire of the role that it made, or has the role once
-pub role_once : {T : Type 0} (role : Role) (v : View T) → Each GrantsRight v.seen → IsOfParties v
-    → (sum_by (gives role) v.made ≤ sum_by (takes role) v.made) × (sum_by (takes role) v.made ≤ sum_by (gives role) v.made + 1)
-role_once role v each of_parties =
-    at_most (takes role) (gives role) (role_after role) of_parties.owner of_parties.seat v.seen v.made
-    (all_move of_parties.owner of_parties.seat role v.seen each) of_parties.sums

@@ -2,9 +2,9 @@
 -- each step leads, and how a call begins.
 use Rattle.history.proofs.Names.{◌≡◌, ℕ, ◌+◌, ◌-◌, ◌^◌, ◌<◌, ◌≤◌, nat_lt, false, Option, Some, None, IfSome, List, [], ◌∷◌}
 use Rattle.history.proofs.Names.{length, replicate, refl, sym, ap, subst, ◌∙◌, arith, sum_by, AllByRecursion}
-use Rattle.history.proofs.Names.{nat_tests, elements, Event, Start, Flight, Registry, BitsStart, BitsFlight, Party}
+use Rattle.history.proofs.Names.{nat_tests, elements, Event, Start, Flight, Registry, BitsStart, BitsFlight}
 use Rattle.history.proofs.Names.{Next, Coding, one_word, opening_of, first_of, begin_rows, step_of, beside_of}
-use Rattle.history.proofs.Names.{after_of, goes_of, going_rows, IsEffectOf, whose, span_of, first_row, step_in}
+use Rattle.history.proofs.Names.{after_of, goes_of, going_rows, IsEffectOf, whose, span_of, first_row}
 use Rattle.history.proofs.Names.{IsReachedOn, Trace, stands_there, wrote_in, counting_set, counts_laws, bit_set}
 use Rattle.history.proofs.Names.{bits_laws}
 use Rattle.atomic_table.specs.Table.{opening}
@@ -27,7 +27,7 @@ use Rattle.history.proofs.Calls.{stands, IsStateless}
 use Rattle.history.proofs.Reached.{rows_free}
 use Rattle.history.proofs.Starting.{starts_by_last}
 use Rattle.history.proofs.Paid.{Pays, progress_within, pays_run}
-use Rattle.history.proofs.Turns.{CallGoesOn, KindLaws}
+use Rattle.history.proofs.KindLaws.{CallGoesOn, KindLaws, goes_on_so}
 use Rattle.history.proofs.Passes.{opens, one_more}
 
 module _ {T : Type 0} where
@@ -98,22 +98,12 @@ module _ {T : Type 0} {K : SetOutline T} (laws : (code : Coding T) (c : ℕ) →
       let there = stands_there (family K t.world.coding t.world.capacity) t is_sound p here.x here.since flight here.found here.doing in
       let wrote : List (Event T) = wrote_in (span_of p is_sound.state.events) in
       let mine : FlightAt (K.At t.world.capacity wrote) here.x.start flight = there.at in
-      record {
-        -- nothing refuses the step, and its effects are of this party
-        may = no_rows t (K.At t.world.capacity wrote) here.x.start flight mine;
-        own = λ n. own_there t.world.capacity p n wrote here.x.start flight mine;
-        -- its effects are those of the call, and it leads where the call's flight says
-        writes = λ x n found. (
-            let same : here.x ≡ x = (let both : Some here.x ≡ Some x = sym here.found ∙ found in cc) in
-            subst (λ (z : Party T). (step_in t.world p z flight n).wrote ≡ set_effects p flight n) same
-            (writes_there t p n (K.At t.world.capacity wrote) t.world.kept here.x.start flight (is_sound.fit.kept) mine));
-        goes = λ x n found. (
-            let same : here.x ≡ x = (let both : Some here.x ≡ Some x = sym here.found ∙ found in cc) in
-            let orders = sets.orders K laws t.world.coding t.world.capacity in
-            subst (λ (z : Party T). (step_in t.world p z flight n).after ≡ after_of t.world.coding flight n) same
-            (orders.after t p here.x flight here.since n (sound set) here.found here.doing
-            ∙ as_told t.world.coding p n (K.At t.world.capacity wrote) t.world.kept here.x.start flight mine));
-      }
+      let orders = sets.orders K laws t.world.coding t.world.capacity in
+      goes_on_so here (no_rows t (K.At t.world.capacity wrote) here.x.start flight mine)
+      (λ n. own_there t.world.capacity p n wrote here.x.start flight mine)
+      (λ n. writes_there t p n (K.At t.world.capacity wrote) t.world.kept here.x.start flight is_sound.fit.kept mine)
+      (λ n. orders.after t p here.x flight here.since n is_sound here.found here.doing
+      ∙ as_told t.world.coding p n (K.At t.world.capacity wrote) t.world.kept here.x.start flight mine)
 
   -- sets keep the laws of a kind, where nothing is late for a call
   pub sets_owe : ((going : Option (Start T × Flight T)) (late : List (Event T)) → IsLate K.kind going late → late ≡ [])

@@ -1,6 +1,6 @@
 -- A pass whose last call rests at a question takes a step: the machine is handed the answer first.
 use Rattle.history.proofs.Names.{true, false, ◌≡◌, inl, inr, ⊎_elim, ℕ, ◌+◌, ◌<◌, ◌≤◌, Option, Some, None, IfSome, List}
-use Rattle.history.proofs.Names.{[], ◌∷◌, ◌++◌, slice_index, slice_set, set-set, refl, sym, ap, subst, ◌∙◌, arith}
+use Rattle.history.proofs.Names.{[], ◌∷◌, ◌++◌, slice_index, slice_set, refl, sym, ap, subst, ◌∙◌, arith}
 use Rattle.history.proofs.Names.{sum_by, sum_by-append, Allows, set_here, written, Ask, After, Want, Answer}
 use Rattle.history.proofs.Names.{Event, Finished, Start, Flight, Kind, Decide, Coding, want_of, goes_of, is_question}
 use Rattle.history.proofs.Names.{after_turn, events_of, number_of, World, Trace, Owes, OwesAsk, NextKnown, KeepsRule}
@@ -10,7 +10,6 @@ use lib.ListN.{get_elem?}
 use Rattle.atomic_table.specs.Table.{State}
 use Rattle.atomic_table.specs.Table as table
 use Rattle.steps.specs.declared.ask.After.TheVariants.{Done}
-use Rattle.steps.specs.declared.ask.Want.TheVariants as wants
 use Rattle.threaded.specs.Driver.{Told}
 use Rattle.history.specs.declared.view.View.{View}
 use Rattle.history.specs.Known.{events_by}
@@ -27,6 +26,7 @@ use Rattle.history.proofs.Passes.{set_same}
 use Rattle.history.proofs.OneRun.{continues_all}
 use Rattle.history.proofs.Steps.{view_after, settle_so}
 use Rattle.history.proofs.CallsIn.{AsksFor, no_rest, same_rest, none_after}
+use Rattle.history.proofs.Telling.{owes_more, holds_put}
 
 -- a number is at most one more
 no_more : (n : ℕ) → n ≤ n + 1
@@ -182,19 +182,7 @@ module _ {T : Type 0} (hearing : Hearing T) where
 
     -- a pass with a share has seen all events of its own party
     seen_own : events_by h.party here.seen.rest ≡ []
-    seen_own = ⊎_elim of_seen of_other (here.own h.some h.party mine)
-      where
-        -- where its own view has them, none of them is among the events that it has not seen
-        of_seen : events_by h.party v.seen ++ events_by h.party here.late ≡ events_by h.party r.trace.events → events_by h.party here.seen.rest ≡ []
-        of_seen lists_are =
-            same_rest (events_by h.party v.seen) (events_by h.party here.seen.rest) []
-            (sym (by_more h.party v.seen here.seen.rest)
-            ∙ (sym (ap (events_by h.party) here.seen.is) ∙ (sym lists_are ∙ ap (λ zs. events_by h.party v.seen ++ events_by h.party zs) none)))
-
-        -- the other case, of a pass that was taken in, has no call under way, but this call rests
-        of_other : (call_in r.trace.world h.party ≡ None) × (events_by h.party v.other ≡ events_by h.party r.trace.events)
-            → events_by h.party here.seen.rest ≡ []
-        of_other x = (let no : ◌≡◌ {A = Option (Start T × Flight T)} None (Some (h.start, h.flight)) = sym x.0 ∙ there in absurd (cc))
+    seen_own = grind (arith, here, mine, same_rest, by_more, none, there)
 
     -- a pass with the whole share has seen all events
     seen_all : IsAll v.share → here.seen.rest ≡ []
@@ -302,26 +290,7 @@ module _ {T : Type 0} (hearing : Hearing T) where
     -- what a step tells of a call that is under way already, counted from the view from which it began, it tells
     -- where the last call may rest: the call does not wait to begin
     told_begun : (base₀ v : View T) (c : C) (m : M) → Stage base₀ v c m → (n : ℕ) (w : View T) → ToldStage c m v n w → ToldRested c m v n w
-    told_begun base₀ v c m stage n w told = (told.0, λ base rested. go base rested)
-      where
-        go : (base : View T) → StandsRested base v c m → NextKnown (λ (z : View T). z.capacity) StandsRested OverRested base (after c n) (kept c m n) w
-        go base (inl begun) = onward base begun.from begun.settled (after c n) (kept c m n) w (told.1 begun.from begun.stage)
-        go base (inr waits) =
-            let resting = subst (λ z. IsResting code z) (sym waits.is) waits.resting in
-            absurd (apart base₀ v c m resting (subst (λ (z : View T). Begins z c m) (sym waits.is) waits.first) stage)
-
-    -- so such a call keeps the rule by its own step
-    begun_keeps : (base₀ v : View T) (c : C) (m : M) (key words slots id : ℕ) → Stage base₀ v c m → (w : Want (Unit {0}))
-        → Owes (λ (z : View T). z.asked) (IsMachine code kind key) words slots id (ToldStage c m) w (v, [])
-        → Owes (λ (z : View T). z.asked) (IsMachine code kind key) words slots id (ToldRested c m) w (v, [])
-    begun_keeps base₀ v c m key words slots id stage (wants.Ask a) owes = (
-      owes.0,
-      λ s r long at small. (
-          let (w, act, valid, holds, (told, counts, carried)) = owes.1 s r long at small in
-          (w, act, valid, holds, (told_begun base₀ v c m stage _ w told, counts, carried))),
-    )
-    begun_keeps base₀ v c m key words slots id stage (wants.Question q) owes = told_begun base₀ v c m stage 0 v owes
-    begun_keeps base₀ v c m key words slots id stage wants.Nothing owes = told_begun base₀ v c m stage 0 v owes
+    told_begun = grind (arith, onward)
 
     -- who has still to begin
     module _ {v : View T} {c : C} {m : M} (key words slots id : ℕ) (wide : words ≡ size_of key + 1) (known : v.capacity ≡ key) (h : IsResting code v)
@@ -380,13 +349,7 @@ module _ {T : Type 0} (hearing : Hearing T) where
               w,
               act,
               valid,
-              subst (λ vs. IsMachine code kind key
-                  (record {
-                    words = slice_set s.words ask.word (written ask.op (slice_index s.words ask.word));
-                    homes = table.homes_after s.homes [] act;
-                    views = vs;
-                  }))
-                  (set-set s.views id (settled rests) w) holds,
+              holds_put (IsMachine code kind key) s id (settled rests) w ask.word (written ask.op (slice_index s.words ask.word)) act holds,
               (told_first rests _ w told, counts, carried),
             )),
       )
@@ -395,8 +358,8 @@ module _ {T : Type 0} (hearing : Hearing T) where
     pub keeps_waiting_where : KeepsWhere code kind size_of may StandsRested OverRested want after kept
     keeps_waiting_where base₀ v c m key words slots id ok wide known (inl begun) =
         let keeps_there = keeps begun.from v c m key words slots id in
-        let stays_kept = begun_keeps begun.from v c m key words slots id in
-        stays_kept begun.stage (want c) (keeps_there ok wide known begun.stage)
+        owes_more (record { key = key; words = words; slots = slots; id = id; v = v; told = ToldStage c m }) (ToldRested c m) (want c)
+        (keeps_there ok wide known begun.stage) (told_begun begun.from v c m begun.stage)
     keeps_waiting_where base₀ v c m key words slots id ok wide known (inr waits) =
         let resting = subst (λ z. IsResting code z) (sym waits.is) waits.resting in
         let begins = subst (λ (z : View T). Begins z c m) (sym waits.is) waits.first in

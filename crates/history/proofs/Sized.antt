@@ -1,13 +1,13 @@
 -- A call whose answer names the capacity is one call for each capacity; together they keep the rule as one
 -- family of calls (`keeps_sized`).
 use Rattle.std.proofs.Common.{arith}
-use Rattle.history.proofs.Names.{◌≡◌, ℕ, ◌+◌, [], After, Want, Kind, Coding}
-use Rattle.history.proofs.Names.{Owes, NextKnown, KeepsRule}
-use Rattle.steps.specs.declared.ask.Want.TheVariants as wants
+use Rattle.history.proofs.Names.{◌≡◌, ℕ, ◌+◌, After, Want, Kind, Coding}
+use Rattle.history.proofs.Names.{NextKnown, KeepsRule}
 use Rattle.threaded.specs.Driver.{Told}
 use Rattle.history.specs.declared.view.View.{View}
 use Rattle.history.specs.History.{IsMachine}
 use Rattle.history.specs.Stages.{Calling, At, Ends}
+use Rattle.history.proofs.Telling.{owes_more}
 
 -- a call of the driver is one call of the model for each capacity of a structure
 module _ {T C M E : Type 0} (code : Coding T) (kind : Kind) (size_of : ℕ → ℕ) (want : C → Want (Unit {0}))
@@ -36,6 +36,10 @@ module _ {T C M E : Type 0} (code : Coding T) (kind : Kind) (size_of : ℕ → �
       → Told (λ (z : View T). z.capacity) AtSized EndsSized after kept c m x n w
   told_sized = grind (arith, one_size, sized_next)
 
+  -- what a step of the call for one capacity tells
+  abbrev ToldOne : ℕ → C → M → View T → ℕ → View T → Type 0
+  ToldOne n c m = Told (λ (z : View T). z.capacity) (At code kind (call n)) (Ends code kind (call n)) after kept c m
+
   -- calls that keep the rule for each capacity keep it as one family
   pub keeps_sized : ((n : ℕ)
       → KeepsRule (λ (z : View T). z.asked) (λ (z : View T). z.capacity) (At code kind (call n)) (Ends code kind (call n))
@@ -44,24 +48,6 @@ module _ {T C M E : Type 0} (code : Coding T) (kind : Kind) (size_of : ℕ → �
       (λ key. IsMachine code kind key) want after kept
   keeps_sized keeps_for base v c m key words slots id wide known at₀ =
       let keeps_here = keeps_for base.capacity base v c m key words slots id in
-      go (want c) (keeps_here wide known at₀)
-    where
-      -- the capacity stays
-      same : v.capacity ≡ base.capacity
-      same = one_size base.capacity base v c m at₀
-
-      -- whatever the call wants, what it owes for the capacity it owes as one of the family
-      go : (w : Want (Unit {0}))
-          → Owes (λ (z : View T). z.asked) (IsMachine code kind key) words slots id
-          (Told (λ (z : View T). z.capacity) (At code kind (call base.capacity)) (Ends code kind (call base.capacity)) after kept c m)
-          w (v, [])
-          → Owes (λ (z : View T). z.asked) (IsMachine code kind key) words slots id
-          (Told (λ (z : View T). z.capacity) AtSized EndsSized after kept c m) w (v, [])
-      go (wants.Ask a) owes = (
-        owes.0,
-        λ s r long at small. (
-            let (w, act, valid, holds, (told, counts, carried)) = owes.1 s r long at small in
-            (w, act, valid, holds, (told_sized base c m v _ w same told, counts, carried))),
-      )
-      go (wants.Question q) h = told_sized base c m v 0 v same h
-      go wants.Nothing h = told_sized base c m v 0 v same h
+      owes_more (record { key = key; words = words; slots = slots; id = id; v = v; told = ToldOne base.capacity c m })
+      (Told (λ (z : View T). z.capacity) AtSized EndsSized after kept c m) (want c) (keeps_here wide known at₀)
+      (λ n w. told_sized base c m v n w (one_size base.capacity base v c m at₀))

@@ -2,7 +2,7 @@
 -- (`Between`).
 use Rattle.history.proofs.Names.{false, ◌≡◌, ◌≢◌, ℕ, ◌+◌, ◌<◌, ◌≤◌, Option, Some, None, IfSome, List, [], ◌∷◌}
 use Rattle.history.proofs.Names.{◌++◌, length, slice_index, refl, sym, ap, subst, ◌∙◌, arith, sum_by}
-use Rattle.history.proofs.Names.{sum_by-append, written, Ask, After, Want, Answer, Event, Begun, Start, Flight}
+use Rattle.history.proofs.Names.{sum_by-append, Ask, After, Want, Answer, Event, Begun, Start, Flight}
 use Rattle.history.proofs.Names.{Kind, Turn, Begin, Next, Coding, first_of, kept_after_begin}
 use Rattle.history.proofs.Names.{want_of, goes_of, ask_of, is_look_of, party_of, ask_in}
 use Rattle.history.proofs.Names.{call_refusal, first_row, answer_in, after_turn, events_of, words_after}
@@ -49,10 +49,6 @@ module _ {T : Type 0} where
   pub ending_of_own : (p : ℕ) (start : Start T) (o : Option (Answer T)) → AreOf p (ending_of p start o)
   ending_of_own p start None = tt
   ending_of_own p start (Some answer) = (refl, tt)
-
-  pub both_own : (p : ℕ) (xs ys : List (Event T)) → AreOf p xs → AreOf p ys → AreOf p (xs ++ ys)
-  both_own p [] ys first_are_of second_are_of = second_are_of
-  both_own p (x ∷ xs) ys first_are_of second_are_of = (first_are_of.0, both_own p xs ys first_are_of.1 second_are_of)
 
   module _ (code : Coding T) (kind : Kind) (capacity : ℕ) where
     -- The machine u has the table's words and every other seat fits it. The seat `id` fits it too, but for
@@ -342,14 +338,7 @@ module _ {T : Type 0} (going : Going T) where
   asked_of = grind arith
 
   pub found_old : old_of u.world.words (ask_of (want_of u.world.coding flight)) ≡ at_ask s.words ask
-  found_old = ap (old_of u.world.words) asked_of ∙ go ask low
-    where
-      -- whether the call asks for a word or for none, it is handed what the table has there
-      go : (o : Option Ask) → IfSome o (λ a. a.word < words) → old_of u.world.words o ≡ at_ask s.words o
-      go None below = refl
-      go (Some a) below =
-          sym (ap (λ ws. slice_index ws a.word) b.words
-          ∙ get_left u.world.words (0 ∷ []) a.word (omega (arith, laws.size u b.run)))
+  found_old = grind (arith, old_of, asked_of, slice_index, get_left)
 
   abbrev found : ℕ
   found = at_ask s.words ask
@@ -403,14 +392,7 @@ module _ {T : Type 0} (going : Going T) where
 
   -- after the step the table's words are those of the machine
   words_then : words_after s.words ask ≡ (after_turn u (Next p)).world.words ++ 0 ∷ []
-  words_then = go ask low asked
-    where
-      -- whether the call asks for a word or for none, the table's words after the step are
-      -- those of the machine
-      go : (o : Option Ask) → IfSome o (λ a. a.word < words) → ask_in u.world (Next p) ≡ o
-          → words_after s.words o ≡ (after_turn u (Next p)).world.words ++ 0 ∷ []
-      go None below ask_is = grind (arith, writes_one_word)
-      go (Some a) below ask_is = grind (arith, length, get_left, after_turn, written, writes_one_word, set_left)
+  words_then = grind (arith, asked, ask_in, words_after, after_turn, writes_one_word, get_left, set_left)
 
   -- the step is of no push that finds the last position, and of no store that finds the last version
   pub fresh_now : IsFreshTurn u (Next p)

@@ -1,10 +1,10 @@
 -- The calls on a single value are calls of the model, each step of which keeps the rule of its table: those
 -- on the producer's role, a store, a load, and a look at the version.
-use Rattle.history.proofs.Names.{inl, ◌≡◌, nat_lt, ℕ, ◌+◌, ◌^◌, ◌*◌, ◌<◌, ◌==◌, cond, Bool, true, false}
+use Rattle.history.proofs.Names.{inl, ◌≡◌, ℕ, ◌+◌, ◌^◌, ◌*◌, ◌<◌, Bool, true, false}
 use Rattle.history.proofs.Names.{Option, Some, None, List, [], ◌∷◌, slice_set, slice_index, refl, sym, ap}
-use Rattle.history.proofs.Names.{arith, written, Ask, After, GoOn, before_version, first_store}
-use Rattle.history.proofs.Names.{store_asks, store_want, store_takes, store_after, first_load, at_load}
-use Rattle.history.proofs.Names.{load_asks, load_begins, load_want, load_takes, load_after, load_keeps, load_kept}
+use Rattle.history.proofs.Names.{arith, written, Ask, GoOn, before_version, first_store}
+use Rattle.history.proofs.Names.{store_asks, store_want, store_takes, store_after, first_load}
+use Rattle.history.proofs.Names.{load_asks, load_want, load_takes, load_after, load_keeps, load_kept}
 use Rattle.history.proofs.Names.{Truth, Acted, Flight, Coding, IsCoding, after_of, producer_word, kept_at, answered}
 use Rattle.history.proofs.Names.{IsFreshStore}
 use Rattle.steps.specs.declared.ask.Op.TheVariants as ops
@@ -38,13 +38,13 @@ use Rattle.history.specs.Stages.{Calling, At}
 use Rattle.history.specs.Value.{HasProducer, acquires_producer, releases_producer, looks_at_producer, looks_at_version}
 use Rattle.history.specs.Value.{store_skips, StoreStands}
 use Rattle.history.specs.Value.{stores_value, LoadStands, value_of_room, loads_value}
+use Rattle.history.proofs.Beginning.{at_begin}
 use Rattle.history.proofs.Drives.{goes, keeps, keeps_to_end}
 use Rattle.history.proofs.QueueCalls.{holds_it}
 use Rattle.history.proofs.Rooms.{room_set, room_read}
 use Rattle.history.proofs.Values.{value_effects, plain_starts, producer_starts}
 use Rattle.history.proofs.CallsIn.{Driven, IsCallBy, KeepsEnds, KeepsOver}
 use Rattle.history.proofs.Values.{value_machines}
-use Rattle.laws_robust.proofs.Cases.{by_bool}
 
 module _ {T : Type 0} (code : Coding T) where
   abbrev size_of : ℕ → ℕ
@@ -89,17 +89,8 @@ module _ {T : Type 0} (code : Coding T) where
   pub release_first : (x : View T) (m : Unit {0}) → x.going ≡ None → x.other ≡ [] → 0 < x.share.part
       → HasProducer x.made → At code kinds.Atomic releases_producer x x (record { word = producer_word }) m
   release_first x m idle alone any has =
-      inl (record {
-        is = refl;
-        idle = idle;
-        fresh = alone;
-        standing = refl;
-        some = any;
-        first = refl;
-        starts =
-            producer_starts ReleaseProducer refl (λ kept. refl) (λ o p. tt) (λ holder p is. holds_it holder p is) has;
-        wrote = λ p. refl;
-      })
+      at_begin idle alone any refl refl
+      (producer_starts ReleaseProducer refl (λ kept. refl) (λ o p. tt) (λ holder p is. holds_it holder p is) has) (λ p. refl)
 
   -- ---- the looks, of which each is one load
 
@@ -212,16 +203,8 @@ module _ {T : Type 0} (code : Coding T) (law : IsCoding code) (value : T) where
   pub store_first : (x : View T) (m : Unit {0}) → x.going ≡ None → x.other ≡ [] → 0 < x.share.part
       → HasProducer x.made → At code kinds.Atomic storing x x first_store m
   store_first x m idle alone any has =
-      inl (record {
-        is = refl;
-        idle = idle;
-        fresh = alone;
-        standing = tt;
-        some = any;
-        first = refl;
-        starts = producer_starts (Store value) refl (λ kept. refl) (λ o p. tt) (λ holder p is. holds_it holder p is) has;
-        wrote = λ p. refl;
-      })
+      at_begin idle alone any tt refl
+      (producer_starts (Store value) refl (λ kept. refl) (λ o p. tt) (λ holder p is. holds_it holder p is) has) (λ p. refl)
 
 -- ---- loads
 
@@ -250,15 +233,7 @@ module _ {T R : Type 0} (code : Coding T) (law : IsCoding code) (words_in : R �
   load_same_after : (c : Loading T R) (m : R) (n : ℕ) (stage : LoadStage) → LoadStands code.size stage
       → after_of code (flight_at stage (room_of code.size (words_in m))) n
       ≡ goes loading (load_takes code.size c stage n) (load_keeps with_word m stage n)
-  load_same_after c m n loads.LoadsVersion load_stands = refl
-  load_same_after c m n (loads.LoadsCell version cell at) load_stands =
-      by_bool (nat_lt (at + 1) code.size)
-      (λ t. rw t (ap (λ r. GoOn (flight_at (loads.LoadsCell version cell (at + 1)) r)) (put_there m at n load_stands.1)))
-      (λ t. rw t (ap (λ r. GoOn (flight_at (loads.ChecksVersion version) r)) (put_there m at n load_stands.1)))
-  load_same_after c m n (loads.ChecksVersion version) load_stands =
-      by_bool (n == version)
-      (λ t. rw t (ap (λ x. Done (answers.Loaded x)) (room_read code (words_in m))))
-      (λ t. rw t refl)
+  load_same_after = grind (arith, put_there, room_read)
 
   -- a step with which a load goes on writes nothing
   load_quiet : (p : ℕ) (c d : Loading T R) (m : R) (n : ℕ) → load_after code.size c n ≡ GoOn d
@@ -269,22 +244,7 @@ module _ {T R : Type 0} (code : Coding T) (law : IsCoding code) (words_in : R �
   load_acts : (p : ℕ) (c : Loading T R) (m : R) (n : ℕ) (stage : LoadStage) → load_takes code.size c stage n ≡ Done tt
       → value_effects code p (flight_at stage (room_of code.size (words_in m))) n
       ≡ Acted p (Atomic Load) (answers.Loaded (value_of_room code words_in (load_keeps with_word m stage n))) ∷ []
-  load_acts p c m n loads.LoadsVersion leads = absurd (cc)
-  load_acts p c m n (loads.LoadsCell version cell at) e = go (nat_lt (at + 1) code.size) e
-    where
-      -- a load that has read a word of the cell is not over
-      go : {A : Type 0} → (t : Bool)
-          → cond {A = After (Loading T R) (Unit {0})} t
-          (GoOn (at_load c (loads.LoadsCell version cell (at + 1))))
-          (GoOn (at_load c (loads.ChecksVersion version)))
-          ≡ Done tt
-          → A
-      go true leads = absurd (cc)
-      go false leads = absurd (cc)
-  load_acts p c m n (loads.ChecksVersion version) leads =
-      by_bool (n == version)
-      (λ t. rw t (ap (λ x. Acted p (Atomic Load) (answers.Loaded x) ∷ []) (room_read code (words_in m))))
-      (λ t. (let no : GoOn (at_load c (load_begins code.size n)) ≡ Done tt = rw t at leads in absurd (cc)))
+  load_acts = grind (arith, room_read)
 
   -- a load that goes on loads words of the cell that was written last
   load_stays : (c d : Loading T R) (n : ℕ) (stage : LoadStage) → LoadStands code.size stage
@@ -320,16 +280,8 @@ module _ {T R : Type 0} (code : Coding T) (law : IsCoding code) (words_in : R �
   pub load_first : (x : View T) (m : R) → room_of code.size (words_in m) ≡ fresh → x.going ≡ None → x.other ≡ []
       → 0 < x.share.part → At code kinds.Atomic loading x x first_load m
   load_first x m zeros idle alone any =
-      inl (record {
-        is = refl;
-        idle = idle;
-        fresh = alone;
-        standing = tt;
-        some = any;
-        first = named;
-        starts = plain_starts Load refl (λ kept. named) (λ o p h. h) (λ holder p. refl);
-        wrote = λ p. refl;
-      })
+      at_begin idle alone any tt named
+      (plain_starts Load refl (λ kept. named) (λ o p h. h) (λ holder p. refl)) (λ p. refl)
     where
       named : ◌≡◌ {A = Option (Flight T)} (Some (flight_at loads.LoadsVersion fresh)) (Some (loading.flight first_load m))
       named = ap (λ r. Some (flight_at loads.LoadsVersion r)) (sym zeros)

@@ -2,11 +2,10 @@
 -- of a queue of values is linearizable as the bounded list.
 use Rattle.history.proofs.Names.{◌≡◌, ℕ, ◌+◌, ◌<◌, List, [], ◌∷◌, ◌++◌, fold, length, map, replicate, slice_index}
 use Rattle.history.proofs.Names.{refl, sym, ap, subst, ◌∙◌, arith, Loaded, Event, Acted, Coding, AnswersRight}
-use Rattle.history.proofs.Names.{IsLinearizable, as_list, as_value, IsLinearized, Each, moments, Trace}
-use Rattle.history.proofs.Names.{run_linearizable, stored, queue_kept_on}
+use Rattle.history.proofs.Names.{IsLinearizable, as_value, IsLinearized, Each, moments, Trace}
+use Rattle.history.proofs.Names.{run_linearizable, stored}
 use Rattle.model.specs.declared.event.Start.TheVariants.{Atomic}
 use Rattle.model.specs.declared.families.atomic.AtomicStart.TheVariants.{Store, Load}
-use Rattle.model.specs.declared.families.queues.QueueKind.TheVariants.{Queue}
 use Rattle.model.specs.declared.turn.Kind.TheVariants as kinds
 use Rattle.model.specs.Families.Atomic.Objects.{value_after}
 use Rattle.model.specs.Families.Atomic.Promises.{value_in}
@@ -59,14 +58,3 @@ module _ {T : Type 0} (code : Coding T) (capacity : ℕ) (events : List (Event T
 pub version_is_count : {T : Type 0} (code : Coding T) (capacity : ℕ) (t : Trace T)
     → IsRun code kinds.Atomic capacity t → slice_index t.world.words 0 ≡ length (stored t.events) + 1
 version_is_count code capacity t run = version_counts t.world.coding t.world.capacity t (value_sound code capacity run)
-
-module _ {T : Type 0} {code : Coding T} {capacity : ℕ} {events : List (Event T)} (h : IsHistory code kinds.Queue capacity events) where
-  -- a history of a queue of values is linearizable as the bounded list
-  pub values_linearizable : IsLinearizable (as_list Queue capacity) events
-  values_linearizable =
-      let trace_now = h.trace in
-      let run_now = h.run in
-      let all : IsLinearized kinds.Queue trace_now =
-      subst (λ k. IsLinearized k trace_now) run_now.of_kind
-      (run_linearizable trace_now (queue_kept_on Queue trace_now run_now.of_kind run_now.reached.coded run_now.reached.admitted run_now.fresh)) in
-      subst (λ es. IsLinearizable (as_list Queue capacity) es) (sym h.is) (subst (λ n. IsLinearizable (as_list Queue n) trace_now.events) run_now.sized all)

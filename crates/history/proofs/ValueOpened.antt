@@ -19,7 +19,6 @@ use Rattle.model.specs.declared.families.atomic.AtomicStart.TheVariants.{Acquire
 use Rattle.model.specs.declared.turn.Kind.TheVariants as kinds
 use Rattle.laws_value.proofs.Core as core
 use Rattle.laws_value.proofs.Stores.{asked_place}
-use Rattle.history.specs.declared.view.View.{View}
 use Rattle.history.specs.History.{IsMachine, Knows}
 use Rattle.history.specs.Value.{takes_producer, gives_producer, HasProducer, acquires_producer, releases_producer, stores_value}
 use Rattle.history.specs.ValueOpened.{first_stores, stored_once, stored_times, opened, store_turns, stored_turns, opened_turns, opened_view, opened_cells}
@@ -117,10 +116,6 @@ module _ {T : Type 0} (code : Coding T) (law : IsCoding code) (value : T) where
   -- call under way
   abbrev Here : List ℕ → List (Turn T) → List (Event T) → Option (Start T × Flight T) → Type 0
   Here = alone.Here machine
-
-  -- the view of the only pass, with these turns and events
-  abbrev maker : List (Turn T) → List (Event T) → View T
-  maker = alone.maker machine
 
   -- the words of a single value: the version, the role's word, and the two cells
   abbrev words_at : ℕ → ℕ → List ℕ → List ℕ

@@ -1,8 +1,8 @@
 -- A push and a pop of a queue of values are calls of the model, each step of which keeps
 -- the rule of the table.
-use Rattle.history.proofs.Names.{inl, ◌≡◌, nat_lt, ℕ, ◌+◌, ◌^◌, ◌*◌, ◌<◌, ◌==◌, ◌||◌, cond, Bool}
-use Rattle.history.proofs.Names.{true, false, Option, Some, None, List, [], ◌++◌, slice_set, slice_index, refl}
-use Rattle.history.proofs.Names.{sym, ap, ◌∙◌, arith, written, Ask, After, GoOn}
+use Rattle.history.proofs.Names.{◌≡◌, ℕ, ◌+◌, ◌^◌, ◌*◌, ◌<◌, Bool}
+use Rattle.history.proofs.Names.{true, false, Option, Some, None, List, [], slice_set, slice_index, refl}
+use Rattle.history.proofs.Names.{sym, ap, arith, written, Ask, GoOn}
 use Rattle.history.proofs.Names.{after_position}
 use Rattle.history.proofs.Names.{Flight, Pop, Values, Coding, IsCoding, after_of, fresh_cell, kept_at}
 use Rattle.history.proofs.Names.{push_effect, answered, IsFresh, Producer, Consumer}
@@ -16,8 +16,8 @@ use Rattle.steps.specs.declared.queues.ring.PopStage.TheVariants as pops
 use Rattle.steps.specs.declared.queues.ring.Push.{Push as Pushing}
 use Rattle.steps.specs.declared.queues.ring.PushStage.{PushStage}
 use Rattle.steps.specs.declared.queues.ring.PushStage.TheVariants as pushes
-use Rattle.steps.specs.Queues.Ring.{first_push, first_pop, cell_word, word_at, push_asks, push_want}
-use Rattle.steps.specs.Queues.Ring.{push_takes, push_after, at_pop, pop_asks, pop_want}
+use Rattle.steps.specs.Queues.Ring.{first_push, first_pop, word_at, push_asks, push_want}
+use Rattle.steps.specs.Queues.Ring.{push_takes, push_after, pop_asks, pop_want}
 use Rattle.steps.specs.Queues.Ring.{pop_takes, pop_after, pop_kept, pop_keeps}
 use Rattle.model.specs.declared.event.Item.TheVariants.{Value}
 use Rattle.model.specs.declared.families.Flight.TheVariants as flights
@@ -31,17 +31,13 @@ use Rattle.history.specs.Queues.{push_skips}
 use Rattle.history.specs.Roles.{HasRole}
 use Rattle.history.specs.Rooms.{room_of}
 use Rattle.history.specs.Stages.{Calling, At}
-use Rattle.history.specs.ValueQueue.{IsWordOf, PushPlace, PopPlace, value_pop_wrote, pushes_value, value_there, pops_value}
+use Rattle.history.specs.ValueQueue.{PushPlace, PopPlace, value_pop_wrote, pushes_value, value_there, pops_value}
+use Rattle.history.proofs.Beginning.{at_begin}
 use Rattle.history.proofs.Drives.{goes, keeps, keeps_to_end}
-use Rattle.history.proofs.QueueCalls.{holds_it}
+use Rattle.history.proofs.QueueCalls.{holds_it, cell_low}
 use Rattle.history.proofs.Queues.{queue_effects, role_begins, queue_machines}
 use Rattle.history.proofs.Rooms.{room_set, room_read}
-use Rattle.history.proofs.CallsIn.{Driven, IsCallBy, KeepsEnds, KeepsOver, each_tells, last_tells}
-use Rattle.laws_robust.proofs.Cases.{by_bool}
-
--- a word of a cell is one of the table's words
-cell_low : (size capacity position cell at : ℕ) → IsWordOf size capacity position cell at → word_at cell at < 4 + size * capacity
-cell_low = grind arith
+use Rattle.history.proofs.CallsIn.{Driven, IsCallBy, KeepsEnds, KeepsOver}
 
 -- ---- pushes
 
@@ -117,17 +113,8 @@ module _ {T : Type 0} (code : Coding T) (law : IsCoding code) (v : T) where
   pub value_push_first : (x : View T) (m : Unit {0}) → x.going ≡ None → x.other ≡ [] → 0 < x.share.part
       → x.capacity < 2 ^ 32 → HasRole Producer x.made → At code kinds.Queue pushing x x (first_push x.capacity) m
   value_push_first x m idle alone any small has =
-      inl (record {
-        is = refl;
-        idle = idle;
-        fresh = alone;
-        standing = (small, refl, tt);
-        some = any;
-        first = refl;
-        starts =
-            role_begins queues.Queue (Push v) refl (λ kept. refl) Producer (λ o p. tt) (λ roles p is. holds_it roles.producer p is) has;
-        wrote = λ p. refl;
-      })
+      at_begin idle alone any (small, refl, tt) refl
+      (role_begins queues.Queue (Push v) refl (λ kept. refl) Producer (λ o p. tt) (λ roles p is. holds_it roles.producer p is) has) (λ p. refl)
 
 -- ---- pops
 
@@ -162,16 +149,7 @@ module _ {T R : Type 0} (code : Coding T) (law : IsCoding code) (words_in : R �
       → PopPlace code.size capacity stage
       → after_of code (flight_at c.capacity stage (room_in m)) n
       ≡ goes popping (pop_takes code.size c stage n) (pop_keeps with_word m stage n)
-  pop_same_after capacity c m n pops.LoadsRead pop_place = refl
-  pop_same_after capacity c m n (pops.LoadsWrite read) pop_place =
-      by_bool (c.capacity == 0 || n == read)
-      (λ t. rw t refl)
-      (λ t. rw t refl)
-  pop_same_after capacity c m n (pops.LoadsCell read cell at) pop_place =
-      by_bool (nat_lt (at + 1) code.size)
-      (λ t. rw t (ap (λ r. GoOn (flight_at c.capacity (pops.LoadsCell read cell (at + 1)) r)) (put_there m at n pop_place.2)))
-      (λ t. rw t (ap (λ r. GoOn (flight_at c.capacity (pops.StoresRead read) r)) (put_there m at n pop_place.2)))
-  pop_same_after capacity c m n (pops.StoresRead read) pop_place = grind (arith, room_read)
+  pop_same_after = grind (arith, put_there, room_read)
 
   -- a step with which a pop goes on writes nothing
   pop_quiet : (p n : ℕ) (c d : Popping T R) (m : R) (stage : PopStage) → pop_takes code.size c stage n ≡ GoOn d
@@ -183,23 +161,7 @@ module _ {T R : Type 0} (code : Coding T) (law : IsCoding code) (words_in : R �
       → pop_takes code.size c stage n ≡ Done b
       → queue_effects code p (flight_at c.capacity stage (room_in m)) n
       ≡ value_pop_wrote p (value_there code words_in (pop_keeps with_word m stage n)) b
-  pop_loud p n c m b pops.LoadsRead leads = absurd (cc)
-  pop_loud p n c m b (pops.LoadsWrite read) leads =
-      by_bool (c.capacity == 0 || n == read)
-      (λ t. let no : ◌≡◌ {A = After (Popping T R) Bool} (Done false) (Done b) = rw t at leads in
-      let same : false ≡ b = cc in
-      rw t (ap (value_pop_wrote p (value_there code words_in m)) same))
-      (λ t. (let no : GoOn (at_pop c (pops.LoadsCell read (cell_word c.capacity code.size read) 0)) ≡ Done b = rw t at leads in absurd (cc)))
-  pop_loud p n c m b (pops.LoadsCell read cell at) e = go (nat_lt (at + 1) code.size) e
-    where
-      -- a pop that has read a word of a cell is not over
-      go : (t : Bool) → cond {A = After (Popping T R) Bool} t (GoOn (at_pop c (pops.LoadsCell read cell (at + 1))))
-          (GoOn (at_pop c (pops.StoresRead read)))
-          ≡ Done b
-          → [] ≡ value_pop_wrote {T = T} p (value_there code words_in (with_word m at n)) b
-      go true leads = absurd (cc)
-      go false leads = absurd (cc)
-  pop_loud p n c m b (pops.StoresRead read) leads = grind (arith, room_read, value_there)
+  pop_loud = grind (arith, room_read, value_there)
 
   module _ (capacity : ℕ) where
     -- the pop is at a word of the cell of the read position
@@ -232,23 +194,7 @@ module _ {T R : Type 0} (code : Coding T) (law : IsCoding code) (words_in : R �
 
   -- a pop of a queue of values is a call of the model
   pop_is_call : IsCallBy code (queue_effects code) (λ capacity. 4 + code.size * capacity) pop_driven
-  pop_is_call =
-      record {
-        same_want = λ c m. refl;
-        same_after = λ capacity c m n h. pop_same_after capacity c m n c.stage h.2;
-        hears = λ c m a n e. pop_hears c m a n c.stage e;
-        stays = λ capacity c d n h e. (let next = pop_stays capacity c d n c.stage h.1 h.2 e in (h.0, next.0, next.1));
-        asks = λ capacity c h. pop_finds_word capacity c.stage h.2;
-        past = λ capacity c d n k h e. refl;
-        finds = λ c m n small t. tt;
-        leaves = λ c a n t e. absurd (cc);
-        tells = each_tells (queue_effects code) pop_driven (λ step d leads.
-            ap (λ zs. zs ++ queue_effects code step.p (popping.flight step.c step.m) step.n) step.wrote
-            ∙ pop_quiet step.p step.n step.c d step.m step.c.stage leads);
-        tells_all = last_tells (queue_effects code) pop_driven (λ step b skip leads.
-            ap (λ zs. zs ++ queue_effects code step.p (popping.flight step.c step.m) step.n) step.wrote
-            ∙ pop_loud step.p step.n step.c step.m b step.c.stage leads);
-      }
+  pop_is_call = grind (arith, pop_same_after, pop_hears, pop_stays, pop_finds_word, pop_quiet, pop_loud, room_read, value_there, queue_effects)
 
   -- each step of a pop keeps the rule of the table
   pub value_pop_keeps : KeepsEnds code kinds.Queue (λ capacity. 4 + code.size * capacity) pop_driven
@@ -260,17 +206,8 @@ module _ {T R : Type 0} (code : Coding T) (law : IsCoding code) (words_in : R �
       → 0 < x.share.part → x.capacity < 2 ^ 32 → HasRole Consumer x.made
       → At code kinds.Queue popping x x (first_pop x.capacity) m
   value_pop_first x m zeros idle alone any small has =
-      inl (record {
-        is = refl;
-        idle = idle;
-        fresh = alone;
-        standing = (small, refl, tt);
-        some = any;
-        first = named;
-        starts =
-            role_begins queues.Queue Pop refl (λ kept. named) Consumer (λ o p. tt) (λ roles p is. holds_it roles.consumer p is) has;
-        wrote = λ p. refl;
-      })
+      at_begin idle alone any (small, refl, tt) named
+      (role_begins queues.Queue Pop refl (λ kept. named) Consumer (λ o p. tt) (λ roles p is. holds_it roles.consumer p is) has) (λ p. refl)
     where
       named : ◌≡◌ {A = Option (Flight T)} (Some (flight_at x.capacity pops.LoadsRead fresh_cell)) (Some (popping.flight (first_pop x.capacity) m))
       named = ap (λ r. Some (flight_at x.capacity pops.LoadsRead r)) (sym zeros)

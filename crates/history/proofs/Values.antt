@@ -1,9 +1,9 @@
 -- The single value as a table that is a machine: what its calls write (`value_effects`), where each step
 -- leads, and how a call begins.
-use Rattle.history.proofs.Names.{◌≡◌, ℕ, ◌+◌, ◌*◌, ◌≤◌, false, Option, Some, None, IfSome, List, [], length}
+use Rattle.history.proofs.Names.{◌≡◌, ℕ, ◌+◌, ◌*◌, false, Option, Some, None, IfSome, List, [], length}
 use Rattle.history.proofs.Names.{sum_by, refl, sym, ap, subst, ◌∙◌, arith, Event, Start}
-use Rattle.history.proofs.Names.{Flight, Registry, AtomicStart, AtomicFlight, Party, Coding, first_of, step_of}
-use Rattle.history.proofs.Names.{beside_of, after_of, going_rows, IsValue, acted, party_of, IsKeptBy, promise_of}
+use Rattle.history.proofs.Names.{Flight, Registry, AtomicStart, AtomicFlight, Coding, first_of, step_of}
+use Rattle.history.proofs.Names.{beside_of, after_of, going_rows, IsValue, acted, IsKeptBy, promise_of}
 use Rattle.history.proofs.Names.{Each, first_row, answer_in, Trace, stands_there}
 use Rattle.model.specs.declared.event.Start.TheVariants.{Atomic}
 use Rattle.model.specs.declared.families.Flight.TheVariants as flights
@@ -21,15 +21,15 @@ use Rattle.model.proofs.Frame as frame
 use Rattle.laws_value.proofs.Invariant.{Value, family}
 use Rattle.laws_value.proofs.Sound.{kept_on, sound_on}
 use Rattle.history.specs.declared.view.View.{View}
-use Rattle.history.specs.History.{IsRun, IsOfParties, call_in}
+use Rattle.history.specs.History.{IsRun, call_in}
 use Rattle.history.specs.Known.{owned}
 use Rattle.history.specs.Stages.{Starts, Calling}
 use Rattle.history.specs.Value.{takes_producer, gives_producer, HasProducer}
 use Rattle.history.proofs.Calls.{stands, IsStateless}
 use Rattle.history.proofs.Known.{AreOf}
-use Rattle.history.proofs.Ledger.{Moves, held_by_one, at_most}
+use Rattle.history.proofs.Ledger.{Moves, held_by_one}
 use Rattle.history.proofs.Paid.{Pays, progress_kept, pays_run}
-use Rattle.history.proofs.Turns.{CallGoesOn, KindLaws, LoneMachines}
+use Rattle.history.proofs.KindLaws.{CallGoesOn, KindLaws, LoneMachines, goes_on_so}
 
 module _ {T : Type 0} where
   -- the start of a call under way, by its flight
@@ -92,17 +92,9 @@ module _ {T : Type 0} (code : Coding T) (capacity : ℕ) where
       let there = stands_there (family t.world.coding t.world.capacity) t is_sound p here.x here.since flight here.found here.doing in
       let waits = beside_of t.world.words t.world.kept t.world.latest p in
       let facts_here = facts t.world.coding t.world.words waits t.world.capacity p in
-      let fact = λ (x : Party T) (n : ℕ) (found : party_of p t.world.latest ≡ Some x).
-      (let same : here.x ≡ x = (let both : Some here.x ≡ Some x = sym here.found ∙ found in cc) in
-      subst (λ (st : Start T). StepFacts t.world.coding t.world.words waits p n st flight t.world.kept) (ap (λ (y : Party T). y.start) same)
-      (facts_here n is_sound.state here.x.start flight t.world.kept is_sound.fit.kept there.at))
-      in
-      record {
-        may = (fact here.x 0 here.found).may;
-        own = λ n. effects_own code p flight n;
-        writes = λ x n found. (fact x n found).writes ∙ ap (λ (z : Coding T). value_effects z p flight n) is_on.coded;
-        goes = λ x n found. (fact x n found).goes;
-      }
+      let fact = λ (n : ℕ). facts_here n is_sound.state here.x.start flight t.world.kept is_sound.fit.kept there.at in
+      goes_on_so here (fact 0).may (λ n. effects_own code p flight n)
+      (λ n. (fact n).writes ∙ ap (λ (z : Coding T). value_effects z p flight n) is_on.coded) (λ n. (fact n).goes)
 
   -- single values keep the laws of a kind: what their steps write, and where they lead
   pub value_owes : KindLaws code kinds.Atomic capacity (2 + code.size * 2) (value_effects code)
@@ -146,13 +138,6 @@ module _ {T : Type 0} (owner : ℕ → ℕ) (j : ℕ) where
       → ((f : Event T → ℕ) → sum_by f made ≡ sum_by (owned owner j f) all) → HasProducer made
       → (p : ℕ) × (owner p ≡ j) × (holder_of all ≡ Some p)
   producer_by all made each sums has = held_by_one takes_producer gives_producer holder_after owner j made (all_move all each) sums has
-
--- a pass has given back each acquire of the role that it made, or holds the role now
-pub producer_once : {T : Type 0} (v : View T) → Each GrantsRight v.seen → IsOfParties v
-    → (sum_by gives_producer v.made ≤ sum_by takes_producer v.made) × (sum_by takes_producer v.made ≤ sum_by gives_producer v.made + 1)
-producer_once v each of_parties =
-    at_most takes_producer gives_producer holder_after of_parties.owner of_parties.seat v.seen v.made
-    (all_move of_parties.owner of_parties.seat v.seen each) of_parties.sums
 
 -- ---- which party may begin a call
 

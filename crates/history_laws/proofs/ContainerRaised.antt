@@ -95,7 +95,7 @@ module _ {T : Type 0} where
     pub pays : word_at n new + lifts_at new p ≤ word_at n old + lifts_at old p + rises es
 
   -- the turn of party p leads from old to new and writes es, n is the word; seats counts the parties after it
-  module _ (n : ℕ) (old new : Trace T) (p : ℕ) (es : List (Event T)) (owes : Owes n old new p es) (r : Raised n old) where
+  module _ {n : ℕ} {old new : Trace T} {p : ℕ} {es : List (Event T)} (owes : Owes n old new p es) (r : Raised n old) where
     -- a bound of the parties that have begun calls, after the turn
     abbrev seats : ℕ
     seats = r.seats + (p + 1)
@@ -336,7 +336,7 @@ module _ {T : Type 0} (code : Coding T) (c : ℕ) (t : Trace T) (s : Sound code 
         → Raised n record { world = after_answer t.world p x ask answer doing; events = t.events ++ events_of_answer t.world p x answer doing }
     answered p x ask answer (Over others) found same_doing pays = raised_same n t r
     answered p x ask answer (Going flight since) found same_doing pays =
-        raised_on n t _ p _ (step_owes n t p x flight since ask answer found same_doing (pays flight since refl)) r
+        raised_on (step_owes n t p x flight since ask answer found same_doing (pays flight since refl)) r
 
     -- with a turn that goes on with a call, or does nothing, the word stays within what the history lets it rise
     nexts : (p : ℕ) (o : Option (Party T)) → party_of p t.world.latest ≡ o
@@ -361,7 +361,7 @@ module _ {T : Type 0} (code : Coding T) (c : ℕ) (t : Trace T) (s : Sound code 
         let fits = r.fits in
         record { seats = r.seats; beyond = r.beyond; fits = omega arith }
     begins p start (Some flight) e =
-        raised_on n t _ p _
+        raised_on
         (begin_owes n t p start flight
         (begins_any t.world.capacity p start t.world.kept flight
         (subst (λ kind. first_of kind t.world.capacity start t.world.kept ≡ Some flight) s.kind e))) r

@@ -67,8 +67,8 @@ pub record Good (filled holder settled : Option ℕ) (right : Right) (claims : �
   pub giving : (q o : ℕ) → claims q ≡ Giving o → Began q o → (filled ≡ Some o) × (right ≡ By q)
 
 -- The claims of all calls are right before a step (`g`), which leads from `claims` to `next`. Below it is shown that they are right after it.
-module _ (filled holder settled : Option ℕ) (right : Right) (claims next : ℕ → Claim) (Began After : ℕ → ℕ → Type 0)
-    (g : Good filled holder settled right claims Began) where
+module _ {filled holder settled : Option ℕ} {right : Right} {claims : ℕ → Claim} {Began : ℕ → ℕ → Type 0}
+    (g : Good filled holder settled right claims Began) (next : ℕ → Claim) (After : ℕ → ℕ → Type 0) where
   -- the call of party q claims nothing now, or what it claimed before
   abbrev pub Stays : ℕ → Type 0
   Stays q = (next q ≡ Apart) ⊎ ((next q ≡ claims q) × ((o : ℕ) → After q o → Began q o))

@@ -304,7 +304,7 @@ module _ {T : Type 0} (i : ℕ) where
 
     -- where each claim stays or goes, all claims are right after the event
     quietly : (e : Event T) → ((q : ℕ) → StaysBy e q) → Good filled holder settled right (claims_then e) (Began (events ++ e ∷ []))
-    quietly e stays = quiet filled holder settled right claims (claims_then e) (Began events) (Began (events ++ e ∷ [])) g stays
+    quietly e stays = quiet g (claims_then e) (Began (events ++ e ∷ [])) stays
 
     -- an event about another index leaves each party's claim on index i
     elsewhere : (p j : ℕ) (e : Event T) (to : Claim) → whose e ≡ Some p → (j == i) ≡ false → claim i (own_after (span_of p events) e) ≡ here i j to
@@ -322,22 +322,17 @@ module _ {T : Type 0} (i : ℕ) where
         (claims_then (Filled p j o)) (Began (events ++ Filled p j o ∷ [])))
         (j == i)
         (λ same.
-        fills filled holder settled right claims (claims_then (Filled p j o)) (Began events) (Began (events ++ Filled p j o ∷ [])) g p o
-        (others p (Filled p j o) refl) (subst (λ n. filled_of n events ≡ None) (tested j i same) does.1)
+        fills g (claims_then (Filled p j o)) (Began (events ++ Filled p j o ∷ [])) p o (others p (Filled p j o) refl)
+        (subst (λ n. filled_of n events ≡ None) (tested j i same) does.1)
         (mine_then p (Filled p j o) (Filling o) refl (at_here j (Filling o) _ same says)))
         (λ other. quietly (Filled p j o) (elsewhere p j (Filled p j o) (Filling o) refl other says))
-      where
-        -- the fill
-        e : Event T
-        e = Filled p j o
 
     -- after a grant all claims are right
     step_grant : (p j o : ℕ) → Says events (Granted p j o) → Then (Granted p j o)
     step_grant p j o says =
         on_bool (λ b. Good filled (if b then Some o else holder) settled right (claims_then (Granted p j o)) (Began (events ++ Granted p j o ∷ []))) (j == i)
         (λ same.
-        grants filled holder settled right claims (claims_then (Granted p j o)) (Began events) (Began (events ++ Granted p j o ∷ [])) g p o
-        (others p (Granted p j o) refl) (at_here j (Filling o) _ same says.0)
+        grants g (claims_then (Granted p j o)) (Began (events ++ Granted p j o ∷ [])) p o (others p (Granted p j o) refl) (at_here j (Filling o) _ same says.0)
         (mine_then p (Granted p j o) (Held o) refl (at_here j (Held o) _ same says.1)))
         (λ other. quietly (Granted p j o) (elsewhere p j (Granted p j o) (Held o) refl other says.1))
 
@@ -359,10 +354,10 @@ module _ {T : Type 0} (i : ℕ) where
         (λ same.
         let is = tested j i same in
         ⊎_elim
-        (λ gave. frees filled holder settled right claims (claims_then (FreedOf p j o)) (Began events) (Began (events ++ FreedOf p j o ∷ [])) g p o
-        (others p (FreedOf p j o) refl) (mine_then p (FreedOf p j o) Apart refl says.0) (at_here j (Giving o) _ same gave.0)
+        (λ gave. frees g (claims_then (FreedOf p j o)) (Began (events ++ FreedOf p j o ∷ [])) p o (others p (FreedOf p j o) refl)
+        (mine_then p (FreedOf p j o) Apart refl says.0) (at_here j (Giving o) _ same gave.0)
         (subst (λ n. SinceBegin p (λ part since. settled_of n part ≡ Some o) events) is gave.1))
-        (λ none. recovers filled holder settled right claims (claims_then (FreedOf p j o)) (Began events) (Began (events ++ FreedOf p j o ∷ [])) g
+        (λ none. recovers g (claims_then (FreedOf p j o)) (Began (events ++ FreedOf p j o ∷ []))
         (λ q. ⊎_elim (λ own. subst (λ n. claims_then (FreedOf p j o) n ≡ Apart) (sym own) (mine_then p (FreedOf p j o) Apart refl says.0))
         (λ ne. ap (claim i) (other_span p q (FreedOf p j o) (span_of q events) refl ne)
         ∙ not_at (span_of q events) (subst (λ n. is_at n (span_of q events) ≡ false) is (none q))) (cases_eq q p)))
@@ -375,8 +370,7 @@ module _ {T : Type 0} (i : ℕ) where
         → (b : Bool) → (j == i) ≡ b
         → Good filled holder (if b then Some o else settled) (if b then Settled o else right) (claims_then e) (Began (events ++ e ∷ []))
     step_end p j o e is apart was true same =
-        finishes filled holder settled right claims (claims_then e) (Began events) (Began (events ++ e ∷ [])) g p o
-        (others p e is) (at_here j (Held o) _ same was) (mine_then p e Apart is apart)
+        finishes g (claims_then e) (Began (events ++ e ∷ [])) p o (others p e is) (at_here j (Held o) _ same was) (mine_then p e Apart is apart)
     step_end p j o e is apart was false other = quietly e (all_stay p e is (inl (mine_then p e Apart is apart)))
 
     -- a call begins that is to give an index back
@@ -384,8 +378,8 @@ module _ {T : Type 0} (i : ℕ) where
         → Good filled holder (if b then without o settled else settled) (if b then taken_by p o right else right) (claims_then (Begun p start))
         (Began (events ++ Begun p start ∷ []))
     step_begin p j o start to true same =
-        begins filled holder settled right claims (claims_then (Begun p start)) (Began events) (Began (events ++ Begun p start ∷ [])) g p o
-        (others p (Begun p start) refl) (mine_then p (Begun p start) (Giving o) refl (at_here j (Giving o) _ same to))
+        begins g (claims_then (Begun p start)) (Began (events ++ Begun p start ∷ [])) p o (others p (Begun p start) refl)
+        (mine_then p (Begun p start) (Giving o) refl (at_here j (Giving o) _ same to))
         (λ began. since_begun p (λ part. settled_of i part ≡ Some o) events start began)
     step_begin p j o start to false other = quietly (Begun p start) (elsewhere p j (Begun p start) (Giving o) refl other to)
 
@@ -444,20 +438,8 @@ module _ {T : Type 0} (i : ℕ) where
         let spans : (q : ℕ) → span_of q (events ++ e ∷ []) ≡ span_after q (span_of q events) e = λ q. fold-append (span_after q) Never events (e ∷ []) in
         -- the claims of all parties in the history with the event are those after it
         let moved =
-        quiet _ _ _ _ (claims_then e) (λ q. claim i (span_of q (events ++ e ∷ []))) (Began (events ++ e ∷ [])) (Began (events ++ e ∷ [])) new
-        (λ q. inr (ap (claim i) (spans q), λ o h. h)) in
-        subst (λ x. Good x (holder_of i (events ++ e ∷ [])) (settled_of i (events ++ e ∷ []))
-        (right_of i (events ++ e ∷ [])) (λ q. claim i (span_of q (events ++ e ∷ []))) (Began (events ++ e ∷ [])))
-        (sym was_filled)
-        (subst (λ x. Good (filled_after i filled e) x (settled_of i (events ++ e ∷ [])) (right_of i (events ++ e ∷ []))
-        (λ q. claim i (span_of q (events ++ e ∷ []))) (Began (events ++ e ∷ [])))
-        (sym was_holder)
-        (subst (λ x. Good (filled_after i filled e) (holder_after i holder e) x (right_of i (events ++ e ∷ []))
-        (λ q. claim i (span_of q (events ++ e ∷ []))) (Began (events ++ e ∷ [])))
-        (sym was_settled)
-        (subst (λ x. Good (filled_after i filled e) (holder_after i holder e) (settled_after i settled e) x
-        (λ q. claim i (span_of q (events ++ e ∷ []))) (Began (events ++ e ∷ [])))
-        (sym was_right) moved)))
+        quiet new (λ q. claim i (span_of q (events ++ e ∷ []))) (Began (events ++ e ∷ [])) (λ q. inr (ap (claim i) (spans q), λ o h. h)) in
+        rw (was_filled, was_holder, was_settled, was_right) moved
 
   -- ---- all events
 

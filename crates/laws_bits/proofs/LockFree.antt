@@ -24,9 +24,10 @@ use Rattle.model.specs.declared.families.Registry.{Registry}
 use Rattle.model.specs.declared.families.Registry.TheVariants as registries
 use Rattle.model.specs.declared.families.bits.calls.BitsFlight.{BitsFlight}
 use Rattle.model.specs.declared.families.bits.calls.BitsFlight.TheVariants as calls
+use Rattle.model.specs.declared.turn.Kind.{Kind}
 use Rattle.model.specs.declared.turn.Kind.TheVariants.{Bits, Counts}
 use Rattle.model.specs.Coding.{Coding}
-use Rattle.model.specs.Families.{first_of, want_of, after_of, goes_of, step_of, is_question, kept_after_begin, kept_after_death}
+use Rattle.model.specs.Families.{first_of, want_of, after_of, goes_of, step_of, is_question, kept_after_begin, kept_after_death, opening_of}
 use Rattle.model.specs.Families.Bits.Calls.{reset_answer}
 use Rattle.model.specs.Families.Queues.Calls.{as_it_is}
 use Rattle.model.specs.LockFree.{KeepsEnding, stretch}
@@ -102,6 +103,10 @@ next_most words c (resetting.StoresPosition place) = omega arith
 next_few : (c : ℕ) (stage : ResetNextStage) → next_pays stage ≤ max 1 (elements c - 1)
 next_few = grind arith
 
+-- a word that another follows is not past the end
+no_end : (word end : ℕ) → nat_lt (word + 1) end ≡ true → nat_lt word end ≡ true
+no_end = grind (arith, nat_tests)
+
 -- ---- where a call stands
 
 -- where a call of a bit set stands: a reset of all bits at an element, one of the next bit with the capacity
@@ -119,6 +124,16 @@ CountsStand c (calls.Count run) = Unit {0}
 CountsStand c (calls.TakeAll run) = run.call.end ≡ c
 CountsStand c (calls.CountOf run) = Unit {0}
 CountsStand c flight = ⊥
+
+-- ---- both kinds, of which `counting` names the counting sets (`true`) or the bit sets (`false`)
+
+abbrev kind_of : Bool → Kind
+kind_of true = Counts
+kind_of false = Bits
+
+abbrev stand : Bool → ℕ → BitsFlight → Type 0
+stand true = CountsStand
+stand false = BitsStand
 
 module _ {T : Type 0} where
   -- the steps left to a call of a bit set; calls of other families have none
@@ -156,28 +171,21 @@ module _ {T : Type 0} where
   Kept registries.Nothing = Unit {0}
   Kept kept = ⊥
 
-  -- what the frame of lock-freedom asks to know of the bit sets
-  abbrev bits_outline : Outline T
-  bits_outline =
-      record {
-        kind = Bits;
-        Such = λ start. Unit {0};
-        Kept = Kept;
-        At = λ code c start flight. FlightStands (BitsStand c) start flight;
-        Known = λ p kept flight. Unit {0};
-        measure = λ code c. measure c;
-      }
+  -- the measure of either kind
+  abbrev measured : Bool → ℕ → WordMeasure T
+  measured true = counts_measure
+  measured false = measure
 
-  -- what the frame of lock-freedom asks to know of the counting sets
-  abbrev counts_outline : Outline T
-  counts_outline =
+  -- what the frame of lock-freedom asks to know of either kind
+  abbrev outline : Bool → Outline T
+  outline counting =
       record {
-        kind = Counts;
+        kind = kind_of counting;
         Such = λ start. Unit {0};
         Kept = Kept;
-        At = λ code c start flight. FlightStands (CountsStand c) start flight;
+        At = λ code c start flight. FlightStands (stand counting c) start flight;
         Known = λ p kept flight. Unit {0};
-        measure = λ code c. counts_measure c;
+        measure = λ code c. measured counting c;
       }
 
   -- ---- the measure falls with each step
@@ -290,20 +298,17 @@ module _ {T : Type 0} where
     -- the measure falls with each step of a reset of all bits
     all_falls : (word end : ℕ) (room : OneWord)
         → CallStepFalls (calls.ResetAll (record { call = record { word = word; end = end }; given = tt; room = room }))
-    all_falls word end room = go (nat_lt (word + 1) end) refl (nat_lt word end) refl
+    all_falls word end room = go (nat_lt (word + 1) end) refl
       where
         flight : BitsFlight
         flight = calls.ResetAll (record { call = record { word = word; end = end }; given = tt; room = room })
 
-        -- the cases are whether a further word follows and whether the word is before the end
-        go : (t : Bool) → nat_lt (word + 1) end ≡ t → (u : Bool) → nat_lt word end ≡ u → CallStepFalls flight
-        go true next_test true end_test = let less : word + 1 < end = grind (arith, nat_tests) in
-            rw (next_test, end_test) (inr (omega arith, inr (omega arith)))
-        go true next_test false end_test =
+        -- the cases are whether a further word follows
+        go : (t : Bool) → nat_lt (word + 1) end ≡ t → CallStepFalls flight
+        go true next_test =
             let less : word + 1 < end = grind (arith, nat_tests) in
-            let not_less : end ≤ word = grind (arith, nat_tests) in
-            absurd (omega arith)
-        go false next_test u end_test = rw next_test tt
+            rw (next_test, no_end word end next_test) (inr (omega arith, inr (omega arith)))
+        go false next_test = rw next_test tt
 
     -- the measure falls with each step of any call of a bit set
     bits_fall : (c : ℕ) (start : Start T) (flight : Flight T) → FlightStands (BitsStand c) start flight → StepFalls M code words flight
@@ -320,19 +325,17 @@ module _ {T : Type 0} where
     -- the measure falls with each step of a reset of all counts
     takes_fall : (word end : ℕ) (room : OneWord)
         → CountStepFalls (calls.TakeAll (record { call = record { word = word; end = end }; given = tt; room = room }))
-    takes_fall word end room = go (nat_lt (word + 1) end) refl (nat_lt word end) refl
+    takes_fall word end room = go (nat_lt (word + 1) end) refl
       where
         flight : BitsFlight
         flight = calls.TakeAll (record { call = record { word = word; end = end }; given = tt; room = room })
 
-        -- the cases are whether a further word follows and whether the word is before the end
-        go : (t : Bool) → nat_lt (word + 1) end ≡ t → (u : Bool) → nat_lt word end ≡ u → CountStepFalls flight
-        go true next_test true end_test = let less : word + 1 < end = grind (arith, nat_tests) in
-            rw (next_test, end_test) (inr (omega arith, inl (λ other. omega arith, omega arith)))
-        go true next_test false end_test = let less : word + 1 < end = grind (arith, nat_tests) in
-            let not_less : end ≤ word = grind (arith, nat_tests) in
-            absurd (omega arith)
-        go false next_test u end_test = rw next_test tt
+        -- the cases are whether a further word follows
+        go : (t : Bool) → nat_lt (word + 1) end ≡ t → CountStepFalls flight
+        go true next_test =
+            let less : word + 1 < end = grind (arith, nat_tests) in
+            rw (next_test, no_end word end next_test) (inr (omega arith, inl (λ other. omega arith, omega arith)))
+        go false next_test = rw next_test tt
 
     -- the measure falls with each step of any call of a counting set
     counts_fall : (c : ℕ) (start : Start T) (flight : Flight T) → FlightStands (CountsStand c) start flight → StepFalls (counts_measure n) code words flight
@@ -360,10 +363,7 @@ module _ {T : Type 0} where
 
   -- no call of a counting set has more steps left than the capacity without one
   counts_most : (c : ℕ) (start : Start T) (flight : Flight T) → FlightStands (CountsStand c) start flight → count_left flight ≤ c - 1
-  counts_most c (starts.Bits start) (flights.Bits (calls.Count run)) stands = omega arith
-  counts_most c (starts.Bits start) (flights.Bits (calls.TakeAll run)) stands = omega arith
-  counts_most c (starts.Bits start) (flights.Bits (calls.CountOf run)) stands = omega arith
-  counts_most c start flight stands = absurd stands
+  counts_most = grind arith
 
   -- ---- what the frame asks of each kind
 
@@ -385,74 +385,66 @@ module _ {T : Type 0} where
     dies : (kept : Registry T) (owner : ℕ) → Kept kept → Kept (kept_after_death kept owner)
     dies = grind arith
 
-    -- a call that begins on a bit set stands where the measure needs it
-    bits_begin : (start : Start T) (kept : Registry T) (flight : Flight T) → Kept kept → first_of Bits c start kept ≡ Some flight
-        → FlightStands (BitsStand c) start flight × ((p : ℕ) → Kept (kept_after_begin code c start p kept))
-    bits_begin = grind arith
+    -- nothing is kept beside the words of a set that has just been opened
+    opens : (counting : Bool) → Kept ((opening_of (kind_of counting)).kept c)
+    opens true = tt
+    opens false = tt
 
-    -- a call of a bit set that goes on stands where the measure needs it
-    bits_go : (start : Start T) (flight : Flight T) (old : ℕ) → FlightStands (BitsStand c) start flight
-        → OwnAfter bits_outline code c start (after_of code flight old)
-    bits_go = grind arith
+    -- a call that begins on a set stands where the measure needs it
+    begins : (counting : Bool) (start : Start T) (kept : Registry T) (flight : Flight T) → Kept kept
+        → first_of (kind_of counting) c start kept ≡ Some flight
+        → FlightStands (stand counting c) start flight × ((p : ℕ) → Kept (kept_after_begin code c start p kept))
+    begins true = grind arith
+    begins false = grind arith
 
-    -- no call of a bit set asks a question
-    bits_ask : (start : Start T) (flight : Flight T) → FlightStands (BitsStand c) start flight → is_question (want_of code flight) ≡ false
-    bits_ask = grind arith
+    -- a call of a set that goes on stands where the measure needs it
+    goes : (counting : Bool) (start : Start T) (flight : Flight T) (old : ℕ) → FlightStands (stand counting c) start flight
+        → OwnAfter (outline counting) code c start (after_of code flight old)
+    goes true = grind arith
+    goes false = grind arith
 
-    -- all that the frame of lock-freedom asks of the measure holds of the calls of a bit set
-    bits_laws : TableLaws bits_outline code c
-    bits_laws =
+    -- no call of a set asks a question
+    asks : (stands : BitsFlight → Type 0) (start : Start T) (flight : Flight T) → FlightStands stands start flight
+        → is_question (want_of code flight) ≡ false
+    asks = grind arith
+
+    -- no call of a set has more steps left, or more words to change, than its measure names
+    most : (counting : Bool) (words : List ℕ) (start : Start T) (flight : Flight T) → FlightStands (stand counting c) start flight
+        → ((measured counting c).left words flight ≤ (measured counting c).alone)
+        × ((measured counting c).pays flight ≤ (measured counting c).changes)
+    most true words start flight at = (counts_most c start flight at, omega arith)
+    most false words start flight at = bits_most c words start flight at
+
+    -- the measure falls with each step of a call of a set
+    falls : (counting : Bool) (words : List ℕ) (start : Start T) (flight : Flight T) → FlightStands (stand counting c) start flight
+        → StepFalls (measured counting c) code words flight
+    falls true words start flight at = counts_fall c code words c start flight at
+    falls false words start flight at = bits_fall c code words c start flight at
+
+    -- all that the frame of lock-freedom asks of the measure holds of the calls of either kind
+    laws : (counting : Bool) → TableLaws (outline counting) code c
+    laws counting =
         record {
-          opens = tt;
+          opens = opens counting;
           known = λ p kept flight. tt;
-          begins = λ start kept flight any h e. bits_begin start kept flight h e;
+          begins = λ start kept flight any h e. begins counting start kept flight h e;
           stays = λ words beside p start flight old kept at h. stays words beside p start flight old kept h;
-          goes = bits_go;
-          told = told (BitsStand c);
+          goes = goes counting;
+          told = told (stand counting c);
           dies = dies;
-          decides = λ words start flight said at due. (let none = bits_ask start flight at in absurd (cc));
-          most = bits_most c;
-          falls = λ words start flight at wide. bits_fall c code words c start flight at;
-        }
-
-    -- a call that begins on a counting set stands where the measure needs it
-    counts_begin : (start : Start T) (kept : Registry T) (flight : Flight T) → Kept kept → first_of Counts c start kept ≡ Some flight
-        → FlightStands (CountsStand c) start flight × ((p : ℕ) → Kept (kept_after_begin code c start p kept))
-    counts_begin = grind arith
-
-    -- a call of a counting set that goes on stands where the measure needs it
-    counts_go : (start : Start T) (flight : Flight T) (old : ℕ) → FlightStands (CountsStand c) start flight
-        → OwnAfter counts_outline code c start (after_of code flight old)
-    counts_go = grind arith
-
-    -- no call of a counting set asks a question
-    counts_ask : (start : Start T) (flight : Flight T) → FlightStands (CountsStand c) start flight → is_question (want_of code flight) ≡ false
-    counts_ask = grind arith
-
-    -- all that the frame of lock-freedom asks of the measure holds of the calls of a counting set
-    counts_laws : TableLaws counts_outline code c
-    counts_laws =
-        record {
-          opens = tt;
-          known = λ p kept flight. tt;
-          begins = λ start kept flight any h e. counts_begin start kept flight h e;
-          stays = λ words beside p start flight old kept at h. stays words beside p start flight old kept h;
-          goes = counts_go;
-          told = told (CountsStand c);
-          dies = dies;
-          decides = λ words start flight said at due. (let none = counts_ask start flight at in absurd (cc));
-          most = λ words start flight at. (counts_most c start flight at, omega arith);
-          falls = λ words start flight at wide. counts_fall c code words c start flight at;
+          decides = λ words start flight said at due. (let none = asks (stand counting c) start flight at in absurd (cc));
+          most = most counting;
+          falls = λ words start flight at wide. falls counting words start flight at;
         }
 
   -- bit sets are lock-free: every run of their machine keeps ending calls, within this bound
   pub bits_keep_ending : KeepsEnding T Bits (λ n capacity size. stretch n (max 1 (elements capacity - 1)) (capacity + 2))
   bits_keep_ending =
-      keeps_ending bits_outline (λ code c coded admitted. by_table bits_outline code c (bits_laws code c)) (λ start. tt)
+      keeps_ending (outline false) (λ code c coded admitted. by_table (outline false) code c (laws code c false)) (λ start. tt)
       (λ n capacity size. stretch n (max 1 (elements capacity - 1)) (capacity + 2)) (λ code c n. refl)
 
   -- counting bit sets are lock-free: every run of their machine keeps ending calls, within this bound
   pub counts_keep_ending : KeepsEnding T Counts (λ n capacity size. stretch n 0 (capacity - 1))
   counts_keep_ending =
-      keeps_ending counts_outline (λ code c coded admitted. by_table counts_outline code c (counts_laws code c)) (λ start. tt)
+      keeps_ending (outline true) (λ code c coded admitted. by_table (outline true) code c (laws code c true)) (λ start. tt)
       (λ n capacity size. stretch n 0 (capacity - 1)) (λ code c n. refl)

@@ -1,5 +1,5 @@
 -- The names of the standard library and of the crates below that proofs here use.
-pub use Rattle.model.proofs.Moments.{held_later, held_now, others_begin_none, since_more}
+pub use Rattle.model.proofs.Moments.{held_later, held_now, others_begin_none, since_more, since_so}
 pub use Rattle.model.proofs.Names.{After, AllByRecursion, Ask, BeginsNone, Bool, Coding, Each, Ended, Exchange, GoOn}
 pub use Rattle.model.proofs.Names.{HeldSometime, IsEffectOf, IsReachedOn, List, Never, None, OneWord, Open, Option}
 pub use Rattle.model.proofs.Names.{SinceBegin, Some, Span, Stands, Trace, [], answer_in, ap, append-nil, append_assoc}

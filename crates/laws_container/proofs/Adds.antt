@@ -5,8 +5,8 @@ use Rattle.laws_container.proofs.Names.{inl, inr, ◌∙◌, ⊎_elim, ◌≡◌
 use Rattle.laws_container.proofs.Names.{◌++◌, refl, ap, arith, Err, Ask, After, GoOn, AddStage, first_add}
 use Rattle.laws_container.proofs.Names.{add_acquired, cell_word, empty, went_on, NoPlace, Event, Filled, Granted}
 use Rattle.laws_container.proofs.Names.{Finished, Container, ContainerStart, ContainerFlight, Party, added, Act}
-use Rattle.laws_container.proofs.Names.{Fills, Grants, as_it_is, as_call, words_after, quiet_end, grants_alone}
-use Rattle.laws_container.proofs.Names.{owns_then, acquire_at, acquire_number, AcquireAt}
+use Rattle.laws_container.proofs.Names.{Fills, Grants, as_it_is, as_call, words_after, grants_alone, owns_then}
+use Rattle.laws_container.proofs.Names.{acquire_at, acquire_number, AcquireAt, HasDone}
 use Rattle.steps.specs.declared.ask.After.TheVariants.{Done}
 use Rattle.steps.specs.declared.container.add.AddStage.TheVariants as adds
 use Rattle.steps.specs.declared.container.enums.ContainerAddFailure.TheVariants as add_failures
@@ -26,12 +26,15 @@ use Rattle.laws_robust.proofs.Invariant as set_invariant
 use Rattle.laws_robust.proofs.Knows as set_knows
 use Rattle.laws_robust.proofs.Stages as set_stages
 use Rattle.laws_container.proofs.Effects.{OwesStill}
-use Rattle.laws_container.proofs.Invariant.{Scene, Inv, ActsFor, of_set, inv_of_set}
+use Rattle.laws_container.proofs.Invariant.{Scene, Inv, ActsFor, of_set, inv_of_set, right_end}
 use Rattle.laws_container.proofs.SetSteps.{rest_set, wide_set, fills, grants}
 use Rattle.laws_container.proofs.Stages.{Call, IsUnderWay, all, done, Leads, none_lengthens, StepOf, party_then, goes_on}
 use Rattle.laws_container.proofs.Stages.{goes_calmly, ends, owes_none, was_well_formed}
 use Rattle.laws_container.proofs.CallProgress.{add_at}
-use Rattle.laws_container.proofs.Steps.{loads, end_does, ends_calmly}
+use Rattle.laws_container.proofs.Steps.{loads}
+use Rattle.laws_container.specs.Gone.{AnswersBy}
+use Rattle.steps.specs.declared.container.enums.ContainerAddFailure.{ContainerAddFailure}
+use Rattle.laws_container.proofs.Silent.{silently}
 
 -- an add by the party of the scene, for an owner that is not gone
 pub record Adding (T : Type 0) : Type 0 where
@@ -48,7 +51,7 @@ pub record Adding (T : Type 0) : Type 0 where
 module _ {T : Type 0} (adding : Adding T) (stage : AcquireStage)
     (here : IsUnderWay adding.scene (Add adding.value adding.owner) (add_at adding.scene.capacity adding.value adding.owner (adds.Acquires stage))) where
   open adding use {scene, inv, value, owner, fits, acts}
-  open adding.scene use {capacity as c, party as p, steps, backs}
+  open adding.scene use {capacity as c, party as p, steps, backs, events}
 
   abbrev ws : List ℕ
   ws = scene.words
@@ -83,54 +86,38 @@ module _ {T : Type 0} (adding : Adding T) (stage : AcquireStage)
     still : (y : Party T) → OwesStill scene y
     still y = owes_none scene y here refl
 
+    -- a step that leaves the words ends an add with this failure, where that answer is right and as the add has done
+    fails_with : (failure : ContainerAddFailure) (ask : Option Ask) (back : Bool) → words_after ws ask ≡ ws
+        → AnswersBy scene.terms.by (set_invariant.IsWorn scene.terms.by (words_after ws ask)) c events (Finished p (Container start) (NoPlace failure))
+        → HasDone start (NoPlace failure) (all scene) (done scene) → set_knows.IsPaid (set_stages.sees (of_set scene) ask back)
+        → FewEnd acquiring ask back → Leads scene start ask back scene.states [] (Done (NoPlace failure))
+    fails_with failure ask back same answers has_done paid few =
+        let party_after = party_then scene start ask back (Done (NoPlace failure)) in
+        let written : List (Event T) = Finished p (Container start) (NoPlace failure) ∷ [] in
+        let well_formed = was_well_formed scene start tt here.span (words_after ws ask) party_after written (refl, tt) in
+        ends scene (NoPlace failure) ask back here.span (record {
+          longer = none_lengthens;
+          does = silently call same (tt, tt) (refl, tt) well_formed (still party_after) (right_end scene answers (λ holds. tt));
+          follows = ((refl, has_done), tt);
+          few = omega arith;
+          paid = omega arith;
+        })
+
     -- an add whose acquire fails ends with that failure: the container is locked, or no index was free
     refuses : (failure : UniqueIndexSetAcquireFailure) (ask : Option Ask) (back : Bool)
         → words_after ws ask ≡ ws → WhyNot acquiring failure
         → set_knows.IsPaid (set_stages.sees (of_set scene) ask back)
         → FewEnd acquiring ask back → LeadsInAdd ask back [] (Done (Err failure))
-    -- the container is locked
-    refuses failures.IsLocked ask back same why paid few =
-        let party_after = party_then scene start ask back (Done (NoPlace add_failures.IsLocked)) in
-        let written : List (Event T) = Finished p (Container start) (NoPlace add_failures.IsLocked) ∷ [] in
-        let well_formed = was_well_formed scene start tt here.span (words_after ws ask) party_after written (refl, tt) in
-        ends scene (NoPlace add_failures.IsLocked) ask back here.span (record {
-          longer = none_lengthens;
-          does = ends_calmly call party_after (record {
-            set_does = end_does call party_after (set_effects.stays_same (of_set scene) (inv_of_set scene inv) (words_after ws ask) same).leaves
-                (quiet_end p (Container start) (NoPlace add_failures.IsLocked) (λ i o. refl) (λ i r. refl));
-            answers = why.0;
-            placed = λ holds. tt;
-            well_formed = well_formed;
-          })
-              same (λ i b. refl) (still party_after);
-          follows = ((refl, why.1), tt);
-          few = omega arith;
-          paid = omega arith;
-        })
+    refuses failures.IsLocked ask back same why paid few = fails_with add_failures.IsLocked ask back same why.0 why.1 paid few
     -- each index was filled, or the counter is at its end
     refuses failures.OutOfIndices ask back same why paid few =
-        let party_after = party_then scene start ask back (Done (NoPlace add_failures.OutOfSpace)) in
-        let written : List (Event T) = Finished p (Container start) (NoPlace add_failures.OutOfSpace) ∷ [] in
-        let well_formed = was_well_formed scene start tt here.span (words_after ws ask) party_after written (refl, tt) in
-        ends scene (NoPlace add_failures.OutOfSpace) ask back here.span (record {
-          longer = none_lengthens;
-          does = ends_calmly call party_after (record {
-            set_does = end_does call party_after (set_effects.stays_same (of_set scene) (inv_of_set scene inv) (words_after ws ask) same).leaves
-                (quiet_end p (Container start) (NoPlace add_failures.OutOfSpace) (λ i o. refl) (λ i r. refl));
-            answers = (
-              why.0,
-              ⊎_elim
-                  (λ worn. inl (set_invariant.worn_on scene.terms.by ws (words_after ws ask) (λ end. ap set_core.counter_of same ∙ end) worn))
-                  (λ all_filled. inr all_filled) why.1,
-            );
-            placed = λ holds. tt;
-            well_formed = well_formed;
-          })
-              same (λ i b. refl) (still party_after);
-          follows = ((refl, why.2), tt);
-          few = omega arith;
-          paid = omega arith;
-        })
+        fails_with add_failures.OutOfSpace ask back same (
+          why.0,
+          ⊎_elim
+              (λ worn. inl (set_invariant.worn_on scene.terms.by ws (words_after ws ask) (λ end. ap set_core.counter_of same ∙ end) worn))
+              (λ all_filled. inr all_filled) why.1,
+        )
+        why.2 paid few
 
     -- what the acquire of the set leads to as part of an add: one field for each kind of step of the acquire,
     -- for its grant, and for its failures

@@ -50,7 +50,7 @@ module _ {T : Type 0} where
       record {
         calls = calls;
         begins = λ scene g h free shut start named may. begins_shown scene g h free shut named may;
-        dies = λ terms code c words dead states latest events turns o g h alive. dies terms code c words dead states latest events turns o g h alive;
+        dies = dies;
         opens = λ terms code c coded some few. opens terms code c coded some few;
       }
 

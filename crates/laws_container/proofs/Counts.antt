@@ -4,11 +4,10 @@ use Rattle.laws_container.proofs.Names.{◌≡◌, ℕ, ◌+◌, ◌*◌, ◌≤
 use Rattle.laws_container.proofs.Names.{List, [], ◌∷◌, refl, ap, arith, Ask, After, GoOn, Counting, locked}
 use Rattle.laws_container.proofs.Names.{count_after, count_goes_back, went_on, Truth, Event, Finished, Container}
 use Rattle.laws_container.proofs.Names.{ContainerStart, CountOf, Party, most_steps, IsLength, Act, announced_after}
-use Rattle.laws_container.proofs.Names.{HasDone, IsFilled, SetAct, settled_after, filled_of, as_it_is, as_call}
-use Rattle.laws_container.proofs.Names.{old_of, words_after, step_count, counter_of, count_none, count_next, Stays}
-use Rattle.laws_container.proofs.Names.{both_ways, not_shut, unlocked, is_shut, stays_same, stays_raised, quiet_end}
-use Rattle.laws_container.proofs.Names.{count_ask, part_step, IsSaid, Right, right_after, count_number, CountAt}
-use Rattle.laws_container.proofs.Names.{GoneBy, IsWorn}
+use Rattle.laws_container.proofs.Names.{HasDone, SetAct, settled_after, as_it_is, as_call, old_of, words_after}
+use Rattle.laws_container.proofs.Names.{step_count, counter_of, Stays, both_ways, not_shut, unlocked, is_shut}
+use Rattle.laws_container.proofs.Names.{stays_same, stays_raised, quiet_end, count_ask, part_step, Right, right_after}
+use Rattle.laws_container.proofs.Names.{count_number, CountAt, GoneBy, IsWorn}
 use Rattle.steps.specs.declared.ask.After.TheVariants.{Done}
 use Rattle.steps.specs.declared.indices.robust.parts.Count.TheVariants as parts
 use Rattle.steps.specs.declared.indices.robust.parts.Counted.{Counted}
@@ -28,6 +27,7 @@ use Rattle.laws_container.proofs.SetStays.{moves, ends_there}
 use Rattle.laws_container.proofs.Stages.{Call, NoReplace, IsUnderWay, all, done, sees_now, StepOf, Leads, none_lengthens}
 use Rattle.laws_container.proofs.Stages.{party_then, backs_then, goes_calmly, ends, owes_none, was_well_formed}
 use Rattle.laws_container.proofs.CallProgress.{count_at, lock_at, At}
+use Rattle.laws_robust.proofs.Looks.{said}
 
 -- the name of each call that counts: `len` or `is_empty`
 abbrev pub counts_as : {T : Type 0} → CountOf → ContainerStart T
@@ -88,19 +88,6 @@ module _ {T : Type 0} {scene : Scene T} (inv : Inv scene) where
   abbrev ws : List ℕ
   ws = scene.words
 
-  -- what a count has found below an index: none before the first index, as many past an empty cell, and one
-  -- more past a filled one
-  said : IsSaid (of_set scene) (inv_of_set scene inv) (set_knows.Borrowed (set_stages.now (of_set scene)))
-  said =
-      record {
-        none = count_none p IsFilled events;
-        empty_next =
-            λ k filled below none counted. count_next IsFilled counted false (omega arith)
-            (λ e. absurd (cc)) (λ e some. one_filled (filled_of k events) none some);
-        filled_next =
-            λ k filled owner below is counted. count_next IsFilled counted true (omega arith) (λ e. ap is_some is) (λ e. absurd (cc));
-      }
-
   -- the call counts at the stage `count`, and has done nothing to the set
   module _ (which : CountOf) (count : Counting) (here : IsUnderWay scene (counts_as which) (count_at which c count))
       (stands : CountAt c count) (none : all scene ≡ []) (knows : Knows code c (count_at which c count) (sees_now scene))
@@ -149,7 +136,8 @@ module _ {T : Type 0} {scene : Scene T} (inv : Inv scene) where
     counts_move : counts_to (Some (count_ask count)) (count_goes_back count (old_of ws (Some (count_ask count))))
         (count_after c count (old_of ws (Some (count_ask count))))
     counts_move =
-        part_step (of_set scene) (inv_of_set scene inv) (set_knows.Borrowed (set_stages.now (of_set scene))) said counts_to count (record {
+        part_step (of_set scene) (inv_of_set scene inv) (set_knows.Borrowed (set_stages.now (of_set scene)))
+        (said (inv_of_set scene inv)) counts_to count (record {
           at = stands;
           paid = knows.paid;
           scanned = knows.scanned;

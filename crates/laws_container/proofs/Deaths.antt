@@ -84,7 +84,7 @@ module _ {T : Type 0} (terms : Terms) (code : Coding T) (c : ℕ) (words dead : 
   pub dies : Dies terms code c words dead states latest events turns o
   dies =
       record {
-        good = death_good terms.by c words dead events turns o g alive;
+        good = death_good o g alive;
         elements = elements_then;
         knows = λ q since changes backs flight k.
             still_knows
@@ -94,8 +94,8 @@ module _ {T : Type 0} (terms : Terms) (code : Coding T) (c : ℕ) (words dead : 
               latest_then = latest;
               es = es;
               changes_then = changes;
-              goes = death_goes terms.by c words dead events turns o g alive;
-              spares = death_spares terms.by c words dead events turns o g alive q;
+              goes = death_goes o g alive;
+              spares = death_spares o g alive q;
               seen = inl (refl, refl);
               passes = passes;
               leaves = leaves q;

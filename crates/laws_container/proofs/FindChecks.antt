@@ -1,21 +1,17 @@
 -- The last steps of a find at an index: it checks the number under which it has copied the element, and is
 -- told whether to go on. At last, any step of a find, and any decision that one waits for. What a step has to
 -- show is said by `StepOf` and `Leads` of `Stages`.
-use Rattle.laws_container.proofs.Names.{◌≡◌, ◌≢◌, ⊎_elim, ℕ, ◌+◌, ◌*◌, ◌≤◌, ◌==◌, if◌then◌else◌, Bool, false}
-use Rattle.laws_container.proofs.Names.{true, Option, Some, None, is_some, List, [], ◌∷◌, ◌++◌, set, refl, sym, ap}
-use Rattle.laws_container.proofs.Names.{subst, ◌∙◌, arith, cases_eq, nat_tests, set-get_or, Ask, After, GoOn}
-use Rattle.laws_container.proofs.Names.{FindStage, at_find, find_comes_to, count_word, went_on, Answer, Event}
-use Rattle.laws_container.proofs.Names.{Copied, ContainerStart, ContainerFlight, Copies, acts_of, contents_of}
-use Rattle.laws_container.proofs.Names.{IsFilledWith, SetAct, IsOneOf, as_it_is, read_in, as_call, words_after}
-use Rattle.laws_container.proofs.Names.{held_later, times_below, count_later, through_less, exchanges, exchange_sets}
-use Rattle.laws_container.proofs.Names.{fails_same}
+use Rattle.laws_container.proofs.Names.{◌≡◌, ◌≢◌, ⊎_elim, ℕ, ◌+◌, ◌*◌, ◌≤◌, ◌==◌, if◌then◌else◌, Bool, false, true}
+use Rattle.laws_container.proofs.Names.{Option, Some, None, is_some, List, [], ◌∷◌, ◌++◌, set, refl, sym, ap, subst}
+use Rattle.laws_container.proofs.Names.{◌∙◌, arith, cases_eq, nat_tests, set-get_or, Ask, GoOn, FindStage, at_find}
+use Rattle.laws_container.proofs.Names.{find_comes_to, count_word, Event, Copied, ContainerStart, Copies, acts_of}
+use Rattle.laws_container.proofs.Names.{contents_of, IsFilledWith, SetAct, IsOneOf, read_in, words_after, held_later}
+use Rattle.laws_container.proofs.Names.{times_below, count_later, through_less, exchanges, exchange_sets, fails_same}
+use Rattle.laws_container.proofs.Names.{still_one, last_one}
 use Rattle.steps.specs.declared.ask.After.TheVariants.{Done}
-use Rattle.steps.specs.declared.container.find.Find as find_calls
 use Rattle.steps.specs.declared.container.find.FindStage.TheVariants as finds
 use Rattle.steps.specs.declared.copied.Buffer as buffers
-use Rattle.model.specs.declared.event.Answer.TheVariants as answers
 use Rattle.model.specs.declared.families.container.ContainerStart.TheVariants.{Find}
-use Rattle.model.specs.declared.families.container.calls.ContainerFlight.TheVariants as calls
 use Rattle.laws_container.proofs.Copies.{copied_value}
 use Rattle.laws_container.proofs.Invariant.{before}
 use Rattle.laws_container.proofs.Knows.{View, FindKnows, Knows}
@@ -25,8 +21,9 @@ use Rattle.laws_container.proofs.Stages.{acts_more, goes_on}
 use Rattle.laws_container.proofs.Stages.{owes_none, was_well_formed}
 use Rattle.laws_container.proofs.CallProgress.{find_at, find_number, FindAt}
 use Rattle.laws_container.proofs.Turns.{count_in}
-use Rattle.laws_container.proofs.Finds.{Finding, IsAtStage, as_given, below_more, cell_step, comes_to_next, count_step, ends_there, found_past}
-use Rattle.laws_container.proofs.Finds.{has_last, has_more, seen_more, then_at, word_step}
+use Rattle.laws_container.proofs.Finds.{Finding, IsAtStage, as_given, below_more, cell_step, comes_to_next}
+use Rattle.laws_container.proofs.Finds.{count_step, ends_there, found_past, seen_more, then_at}
+use Rattle.laws_container.proofs.Finds.{word_step, as_find, first}
 use Rattle.laws_robust.proofs.Cases.{on_bool}
 
 -- the steps of one find, whose party sees `v` of the machine
@@ -45,13 +42,6 @@ module _ {T : Type 0} (finding : Finding T) where
 
   abbrev v : View T
   v = sees_now scene
-
-  -- how the find goes on, as a call of the container
-  abbrev as_find : buffers.Buffer 128 → After (find_calls.Find T (buffers.Buffer 128)) ℕ → After (ContainerFlight T) (Answer T)
-  as_find room a = as_call calls.Find answers.Number (went_on as_it_is owner room a)
-
-  abbrev first : find_calls.Find T (buffers.Buffer 128)
-  first = record { capacity = c; stage = finds.LoadsCell 0 0; of = record {} }
 
   -- ---- its number is checked
 
@@ -130,11 +120,11 @@ module _ {T : Type 0} (finding : Finding T) where
                           ⊎_elim (λ e. (
                             value,
                             subst (λ n. IsOneOf (Copies n value) (acts_of p (events ++ copying))) (sym e)
-                                (subst (IsOneOf (Copies k value)) (sym acts_then) (has_last (Copies k value) (done scene))),
+                                (subst (IsOneOf (Copies k value)) (sym acts_then) (last_one (Copies k value) (done scene))),
                           ))
                           (λ ne.
                           let had = g.copied i (omega arith) chosen (through_less p (λ part. is_some (contents_of i part) ≡ true) events copying tt through) in
-                          (had.0, subst (IsOneOf (Copies i had.0)) (sym acts_then) (has_more (Copies i had.0) (done scene) (Copies k value ∷ []) had.1)))
+                          (had.0, subst (IsOneOf (Copies i had.0)) (sym acts_then) (still_one (Copies i had.0) (done scene) (Copies k value ∷ []) had.1)))
                           (cases_eq i k);
                     },
               ),
@@ -144,7 +134,7 @@ module _ {T : Type 0} (finding : Finding T) where
         })
 
     -- a find whose check finds another number passes the index without a copy
-    fails : count_now ≢ count → Leads scene start check_it false scene.states [] (as_find here.room (find_comes_to first (k + 1) found))
+    fails : count_now ≢ count → Leads scene start check_it false scene.states [] (as_find finding here.room (find_comes_to (first finding) (k + 1) found))
     fails other =
         comes_to_next finding here knows.2.room k found check_it (record {
           same = fails_same ws (count_word c k) count count other;
@@ -162,7 +152,7 @@ module _ {T : Type 0} (finding : Finding T) where
     check_step =
         on_bool (λ b. Leads scene start (Some (exchanges (count_word c k) count count)) false scene.states
         ((if b then Copied p k (read_in code here.room) ∷ [] else []) ++ [])
-        (as_find here.room (if b then GoOn (at_find first (finds.Asks k found)) else find_comes_to first (k + 1) found)))
+        (as_find finding here.room (if b then GoOn (at_find (first finding) (finds.Asks k found)) else find_comes_to (first finding) (k + 1) found)))
         (count_now == count)
         (λ t. let same_count : count_now ≡ count = grind (arith, nat_tests) in copies same_count)
         (λ t. let other : count_now ≢ count = grind (arith, nat_tests) in fails other)
@@ -187,7 +177,8 @@ module _ {T : Type 0} (finding : Finding T) where
       at_question = is_at room (finds.Asks k found) here stands.0
 
       -- the cases are whether the find was told no
-      go : (b : Bool) → Leads scene start None false scene.states [] (as_find room (if b then Done found else find_comes_to first (k + 1) found))
+      go : (b : Bool) → Leads scene start None false scene.states []
+          (as_find finding room (if b then Done found else find_comes_to (first finding) (k + 1) found))
       go true = let all_of = times_below c k (z + 3) stands.1 in
           let below = stands.1 in
           ends_there finding at_question None refl (k + 1) found (omega arith) knows.1.0.0 (omega arith) knows.1.0.1

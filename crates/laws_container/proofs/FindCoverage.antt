@@ -3,18 +3,15 @@
 -- index that it counted.
 use Rattle.laws_container.proofs.Names.{◌≡◌, ◌≢◌, ℕ, ◌+◌, ◌==◌, ◌<◌, ◌≤◌, if◌then◌else◌, nat_lt, Bool, true, false}
 use Rattle.laws_container.proofs.Names.{Option, Some, None, is_none, is_some, List, [], ◌∷◌, ◌++◌, refl, sym, ap}
-use Rattle.laws_container.proofs.Names.{subst, ◌∙◌, arith, nat_tests, After, GoOn, FindStage}
-use Rattle.laws_container.proofs.Names.{at_find, find_comes_to, is_even, empty, one_more, went_on, Answer, Number}
-use Rattle.laws_container.proofs.Names.{Event, Finished, Start, Container, Flight, Registry, ContainerStart}
-use Rattle.laws_container.proofs.Names.{ContainerFlight, Doing, Going, Over, Party, Turn, Begin}
-use Rattle.laws_container.proofs.Names.{Next, Decide, Die, Coding, want_of, ask_of, is_question, beside_of, step_of}
-use Rattle.laws_container.proofs.Names.{want, after, IsFoundWhole, question_in, contents_of, state_of}
-use Rattle.laws_container.proofs.Names.{effects, questions, IsFilledWith, IsCount, as_it_is, read_in, party_of, put}
-use Rattle.laws_container.proofs.Names.{doing_of, flight_of, IsParty, is_due, call_refusal, as_call, answer_in}
-use Rattle.laws_container.proofs.Names.{old_of, number_of, after_next, after_decision, after_answer, events_of_step}
-use Rattle.laws_container.proofs.Names.{events_of_answer, events_of_next, events_of_decision, events_of, ask_of_doing}
-use Rattle.laws_container.proofs.Names.{after_turn, Trace, flight_in, row_passed, StandsThere, stands_there, cell}
-use Rattle.laws_container.proofs.Names.{both_ways, through_now}
+use Rattle.laws_container.proofs.Names.{subst, ◌∙◌, arith, nat_tests, After, GoOn, FindStage, at_find, find_comes_to}
+use Rattle.laws_container.proofs.Names.{is_even, empty, one_more, went_on, Answer, Number, Event, Finished, Start}
+use Rattle.laws_container.proofs.Names.{Container, Flight, Registry, ContainerStart, ContainerFlight, Going, Party}
+use Rattle.laws_container.proofs.Names.{Turn, Begin, Next, Decide, Die, Coding, want_of, ask_of, is_question}
+use Rattle.laws_container.proofs.Names.{beside_of, step_of, want, after, IsFoundWhole, question_in, contents_of}
+use Rattle.laws_container.proofs.Names.{state_of, effects, questions, IsFilledWith, IsCount, as_it_is, read_in}
+use Rattle.laws_container.proofs.Names.{party_of, put, IsParty, is_due, call_refusal, as_call, answer_in, old_of}
+use Rattle.laws_container.proofs.Names.{number_of, events_of_step, events_of, after_turn, flight_in, row_passed}
+use Rattle.laws_container.proofs.Names.{StandsThere, stands_there, cell, both_ways, through_now}
 use Rattle.steps.specs.declared.ask.After.TheVariants.{Done}
 use Rattle.steps.specs.declared.container.find.Find as find_calls
 use Rattle.steps.specs.declared.container.find.FindStage.TheVariants as finds
@@ -22,20 +19,20 @@ use Rattle.steps.specs.declared.copied.Buffer as buffers
 use Rattle.model.specs.declared.families.Flight.TheVariants as flights
 use Rattle.model.specs.declared.families.container.ContainerStart.TheVariants.{Find}
 use Rattle.model.specs.declared.families.container.calls.ContainerFlight.TheVariants as calls
-use Rattle.model.proofs.Frame as frame
 use Rattle.laws_robust.proofs.FindCoverage.{IsEnd, ends_alone}
 use Rattle.laws_container.proofs.Finds.{Finding, nothing_stands, none_counts, found_none, found_past}
 use Rattle.laws_container.proofs.Invariant.{Scene, Inv, before, family_by}
 use Rattle.laws_container.proofs.Knows.{HasFoundBelow, Knows}
 use Rattle.laws_container.proofs.WellFormed.{IsWellFormedSoFar}
-use Rattle.laws_container.proofs.Sound.{MayGoOn, Shown, SoundRun, kept_now, scene_of, inv_with, is_there}
+use Rattle.laws_container.proofs.Sound.{SoundRun, kept_now, scene_of, inv_with, is_there}
 use Rattle.laws_container.proofs.Stages.{IsUnderWay, all, done, sees_now, any_call, was_well_formed}
 use Rattle.laws_container.proofs.CallProgress.{find_at, At, FindAt}
-use Rattle.laws_container.proofs.Terms.{Terms}
 use Rattle.laws_container.proofs.Turns.{WellFormed, count_in}
 use Rattle.laws_container.proofs.Writing.{even_is}
 use Rattle.laws_container.proofs.Written.{all_effects}
 use Rattle.laws_container.proofs.Allowed.{IsAllowed}
+use Rattle.laws_robust.proofs.OneTurn.{by_next, by_decision}
+use Rattle.laws_robust.proofs.Cases.{by_bool}
 
 -- ---- a find that ends
 
@@ -215,17 +212,14 @@ module _ {T : Type 0} where
 
 -- the call of party `q` is handed this answer, and party `p` may so have ended a find of this owner with this number
 pub record Handed (T : Type 0) : Type 0 where
-  pub shown : Shown T
-  pub terms : Terms
-  pub code : Coding T
-  pub c : ℕ
-  pub t : Trace T
-  pub s : frame.Sound (family_by terms code c) t
+  -- the run so far, which is sound and may go on
+  pub run : SoundRun T
+  -- the party of the turn, as the machine has it
   pub q : ℕ
   pub x : Party T
   pub since : ℕ
-  pub may : MayGoOn terms t
-  pub found : party_of q t.world.latest ≡ Some x
+  pub found : party_of q run.trace.world.latest ≡ Some x
+  -- the turn, the answer that it gives the party's call, and the find whose end is looked for
   pub turn : Turn T
   pub mine : IsParty turn q
   pub answer : ℕ
@@ -234,7 +228,11 @@ pub record Handed (T : Type 0) : Type 0 where
   pub number : ℕ
 
 module _ {T : Type 0} (handed : Handed T) where
-  open handed use {shown, terms, code, c, t, s, q, x, since, may, found, turn, mine, answer, p, owner, number}
+  open handed use {run, q, x, since, found, turn, mine, answer, p, owner, number}
+  open handed.run use {shown, terms, code, trace as t, sound as s, may}
+
+  abbrev c : ℕ
+  c = t.world.capacity
 
   abbrev scene : Scene T
   scene = scene_of shown terms code c t s q x since
@@ -350,28 +348,19 @@ module _ {T : Type 0} (handed : Handed T) where
 
 -- party `p` has the find for `owner`, whose answer may be `number`
 module _ {T : Type 0} (run : SoundRun T) (p owner number : ℕ) where
-  open run use {shown, terms, code, trace as t, sound as s, may as may_go}
-
-  abbrev c : ℕ
-  c = t.world.capacity
+  open run use {terms, trace as t}
 
   abbrev WroteOnlyEnd : List (Event T) → Type 0
   WroteOnlyEnd es = es ≡ Finished p (Container (Find owner)) (Number number) ∷ []
 
   -- the record `Handed` of this step of the call of party `q`
-  abbrev handed : (q : ℕ) {x : Party T} → MayGoOn terms t → party_of q t.world.latest ≡ Some x → ℕ → (turn : Turn T) → IsParty turn q → ℕ → Handed T
-  handed q {x} may found since turn mine answer =
+  abbrev handed : (q : ℕ) {x : Party T} → party_of q t.world.latest ≡ Some x → ℕ → (turn : Turn T) → IsParty turn q → ℕ → Handed T
+  handed q {x} found since turn mine answer =
       record {
-        shown = shown;
-        terms = terms;
-        code = code;
-        c = c;
-        t = t;
-        s = s;
+        run = run;
         q = q;
         x = x;
         since = since;
-        may = may;
         found = found;
         turn = turn;
         mine = mine;
@@ -389,68 +378,39 @@ module _ {T : Type 0} (run : SoundRun T) (p owner number : ℕ) where
       → IsFoundWhole p owner bound number t.events)
 
   -- a step that wrote only that the find is done tells that the find has counted the whole container
-  next_tells : (q : ℕ) → MayGoOn terms t → is_due t.world.coding (flight_in t.world q) ≡ false
-      → (o : Option (Party T)) → party_of q t.world.latest ≡ o → WroteOnlyEnd (events_of_next t.world q o)
-      → TellsCount c (after_next t.world q o).latest
-  next_tells q may free None found ended = absurd (cc)
-  next_tells q may free (Some x) found ended = go x.doing refl ended
-    where
-      -- the cases are whether the party's call is over or under way
-      go : (doing : Doing T) → x.doing ≡ doing → WroteOnlyEnd (events_of_answer t.world q x (old_of t.world.words (ask_of_doing t.world.coding doing)) doing)
-          → TellsCount c (after_answer t.world q x (ask_of_doing t.world.coding doing) (old_of t.world.words (ask_of_doing t.world.coding doing)) doing).latest
-      go (Over others) same_doing ended = absurd (cc)
-      go (Going flight since) same_doing ended =
-          let here : flight_in t.world q ≡ Some flight = ap (λ o. flight_of (doing_of o)) found ∙ ap (λ d. flight_of (Some d)) same_doing in
-          let h =
-          all_counted (handed q may found since (Next q) refl (old_of t.world.words (ask_of (want_of t.world.coding flight))))
-          flight same_doing ended false
-          (λ told. absurd (cc)) (rw here at free) (λ no. refl) in
-          (h.count, h.whole _)
+  next_tells : (q : ℕ) → is_due t.world.coding (flight_in t.world q) ≡ false
+      → WroteOnlyEnd (events_of t.world (Next q)) → TellsCount t.world.capacity (after_turn t (Next q)).world.latest
+  next_tells q free =
+      by_next t.world q (λ w es. WroteOnlyEnd es → TellsCount t.world.capacity w.latest) (λ ended. absurd (cc)) (λ x flight since has ended.
+      let h =
+      all_counted (handed q has.found since (Next q) refl (old_of t.world.words (ask_of (want_of t.world.coding flight))))
+      flight has.doing ended false (λ told. absurd (cc)) (rw has.here at free) (λ no. refl) in
+      (h.count, h.whole _))
 
   -- a decision other than a no to the find's party, which wrote only the end of the find,
   -- tells that all is counted
-  decision_tells : (q : ℕ) (said : Bool) → MayGoOn terms t → is_due t.world.coding (flight_in t.world q) ≡ true
-      → ◌≢◌ {A = Turn T} (Decide q said) (Decide p false) → (o : Option (Party T)) → party_of q t.world.latest ≡ o
-      → WroteOnlyEnd (events_of_decision t.world q said o)
-      → TellsCount c (after_decision t.world q said o).latest
-  decision_tells q said may due ne None found ended = absurd (cc)
-  decision_tells q said may due ne (Some x) found ended = go x.doing refl ended
-    where
-      go : (doing : Doing T) → x.doing ≡ doing → WroteOnlyEnd (events_of_answer t.world q x (number_of said) doing)
-          → TellsCount c (after_answer t.world q x None (number_of said) doing).latest
-      go (Over others) same_doing ended = absurd (cc)
-      go (Going flight since) same_doing ended = by said refl
-        where
-          -- the cases are whether the decision was yes
-          by : (b : Bool) → said ≡ b → TellsCount c (after_answer t.world q x None (number_of said) (Going flight since)).latest
-          by true said_test =
-              let here : flight_in t.world q ≡ Some flight =
-              ap (λ o. flight_of (doing_of o)) found ∙ ap (λ d. flight_of (Some d)) same_doing in
-              let h =
-              all_counted (handed q may found since (Decide q said) refl (number_of said)) flight same_doing ended true
-              (λ told zero. let one : number_of said ≡ 1 = ap number_of said_test in absurd (omega arith)) (rw here at due)
-              (λ no. absurd (cc)) in
-              (h.count, h.whole _)
-          by false said_test =
-              let party = own_party (handed q may found since (Decide q said) refl (number_of said)) flight same_doing ended in
-              absurd (ne (ap (λ n. Decide n said) party ∙ ap (λ b. Decide p b) said_test))
+  decision_tells : (q : ℕ) (said : Bool) → is_due t.world.coding (flight_in t.world q) ≡ true
+      → ◌≢◌ {A = Turn T} (Decide q said) (Decide p false)
+      → WroteOnlyEnd (events_of t.world (Decide q said)) → TellsCount t.world.capacity (after_turn t (Decide q said)).world.latest
+  decision_tells q said due ne =
+      by_decision t.world q (λ w es. WroteOnlyEnd es → TellsCount t.world.capacity w.latest) (λ ended. absurd (cc)) said (λ x flight since has ended.
+      let answered = handed q has.found since (Decide q said) refl (number_of said) in
+      by_bool said
+      (λ said_is.
+      let h =
+      all_counted answered flight has.doing ended true
+      (λ told zero. let one : number_of said ≡ 1 = ap number_of said_is in absurd (omega arith)) (rw has.here at due) (λ no. absurd (cc)) in
+      (h.count, h.whole _))
+      (λ said_is. absurd (ne (ap (λ n. Decide n said) (own_party answered flight has.doing ended) ∙ ap (λ b. Decide p b) said_is))))
 
   -- a no about an index that wrote only that the find is done tells that the indices up to it are counted
-  pub stop_tells : {index : ℕ} {value : T} → MayGoOn terms t → (o : Option (Party T)) → party_of p t.world.latest ≡ o
-      → question_in t.world.coding (flight_of (doing_of o)) ≡ Some (index, value)
-      → WroteOnlyEnd (events_of_decision t.world p false o) → TellsCount (index + 1) (after_decision t.world p false o).latest
-  stop_tells may None found asks ended = absurd (cc)
-  stop_tells {index} {value} may (Some x) found asks ended = go x.doing refl asks ended
-    where
-      -- the cases are whether the party's call is over or under way
-      go : (doing : Doing T) → x.doing ≡ doing
-          → question_in t.world.coding (flight_of (Some doing)) ≡ Some (index, value)
-          → WroteOnlyEnd (events_of_answer t.world p x (number_of false) doing)
-          → TellsCount (index + 1) (after_answer t.world p x None (number_of false) doing).latest
-      go (Over others) same_doing asks ended = absurd (cc)
-      go (Going flight since) same_doing asks ended =
-          let h = all_stopped (handed p may found since (Decide p false) refl (number_of false)) flight same_doing ended index value refl asks in
-          (h.count, h.whole _)
+  pub stop_tells : {index : ℕ} {value : T} → question_in t.world.coding (flight_in t.world p) ≡ Some (index, value)
+      → WroteOnlyEnd (events_of t.world (Decide p false)) → TellsCount (index + 1) (after_turn t (Decide p false)).world.latest
+  stop_tells {index} {value} asks =
+      by_decision t.world p (λ w es. WroteOnlyEnd es → TellsCount (index + 1) w.latest) (λ ended. absurd (cc)) false (λ x flight since has ended.
+      let asks_so : question_in t.world.coding (Some flight) ≡ Some (index, value) = rw has.here at asks in
+      let h = all_stopped (handed p has.found since (Decide p false) refl (number_of false)) flight has.doing ended index value refl asks_so in
+      (h.count, h.whole _))
 
   -- a step is refused to a party that waits for a decision
   not_due : (q : ℕ) → call_refusal t.world (Next q) ≡ None → is_due t.world.coding (flight_in t.world q) ≡ false
@@ -458,10 +418,9 @@ module _ {T : Type 0} (run : SoundRun T) (p owner number : ℕ) where
 
   -- a turn other than a no to the find's party, which wrote only the end of the find,
   -- tells that all is counted
-  pub tells : MayGoOn terms t → (turn : Turn T) → IsAllowed t.world turn → WroteOnlyEnd (events_of t.world turn)
-      → turn ≢ Decide p false → TellsCount c (after_turn t turn).world.latest
-  tells may (Begin q start) allowed ended ne = absurd (cc)
-  tells may (Next q) allowed ended ne = next_tells q may (not_due q allowed) (party_of q t.world.latest) refl ended
-  tells may (Decide q said) allowed ended ne =
-      decision_tells q said may allowed ne (party_of q t.world.latest) refl ended
-  tells may (Die o) allowed ended ne = absurd (cc)
+  pub tells : (turn : Turn T) → IsAllowed t.world turn → WroteOnlyEnd (events_of t.world turn)
+      → turn ≢ Decide p false → TellsCount t.world.capacity (after_turn t turn).world.latest
+  tells (Begin q start) allowed ended ne = absurd (cc)
+  tells (Next q) allowed ended ne = next_tells q (not_due q allowed) ended
+  tells (Decide q said) allowed ended ne = decision_tells q said allowed ne ended
+  tells (Die o) allowed ended ne = absurd (cc)

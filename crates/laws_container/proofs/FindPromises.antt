@@ -1,7 +1,6 @@
 -- What a find has counted when a turn ends it, as the promise says it.
-use Rattle.laws_container.proofs.Names.{◌≡◌, ◌≢◌, ℕ, ◌+◌, false, Some, [], ◌∷◌, ◌++◌, refl, sym, subst}
-use Rattle.laws_container.proofs.Names.{append_cancel_left, Number, Finished, Container, Turn, Decide, question_at}
-use Rattle.laws_container.proofs.Names.{party_of, events_of, after_turn}
+use Rattle.laws_container.proofs.Names.{◌≡◌, ◌≢◌, ℕ, ◌+◌, false, Some, [], ◌∷◌, ◌++◌, sym, subst, append_cancel_left}
+use Rattle.laws_container.proofs.Names.{Number, Finished, Container, Turn, Decide, question_at, events_of, after_turn}
 use Rattle.model.specs.declared.families.container.ContainerStart.TheVariants.{Find}
 use Rattle.laws_container.proofs.WellFormed.{IsWellFormedSoFar}
 use Rattle.laws_container.proofs.Sound.{SoundRun}
@@ -18,7 +17,7 @@ pub record TurnIf {T : Type 0} (run : SoundRun T) : Type 1 where
   pub so_far : well_formed → IsWellFormedSoFar run.terms (after_turn run.trace turn).world.latest (after_turn run.trace turn).events
 
 module _ {T : Type 0} (run : SoundRun T) (taken : TurnIf run) where
-  open run use {terms, trace as t, may}
+  open run use {terms, trace as t}
   open taken use {turn, allowed as r, well_formed, so_far}
 
   -- what the turn tells of the find's count is the count of the promise `CountsIf`
@@ -37,7 +36,7 @@ module _ {T : Type 0} (run : SoundRun T) (taken : TurnIf run) where
       → turn ≢ Decide p false → CountsIf well_formed p owner t.world.capacity number t.events
   counts_all p owner number split_so ne =
       right p owner number t.world.capacity split_so
-      (tells run p owner number may turn r (append_cancel_left t.events (events_of t.world turn) _ split_so) ne)
+      (tells run p owner number turn r (append_cancel_left t.events (events_of t.world turn) _ split_so) ne)
 
   -- a find that a no about an index ends has counted the indices up to that one right
   pub counts_up_to : (p owner number : ℕ) {index : ℕ} {value : T}
@@ -47,6 +46,6 @@ module _ {T : Type 0} (run : SoundRun T) (taken : TurnIf run) where
   counts_up_to p owner number {index} split_so stops asks =
       right p owner number (index + 1) split_so
       (subst (λ u. TellsCount run p owner number (index + 1) (after_turn t u).world.latest) (sym stops)
-      (stop_tells run p owner number may (party_of p t.world.latest) refl asks
+      (stop_tells run p owner number asks
       (subst (λ u. events_of t.world u ≡ Finished p (Container (Find owner)) (Number number) ∷ []) stops
       (append_cancel_left t.events (events_of t.world turn) _ split_so))))

@@ -2,17 +2,16 @@
 -- and, under an odd one, copies the value, checks the number by an exchange for itself, and asks its caller
 -- whether to go on. What a step has to show is said by `StepOf` and `Leads` of `Stages`.
 use Rattle.laws_container.proofs.Names.{◌≡◌, ◌≢◌, ⊎_elim, ℕ, ◌+◌, ◌*◌, ◌%◌, ◌<◌, ◌≤◌, ◌==◌, if◌then◌else◌, nat_lt}
-use Rattle.laws_container.proofs.Names.{Bool, false, true, Option, Some, is_some, List, [], ◌∷◌, ◌++◌, suc}
-use Rattle.laws_container.proofs.Names.{refl, sym, ap, subst, ◌∙◌, append-nil, append_assoc, arith, AllByRecursion}
-use Rattle.laws_container.proofs.Names.{cases_eq, nat_tests, length-set, flat_map-append, Ask, After, GoOn, FindStage}
-use Rattle.laws_container.proofs.Names.{at_find, find_comes_to, count_word, element_word, is_even, cell_word, empty}
-use Rattle.laws_container.proofs.Names.{one_more, went_on, Answer, Event, Finished, Container, ContainerStart}
-use Rattle.laws_container.proofs.Names.{ContainerFlight, Party, Coding, IsOneOf, Act, index_seen, seen_in}
-use Rattle.laws_container.proofs.Names.{contents_of, cell_of, count_below, IsFilledWith, IsCount, as_it_is, kept_at}
-use Rattle.laws_container.proofs.Names.{as_call, words_after, step_count, held_now, cell, times_below}
-use Rattle.laws_container.proofs.Names.{count_next, count_within, chosen_with, with_here, with_there, count_with}
-use Rattle.laws_container.proofs.Names.{still_once, still_through, all_so, both_ways, filled_by, through_now}
-use Rattle.laws_container.proofs.Names.{loads_same}
+use Rattle.laws_container.proofs.Names.{Bool, false, true, Option, Some, is_some, List, [], ◌∷◌, ◌++◌, suc, refl, sym}
+use Rattle.laws_container.proofs.Names.{ap, subst, ◌∙◌, append-nil, arith, cases_eq, nat_tests, length-set}
+use Rattle.laws_container.proofs.Names.{flat_map-append, Ask, After, GoOn, FindStage, at_find, find_comes_to}
+use Rattle.laws_container.proofs.Names.{count_word, element_word, is_even, cell_word, empty, one_more, went_on}
+use Rattle.laws_container.proofs.Names.{Answer, Event, Finished, Container, ContainerStart, ContainerFlight, Party}
+use Rattle.laws_container.proofs.Names.{Coding, Act, index_seen, seen_in, contents_of, cell_of, count_below}
+use Rattle.laws_container.proofs.Names.{IsFilledWith, IsCount, as_it_is, kept_at, as_call, words_after, step_count}
+use Rattle.laws_container.proofs.Names.{held_now, cell, times_below, count_next, count_within, chosen_with, with_here}
+use Rattle.laws_container.proofs.Names.{with_there, count_with, still_once, still_through, all_so, both_ways}
+use Rattle.laws_container.proofs.Names.{filled_by, through_now, loads_same, all_both}
 use Rattle.steps.specs.declared.ask.After.TheVariants.{Done}
 use Rattle.steps.specs.declared.container.find.Find as find_calls
 use Rattle.steps.specs.declared.container.find.FindStage.TheVariants as finds
@@ -38,11 +37,6 @@ use Rattle.laws_robust.proofs.Cases.{on_bool}
 
 -- ---- what a find has seen and done
 
--- what holds of each element of two lists holds of each element of the joined list
-pub all_both : (P : ℕ → Type 0) (xs ys : List ℕ) → AllByRecursion P xs → AllByRecursion P ys → AllByRecursion P (xs ++ ys)
-all_both P [] ys all_are all_hold = all_hold
-all_both P (x ∷ xs) ys all_are all_hold = (all_are.0, all_both P xs ys all_are.1 all_hold)
-
 -- indices below a bound are below a larger one
 pub below_more : (n m : ℕ) (xs : List ℕ) → n ≤ m → AreBelow n xs → AreBelow m xs
 below_more n m xs few are_below = all_so (λ i. i < n) (λ i. i < m) xs (λ i less. omega arith) are_below
@@ -51,12 +45,6 @@ module _ {T : Type 0} where
   -- one act more, at an index below the bound, leaves all that a find has seen below the bound
   pub seen_more : (n : ℕ) (all : List (Act T)) (one : Act T) → AreBelow n (seen_in all) → AreBelow n (index_seen one) → AreBelow n (seen_in (all ++ one ∷ []))
   seen_more = grind (arith, flat_map-append, append-nil, all_both)
-
-  pub has_more : (one : Act T) (acts more : List (Act T)) → IsOneOf one acts → IsOneOf one (acts ++ more)
-  has_more = grind (arith, before, append_assoc)
-
-  pub has_last : (one : Act T) (all : List (Act T)) → IsOneOf one (all ++ one ∷ [])
-  has_last one all = record { before = all; after = []; is = refl }
 
   -- under an even number nothing stands
   pub nothing_stands : (code : Coding T) (c : ℕ) (words : List ℕ) (i : ℕ) (o : Option T) → WordsShow code c words i o
@@ -91,10 +79,10 @@ module _ {T : Type 0} (finding : Finding T) where
   v = sees_now scene
 
   -- how the find goes on, as a call of the container
-  abbrev as_find : buffers.Buffer 128 → After (find_calls.Find T (buffers.Buffer 128)) ℕ → After (ContainerFlight T) (Answer T)
+  abbrev pub as_find : buffers.Buffer 128 → After (find_calls.Find T (buffers.Buffer 128)) ℕ → After (ContainerFlight T) (Answer T)
   as_find room a = as_call calls.Find answers.Number (went_on as_it_is owner room a)
 
-  abbrev first : find_calls.Find T (buffers.Buffer 128)
+  abbrev pub first : find_calls.Find T (buffers.Buffer 128)
   first = record { capacity = c; stage = finds.LoadsCell 0 0; of = record {} }
 
   -- what the find has counted below `bound` is `number`

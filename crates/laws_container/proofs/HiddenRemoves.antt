@@ -97,11 +97,11 @@ module _ {T : Type 0} (removing : Removing T) where
   start = Remove index owner mode
 
   -- the remove as a call at this stage
-  abbrev at_stage : RemoveStage → ContainerFlight T
+  abbrev pub at_stage : RemoveStage → ContainerFlight T
   at_stage stage = remove_at c index owner mode stage
 
   -- the party's call under way is this remove, at this stage
-  abbrev IsAtStage : RemoveStage → Type 0
+  abbrev pub IsAtStage : RemoveStage → Type 0
   IsAtStage stage = IsUnderWay scene (Remove index owner mode) (remove_at c index owner mode stage)
 
   -- the remove at this stage, as a call of the container
@@ -113,10 +113,10 @@ module _ {T : Type 0} (removing : Removing T) where
   freeing stage here = record { scene = scene; inv = inv; start = start; no_replace = tt; span = here.span; owner = owner }
 
   -- the party after the step by which the remove comes to stage `next`
-  abbrev then_at : RemoveStage → Option Ask → Bool → Party T
+  abbrev pub then_at : RemoveStage → Option Ask → Bool → Party T
   then_at next ask back = party_then scene start ask back (GoOn (at_stage next))
 
-  given_is : ◌≡◌ {A = GiveBack} (record { index = index; owner = owner; mode = mode }) (record { index = place_of c index; owner = owner; mode = mode })
+  pub given_is : ◌≡◌ {A = GiveBack} (record { index = index; owner = owner; mode = mode }) (record { index = place_of c index; owner = owner; mode = mode })
   given_is = grind (arith, place_is)
 
   -- the step turns back no loop, so the steps that are allowed stay the same

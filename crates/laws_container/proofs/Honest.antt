@@ -3,15 +3,14 @@
 use Rattle.laws_container.proofs.Names.{◌≡◌, ◌⊎◌, ⊎_elim, inl, inr, ℕ, Bool, true, false, Option, Some, None, IfSome}
 use Rattle.laws_container.proofs.Names.{List, [], ◌∷◌, ◌++◌, refl, sym, ap, subst, ◌∙◌, append_assoc, append-nil}
 use Rattle.laws_container.proofs.Names.{arith, AllByRecursion, fold-append, ReleaseMode, Answer, Event, Begun, Start}
-use Rattle.laws_container.proofs.Names.{Container, Flight, Registry, ContainerStart, ContainerFlight, Doing, Going}
-use Rattle.laws_container.proofs.Names.{Over, Party, Turn, Begin, Next, Decide, Die, Coding, want_of, is_question}
-use Rattle.laws_container.proofs.Names.{beside_of, step_of, want, after, promise, Act, may_stand, state_of, effects}
-use Rattle.laws_container.proofs.Names.{questions, SetAct, party_of, doing_of, flight_of, Stands, StandsRight}
-use Rattle.laws_container.proofs.Names.{IsEffectOf, Each, Span, Open, whose, own_after, span_of, is_due, answer_in}
-use Rattle.laws_container.proofs.Names.{old_of, number_of, ask_of_doing, ending_of, events_of_step, events_of_answer}
-use Rattle.laws_container.proofs.Names.{events_of_next, events_of_decision, after_turn, Trace, flight_in, AreRight}
-use Rattle.laws_container.proofs.Names.{Each-append, Each-less, span_of-own, StandsThere, stands_there, Word, gone_after}
-use Rattle.laws_container.proofs.Names.{is_gone, ActsForRight, IsHonest, open_refusal}
+use Rattle.laws_container.proofs.Names.{Container, Flight, Registry, ContainerStart, ContainerFlight, Going, Party}
+use Rattle.laws_container.proofs.Names.{Turn, Begin, Next, Decide, Die, Coding, want_of, is_question, beside_of}
+use Rattle.laws_container.proofs.Names.{step_of, want, after, promise, Act, may_stand, state_of, effects, questions}
+use Rattle.laws_container.proofs.Names.{SetAct, party_of, Stands, StandsRight, IsEffectOf, Each, Span, Open, whose}
+use Rattle.laws_container.proofs.Names.{own_after, span_of, is_due, answer_in, old_of, number_of, ending_of}
+use Rattle.laws_container.proofs.Names.{events_of_step, after_turn, Trace, flight_in, AreRight, Each-append}
+use Rattle.laws_container.proofs.Names.{Each-less, span_of-own, StandsThere, stands_there, Word, gone_after, is_gone}
+use Rattle.laws_container.proofs.Names.{ActsForRight, IsHonest, open_refusal, ask_of, events_of}
 use Rattle.model.specs.declared.families.Flight.TheVariants as flights
 use Rattle.model.specs.declared.families.Registry.TheVariants as registries
 use Rattle.model.specs.declared.families.container.ContainerStart.TheVariants.{Add, Remove}
@@ -24,6 +23,7 @@ use Rattle.laws_container.proofs.Stages.{any_call}
 use Rattle.laws_container.proofs.CallProgress.{At}
 use Rattle.laws_container.proofs.Terms.{Terms}
 use Rattle.laws_container.proofs.Written.{all_effects}
+use Rattle.laws_robust.proofs.OneTurn.{by_next, by_decision}
 
 -- ---- for whom a call is
 
@@ -195,10 +195,6 @@ module _ {T : Type 0} (terms : Terms) (code : Coding T) (c : ℕ) (t : Trace T)
         subst (λ kept. StandRightWith (writes kept x.start flight) → IsHonestWith (writes kept x.start flight)) (sym sound.fit.kept)
         (by_name (stands_there (family_by terms code c) t sound p x since flight found doing) minds)
 
-  -- the old value of the word for which the call asks
-  abbrev old : Doing T → ℕ
-  old doing = old_of t.world.words (ask_of_doing t.world.coding doing)
-
   -- the run with no further event is honest
   same : IsHonestWith []
   same = subst IsHonest (sym (append-nil t.events)) honest
@@ -213,46 +209,27 @@ module _ {T : Type 0} (terms : Terms) (code : Coding T) (c : ℕ) (t : Trace T)
   by_question (flights.Container flight) asks = inr asks
   by_question flight asks = tt
 
-  -- what a party has under way is the call that the machine finds
-  flies : (p : ℕ) (x : Party T) {flight : Flight T} {since : ℕ} → party_of p t.world.latest ≡ Some x → x.doing ≡ Going flight since
-      → flight_in t.world p ≡ Some flight
-  flies p x found doing_is = ap (λ o. flight_of (doing_of o)) found ∙ ap (λ doing_is. flight_of (Some doing_is)) doing_is
-
   -- a step of a party whose call acts for nobody who is gone leaves the run honest
-  next_honest : (p : ℕ) → is_for_gone t.events (flight_in t.world p) ≡ false → (o : Option (Party T)) → party_of p t.world.latest ≡ o
-      → StandRightWith (events_of_next t.world p o) → IsHonestWith (events_of_next t.world p o)
-  next_honest p steps None party_is spans = same
-  next_honest p steps (Some x) party_is spans = go x.doing refl spans
-    where
-      -- the cases are whether the party's call is over or under way
-      go : (doing : Doing T) → x.doing ≡ doing → StandRightWith (events_of_answer t.world p x (old doing) doing)
-          → IsHonestWith (events_of_answer t.world p x (old doing) doing)
-      go (Over others) same_doing spans = same
-      go (Going flight since) same_doing spans =
-          went p (old (Going flight since)) x since party_is same_doing
-          (by_steps flight (subst (λ o. is_for_gone t.events o ≡ false) (flies p x party_is same_doing) steps)) spans
+  next_honest : (p : ℕ) → is_for_gone t.events (flight_in t.world p) ≡ false
+      → StandRightWith (events_of t.world (Next p)) → IsHonestWith (events_of t.world (Next p))
+  next_honest p steps =
+      by_next t.world p (λ w es. StandRightWith es → IsHonestWith es) (λ spans. same) (λ x flight since has.
+      went p (old_of t.world.words (ask_of (want_of t.world.coding flight))) x since has.found has.doing
+      (by_steps flight (subst (λ o. is_for_gone t.events o ≡ false) has.here steps)))
 
   -- a decision leaves the run honest
-  decision_honest : (p : ℕ) (said : Bool) → is_due t.world.coding (flight_in t.world p) ≡ true → (o : Option (Party T)) → party_of p t.world.latest ≡ o
-      → StandRightWith (events_of_decision t.world p said o) → IsHonestWith (events_of_decision t.world p said o)
-  decision_honest p said due None party_is spans = same
-  decision_honest p said due (Some x) party_is spans = go x.doing refl spans
-    where
-      -- the cases are whether the party's call is over or under way
-      go : (doing : Doing T) → x.doing ≡ doing → StandRightWith (events_of_answer t.world p x (number_of said) doing)
-          → IsHonestWith (events_of_answer t.world p x (number_of said) doing)
-      go (Over others) same_doing spans = same
-      go (Going flight since) same_doing spans =
-          went p (number_of said) x since party_is same_doing
-          (by_question flight (subst (λ o. is_due t.world.coding o ≡ true) (flies p x party_is same_doing) due))
-          spans
+  decision_honest : (p : ℕ) (said : Bool) → is_due t.world.coding (flight_in t.world p) ≡ true
+      → StandRightWith (events_of t.world (Decide p said)) → IsHonestWith (events_of t.world (Decide p said))
+  decision_honest p said due =
+      by_decision t.world p (λ w es. StandRightWith es → IsHonestWith es) (λ spans. same) said (λ x flight since has.
+      went p (number_of said) x since has.found has.doing (by_question flight (subst (λ o. is_due t.world.coding o ≡ true) has.here due)))
 
   -- a turn that an open run does not refuse, and that is no step for an owner who is gone,
   -- leaves the run honest
   pub turn_honest : (turn : Turn T) → open_refusal t.world turn ≡ None → steps_for_gone t turn ≡ false
       → frame.Sound (family_by terms code c) (after_turn t turn) → IsHonest (after_turn t turn).events
   turn_honest (Begin p start) unrefused steps next = Each-append ActsForRight t.events (Begun p start ∷ []) honest (tt, tt)
-  turn_honest (Next p) unrefused steps next = next_honest p steps (party_of p t.world.latest) refl next.inv.spans
+  turn_honest (Next p) unrefused steps next = next_honest p steps next.inv.spans
   turn_honest (Decide p said) unrefused steps next =
-      decision_honest p said (allowed_open t.world (Decide p said) unrefused) (party_of p t.world.latest) refl next.inv.spans
+      decision_honest p said (allowed_open t.world (Decide p said) unrefused) next.inv.spans
   turn_honest (Die owner) unrefused steps next = absurd (cc)

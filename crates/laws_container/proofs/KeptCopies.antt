@@ -1,11 +1,10 @@
 -- Each value that the state of a `get_state` shows, that call has itself copied: how this is said
 -- (`ShowsOwn`), and that it holds while the call goes on.
-use Rattle.laws_container.proofs.Names.{◌≡◌, ◌≢◌, ℕ, Option, Some, None, List, [], ◌∷◌, ◌++◌, fold, length}
-use Rattle.laws_container.proofs.Names.{ap, ◌∙◌, append-nil, append_assoc, arith, flat_map-append, slice_get_past}
-use Rattle.laws_container.proofs.Names.{ContainerState, Answer, Event, Copied, Start, Container}
-use Rattle.laws_container.proofs.Names.{GetState, shows, Act, Copies, act, acts, acts_of, wrote_in, IsOneOf, Span}
-use Rattle.laws_container.proofs.Names.{Never, Open, Ended, own_after, span_of, ending_of, AreOwn, span_of-own}
-use Rattle.laws_container.proofs.Names.{some_none}
+use Rattle.laws_container.proofs.Names.{◌≡◌, ◌≢◌, ℕ, Option, Some, None, List, [], ◌∷◌, ◌++◌, fold, length, ap, ◌∙◌}
+use Rattle.laws_container.proofs.Names.{append-nil, arith, flat_map-append, slice_get_past, ContainerState, Answer}
+use Rattle.laws_container.proofs.Names.{Event, Copied, Start, Container, GetState, shows, Copies, act, acts, acts_of}
+use Rattle.laws_container.proofs.Names.{wrote_in, IsOneOf, Span, Never, Open, Ended, own_after, span_of, ending_of}
+use Rattle.laws_container.proofs.Names.{AreOwn, span_of-own, some_none, still_one}
 
 module _ {T : Type 0} where
   -- the name of a party's latest call
@@ -70,9 +69,6 @@ module _ {T : Type 0} where
 
   -- ---- a step of the call's own
 
-  has_more : (one : Act T) (all more : List (Act T)) → IsOneOf one all → IsOneOf one (all ++ more)
-  has_more = grind (arith, append_assoc)
-
   -- the call of party `p` has written `w`
   module _ (p : ℕ) (events : List (Event T)) (start : Start T) (w : List (Event T)) (here : span_of p events ≡ Open start w) where
     -- the call writes `es`, of which `what` is the copy
@@ -90,7 +86,7 @@ module _ {T : Type 0} where
 
       -- the call has gone on, and has copied `what`
       calls : CallsOn p what events (events ++ es)
-      calls = grind (arith, has_more, span_then, acts_then, acts_now)
+      calls = grind (arith, still_one, span_then, acts_then, acts_now)
 
     -- the call goes on, or ends with its end written, and has copied `what`
     pub calls_on : (what : Option (ℕ × T)) (outcome : Option (Answer T)) → CallsOn p what events (events ++ (copies_of p what ++ ending_of p start outcome))

@@ -1,18 +1,16 @@
 -- A turn moves a party's state only in a look of that party, and an update that answers false has taken one
 -- step and left its party's state.
-use Rattle.laws_container.proofs.Names.{◌≡◌, ◌≢◌, ◌⊎◌, inr, ℕ, ◌==◌, ◌&&◌, ◌≤◌, if◌then◌else◌, Bool, true}
-use Rattle.laws_container.proofs.Names.{false, Option, Some, None, is_some, List, refl, sym, ap, subst, ◌∙◌, arith}
+use Rattle.laws_container.proofs.Names.{◌≡◌, ◌≢◌, ◌⊎◌, inr, ℕ, ◌==◌, ◌&&◌, ◌≤◌, if◌then◌else◌, Bool, true, false}
+use Rattle.laws_container.proofs.Names.{Option, Some, None, is_some, List, refl, sym, ap, subst, ◌∙◌, arith}
 use Rattle.laws_container.proofs.Names.{nat_tests, LookStage, ContainerState, Truth, Start, Container, Loan, Flight}
 use Rattle.laws_container.proofs.Names.{Registry, ContainerStart, GetState, UpdateState, ContainerFlight, LookOf}
-use Rattle.laws_container.proofs.Names.{Doing, Going, Over, Party, Turn, Begin, Coding, first_of, want_of}
-use Rattle.laws_container.proofs.Names.{is_question, beside_of, step_of, kept_after_begin}
-use Rattle.laws_container.proofs.Names.{goes_after, states_after, writes_state, is_look_of, MovesInLooks}
-use Rattle.laws_container.proofs.Names.{BeginsWithState, KeepsStates, steps_of, state_in, is_looking, EndsLook, keeps}
-use Rattle.laws_container.proofs.Names.{state_of, with_state, fresh, loan_keeps, party_of, put}
-use Rattle.laws_container.proofs.Names.{progress_after, is_due, answer_in, old_of, number_of, after_begin, after_next}
-use Rattle.laws_container.proofs.Names.{after_decision, after_answer, ask_of_doing, after_turn, World, Trace}
+use Rattle.laws_container.proofs.Names.{Going, Party, Turn, Begin, Coding, first_of, want_of, is_question, beside_of}
+use Rattle.laws_container.proofs.Names.{step_of, kept_after_begin, goes_after, states_after, writes_state, is_look_of}
+use Rattle.laws_container.proofs.Names.{MovesInLooks, BeginsWithState, KeepsStates, steps_of, state_in, is_looking}
+use Rattle.laws_container.proofs.Names.{EndsLook, keeps, state_of, with_state, fresh, loan_keeps, party_of, put}
+use Rattle.laws_container.proofs.Names.{progress_after, is_due, answer_in, after_begin, after_turn, World, Trace}
 use Rattle.laws_container.proofs.Names.{flight_in, progress_in, party_put_same, found_put_other, StandsThere}
-use Rattle.laws_container.proofs.Names.{stands_there, both_ways}
+use Rattle.laws_container.proofs.Names.{stands_there, both_ways, Next, Decide}
 use Rattle.steps.specs.declared.container.look.Look.{Look}
 use Rattle.steps.specs.declared.container.look.LookStage.TheVariants as stages
 use Rattle.model.specs.declared.families.Flight.TheVariants as flights
@@ -27,6 +25,7 @@ use Rattle.laws_container.proofs.Stages.{any_call}
 use Rattle.laws_container.proofs.CallProgress.{look_at, look_number}
 use Rattle.laws_container.proofs.Terms.{Terms}
 use Rattle.laws_container.proofs.Allowed.{IsAllowed}
+use Rattle.laws_robust.proofs.OneTurn.{by_next, by_decision}
 
 differ : (p q : ℕ) → (p == q) ≡ false → q ≢ p
 differ p q none = grind (arith, nat_tests)
@@ -96,10 +95,13 @@ module _ {T : Type 0} where
 
 -- ---- a step of a party's call
 
--- `c` is the capacity, and `t` the run up to this turn, which is sound; `x` is the call of party `q`
-module _ {T : Type 0} (shown : Shown T) (terms : Terms) (code : Coding T) (c : ℕ) {t : Trace T}
-    (sound : frame.Sound (family_by terms code c) t) (q : ℕ) (x : Party T) (since : ℕ)
-    (found : party_of q t.world.latest ≡ Some x) where
+-- the run up to this turn is sound; `x` is the call of party `q`
+module _ {T : Type 0} (run : SoundRun T) (q : ℕ) (x : Party T) (since : ℕ) (found : party_of q run.trace.world.latest ≡ Some x) where
+  open run use {shown, terms, code, trace as t, sound}
+
+  abbrev c : ℕ
+  c = t.world.capacity
+
   -- a step of the call leaves the state of each party of which it is no look
   abbrev LeavesOtherStates : ℕ → Coding T → Registry T → Start T → Flight T → Type 0
   LeavesOtherStates n y kept a flight =
@@ -121,45 +123,25 @@ module _ {T : Type 0} (shown : Shown T) (terms : Terms) (code : Coding T) (c : �
 
 -- ---- any turn
 
--- `t` is the run up to this turn, which is sound
-module _ {T : Type 0} (shown : Shown T) (terms : Terms) (code : Coding T) (t : Trace T) (sound : frame.Sound (family_by terms code t.world.capacity) t) where
-  -- what a party has under way is the call that the machine finds
-  flies : (q : ℕ) (x : Party T) (flight : Flight T) (since : ℕ) → party_of q t.world.latest ≡ Some x
-      → x.doing ≡ Going flight since → flight_in t.world q ≡ Some flight
-  flies = grind arith
+-- the run up to this turn is sound
+module _ {T : Type 0} (run : SoundRun T) where
+  open run use {trace as t}
 
   -- a step leaves a party's state if it is no step of a look of that party
-  next_moves : (q p : ℕ) → ((q == p) && is_looking (flight_in t.world q)) ≡ false → (o : Option (Party T))
-      → party_of q t.world.latest ≡ o → state_in (after_next t.world q o).kept p ≡ state_in t.world.kept p
-  next_moves q p none None found = refl
-  next_moves q p none (Some x) found = go x.doing refl
-    where
-      -- the cases are whether the party's call is over or under way
-      go : (doing : Doing T) → x.doing ≡ doing
-          → state_in (after_answer t.world q x (ask_of_doing t.world.coding doing)
-          (old_of t.world.words (ask_of_doing t.world.coding doing)) doing).kept
-          p
-          ≡ state_in t.world.kept p
-      go (Over others) same_doing = refl
-      go (Going flight since) same_doing =
-          let here = flies q x flight since found same_doing in
-          any_stays shown terms code t.world.capacity sound q x since found _ same_doing p
-          (apart_is q flight (subst (λ o. ((q == p) && is_looking o) ≡ false) here none))
+  next_moves : (q p : ℕ) → ((q == p) && is_looking (flight_in t.world q)) ≡ false
+      → state_in (after_turn t (Next q)).world.kept p ≡ state_in t.world.kept p
+  next_moves q p none =
+      by_next t.world q (λ w es. state_in w.kept p ≡ state_in t.world.kept p) refl (λ x flight since has.
+      any_stays run q x since has.found _ has.doing p
+      (apart_is q flight (subst (λ o. ((q == p) && is_looking o) ≡ false) has.here none)))
 
   -- a decision leaves each party's state
   decision_moves : (q p : ℕ) (said : Bool) → is_due t.world.coding (flight_in t.world q) ≡ true
-      → (o : Option (Party T)) → party_of q t.world.latest ≡ o
-      → state_in (after_decision t.world q said o).kept p ≡ state_in t.world.kept p
-  decision_moves q p said due None found = refl
-  decision_moves q p said due (Some x) found = go x.doing refl
-    where
-      -- the cases are whether the party's call is over or under way
-      go : (doing : Doing T) → x.doing ≡ doing → state_in (after_answer t.world q x None (number_of said) doing).kept p ≡ state_in t.world.kept p
-      go (Over others) same_doing = refl
-      go (Going flight since) same_doing =
-          let here = flies q x flight since found same_doing in
-          let asks : is_question (want_of t.world.coding flight) ≡ true = subst (λ o. is_due t.world.coding o ≡ true) here due in
-          any_stays shown terms code t.world.capacity sound q x since found _ same_doing p (inr (no_look t.world.coding flight asks))
+      → state_in (after_turn t (Decide q said)).world.kept p ≡ state_in t.world.kept p
+  decision_moves q p said due =
+      by_decision t.world q (λ w es. state_in w.kept p ≡ state_in t.world.kept p) refl said (λ x flight since has.
+      let asks : is_question (want_of t.world.coding flight) ≡ true = subst (λ o. is_due t.world.coding o ≡ true) has.here due in
+      any_stays run q x since has.found _ has.doing p (inr (no_look t.world.coding flight asks)))
 
   -- a begin leaves a party's state if it is no look of that party
   begin_moves : (p q : ℕ) (start : Start T) → is_look_of t.world q (Begin p start) ≡ false → (o : Option (Flight T))
@@ -238,8 +220,8 @@ module _ {T : Type 0} (shown : Shown T) (terms : Terms) (code : Coding T) (t : T
   pub keeps_states : KeepsStates t turn (after_turn t turn)
   keeps_states =
       record {
-        moves = moves shown terms code t sound turn r;
-        begins = begins shown terms code t sound turn r;
+        moves = moves run_so turn r;
+        begins = begins run_so turn r;
         at_once = λ p ends. (one_step run_so turn r ends, state_left run_so turn r ends);
         own = looks_own run_so turn r;
       }

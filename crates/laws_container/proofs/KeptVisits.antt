@@ -1,18 +1,15 @@
 -- A recovery that began after the lock comes to no index: it copies nothing, is shown
 -- nothing and frees nothing.
-use Rattle.laws_container.proofs.Names.{◌≡◌, ◌⊎◌, ℕ, Bool, Option, Some, None, List, [], ◌∷◌, ◌++◌, refl}
-use Rattle.laws_container.proofs.Names.{arith, append_cancel_left, AllByRecursion, Answer, Event, Start}
-use Rattle.laws_container.proofs.Names.{Flight, Registry, ContainerStart, ContainerFlight, Doing, Going}
-use Rattle.laws_container.proofs.Names.{Over, Party, Turn, Next, Coding, beside_of, step_of}
-use Rattle.laws_container.proofs.Names.{after, BeganUnlocked, VisitsRight, VisitsUnlocked, state_of, effects}
-use Rattle.laws_container.proofs.Names.{questions, party_of, IsEffectOf, old_of, number_of, ask_of_doing}
-use Rattle.laws_container.proofs.Names.{events_of_step, events_of_answer, events_of_next, events_of_decision}
-use Rattle.laws_container.proofs.Names.{events_of, ending_of, after_turn, Trace, StandsThere}
-use Rattle.model.proofs.Frame as frame
+use Rattle.laws_container.proofs.Names.{◌≡◌, ◌⊎◌, ℕ, Bool, Option, Some, None, List, [], ◌∷◌, ◌++◌, arith}
+use Rattle.laws_container.proofs.Names.{append_cancel_left, AllByRecursion, Answer, Event, Start, Flight, Registry}
+use Rattle.laws_container.proofs.Names.{ContainerStart, ContainerFlight, Going, Party, Turn, Next, Coding, beside_of}
+use Rattle.laws_container.proofs.Names.{step_of, after, BeganUnlocked, VisitsRight, VisitsUnlocked, state_of, effects}
+use Rattle.laws_container.proofs.Names.{questions, party_of, IsEffectOf, events_of_step, events_of, ending_of}
+use Rattle.laws_container.proofs.Names.{after_turn, StandsThere, Decide, all_both, all_so, Finished}
 use Rattle.laws_container.proofs.Invariant.{family_by}
-use Rattle.laws_container.proofs.Sound.{MayGoOn, Shown as AllShown, kept_now, IsThere, is_there}
-use Rattle.laws_container.proofs.Terms.{Terms}
+use Rattle.laws_container.proofs.Sound.{kept_now, IsThere, is_there, SoundRun}
 use Rattle.laws_container.proofs.Written.{all_effects}
+use Rattle.laws_robust.proofs.OneTurn.{by_next, by_decision}
 
 -- ---- what a party writes
 
@@ -32,21 +29,22 @@ module _ {T : Type 0} (q : ℕ) (events : List (Event T)) where
 
   -- the events of a step of a call that began before the lock are right
   all_visit : HasBegunUnlocked → (es : List (Event T)) → AllByRecursion (IsEffectOf (Next q)) es → VisitsAreRight es
-  all_visit began [] are = tt
-  all_visit began (e ∷ es) are = (one_visits began e are.0, all_visit began es are.1)
+  all_visit began es = all_so (IsEffectOf (Next q)) (VisitsRight events) es (one_visits began)
 
   -- the end of a call is no visit
   with_end : (start : Start T) (outcome : Option (Answer T)) (es : List (Event T)) → VisitsAreRight es → VisitsAreRight (es ++ ending_of q start outcome)
-  with_end start None [] all = tt
-  with_end start (Some answer) [] all = (tt, tt)
-  with_end start outcome (e ∷ es) all = (all.0, with_end start outcome es all.1)
+  with_end start None es all = all_both (VisitsRight events) es [] all tt
+  with_end start (Some answer) es all = all_both (VisitsRight events) es (Finished q start answer ∷ []) all (tt, tt)
 
 -- ---- a step of a party's call
 
--- `c` is the capacity, and `t` the run up to this turn, which is sound and may go on; `x` is the call of party `q`
-module _ {T : Type 0} (shown : AllShown T) {terms : Terms} (code : Coding T) (c : ℕ) {t : Trace T}
-    (sound : frame.Sound (family_by terms code c) t) (may : MayGoOn terms t) (q : ℕ) (x : Party T) (since : ℕ)
-    (found : party_of q t.world.latest ≡ Some x) where
+-- the run is sound and may go on; `x` is the call of party `q`
+module _ {T : Type 0} (run : SoundRun T) (q : ℕ) (x : Party T) (since : ℕ) (found : party_of q run.trace.world.latest ≡ Some x) where
+  open run use {shown, terms, code, trace as t, sound, may}
+
+  abbrev c : ℕ
+  c = t.world.capacity
+
   -- what the step of the call writes, without its end
   abbrev wrote : ContainerFlight T → ℕ → List (Event T)
   wrote flight n = effects code q (state_of q sound.state.states) flight n ++ questions q flight n
@@ -75,29 +73,20 @@ module _ {T : Type 0} (shown : AllShown T) {terms : Terms} (code : Coding T) (c 
 -- ---- any turn
 
 -- a turn from a sound machine
-module _ {T : Type 0} (shown : AllShown T) {terms : Terms} (code : Coding T) {t : Trace T} (turn : Turn T)
-    (sound : frame.Sound (family_by terms code t.world.capacity) t) (may : MayGoOn terms t) where
+module _ {T : Type 0} (run : SoundRun T) (turn : Turn T) where
+  open run use {trace as t}
+
   -- what a step writes of visits is right
-  next_visits : (q : ℕ) (o : Option (Party T)) → party_of q t.world.latest ≡ o → VisitsAreRight q t.events (events_of_next t.world q o)
-  next_visits q None found = tt
-  next_visits q (Some x) found = go x.doing refl
-    where
-      -- the cases are whether the party's call is over or under way
-      go : (doing : Doing T) → x.doing ≡ doing
-          → VisitsAreRight q t.events (events_of_answer t.world q x (old_of t.world.words (ask_of_doing t.world.coding doing)) doing)
-      go (Over others) same_doing = tt
-      go (Going flight since) same_doing = any_visits shown code t.world.capacity sound may q x since found _ same_doing
+  next_visits : (q : ℕ) → VisitsAreRight q t.events (events_of t.world (Next q))
+  next_visits q =
+      by_next t.world q (λ w es. VisitsAreRight q t.events es) tt (λ x flight since has.
+      any_visits run q x since has.found _ has.doing)
 
   -- what a decision writes of visits is right
-  decision_visits : (q : ℕ) (said : Bool) (o : Option (Party T)) → party_of q t.world.latest ≡ o
-      → VisitsAreRight q t.events (events_of_decision t.world q said o)
-  decision_visits q said None found = tt
-  decision_visits q said (Some x) found = go x.doing refl
-    where
-      -- the cases are whether the party's call is over or under way
-      go : (doing : Doing T) → x.doing ≡ doing → VisitsAreRight q t.events (events_of_answer t.world q x (number_of said) doing)
-      go (Over others) same_doing = tt
-      go (Going flight since) same_doing = any_visits shown code t.world.capacity sound may q x since found _ same_doing
+  decision_visits : (q : ℕ) (said : Bool) → VisitsAreRight q t.events (events_of t.world (Decide q said))
+  decision_visits q said =
+      by_decision t.world q (λ w es. VisitsAreRight q t.events es) tt said (λ x flight since has.
+      any_visits run q x since has.found _ has.doing)
 
   -- what any turn writes of visits is right
   visits : (u : Turn T) → AllByRecursion (VisitsRight t.events) (events_of t.world u)

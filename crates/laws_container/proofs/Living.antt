@@ -1,15 +1,14 @@
 -- No owner dies in an open run, so none of the container's calls is refused for a dead owner.
-use Rattle.laws_container.proofs.Names.{◌≡◌, ℕ, true, false, Some, None, List, [], ◌∷◌, ◌++◌, refl, sym, subst, ◌∙◌}
-use Rattle.laws_container.proofs.Names.{arith, AllByRecursion, Event, Died, Start, Container, Flight, Registry}
-use Rattle.laws_container.proofs.Names.{ContainerStart, ContainerFlight, Begin, Next, Coding, beside_of, step_of}
-use Rattle.laws_container.proofs.Names.{going_rows, after, names_owner, state_of, effects, questions, has_died}
-use Rattle.laws_container.proofs.Names.{IsEffectOf, is_due, first_row, answer_in, events_of_step, Trace, flight_in}
-use Rattle.laws_container.proofs.Names.{stands_there, open_refusal, AllLive, StepsLeave, end_leaves}
+use Rattle.laws_container.proofs.Names.{◌≡◌, ℕ, false, Some, None, List, ◌++◌, refl, sym, subst, ◌∙◌, arith}
+use Rattle.laws_container.proofs.Names.{AllByRecursion, Event, Died, Start, Container, Flight, Registry}
+use Rattle.laws_container.proofs.Names.{ContainerFlight, Next, Coding, beside_of, step_of, going_rows, after}
+use Rattle.laws_container.proofs.Names.{state_of, effects, questions, has_died, IsEffectOf, first_row, answer_in}
+use Rattle.laws_container.proofs.Names.{events_of_step, Trace, stands_there, AllLive, StepsLeave, end_leaves}
+use Rattle.laws_container.proofs.Names.{all_both, all_so}
 use Rattle.model.specs.declared.families.Flight.TheVariants as flights
 use Rattle.model.specs.declared.families.Registry.TheVariants as registries
 use Rattle.model.proofs.Frame as frame
 use Rattle.laws_robust.proofs.Alive.{Leaves}
-use Rattle.laws_robust.proofs.Decisions.{joined}
 use Rattle.laws_container.proofs.Invariant.{family_by}
 use Rattle.laws_container.proofs.Stages.{any_call}
 use Rattle.laws_container.proofs.Terms.{Terms}
@@ -23,8 +22,7 @@ module _ {T : Type 0} (p : ℕ) where
 
   -- effects of a step leave who is dead
   effects_leave : (es : List (Event T)) → AllByRecursion (IsEffectOf (Next p)) es → AllByRecursion Leaves es
-  effects_leave [] all_are = tt
-  effects_leave (e ∷ es) all_are = (effect_leaves e all_are.0, effects_leave es all_are.1)
+  effects_leave es = all_so (IsEffectOf (Next p)) Leaves es effect_leaves
 
 -- `c` is the capacity, and `t` the run up to this turn, which is sound
 module _ {T : Type 0} (terms : Terms) (code : Coding T) (c : ℕ) (t : Trace T) (sound : frame.Sound (family_by terms code c) t) where
@@ -42,7 +40,7 @@ module _ {T : Type 0} (terms : Terms) (code : Coding T) (c : ℕ) (t : Trace T) 
     step_leaves (Container start) (flights.Container flight) stands =
         let state = state_of p sound.state.states in
         let did : List (Event T) = effects t.world.coding p state flight answer ++ questions p flight answer in
-        joined Leaves did _ (effects_leave p did (all_effects (Next p) p refl t.world.coding state flight answer))
+        all_both Leaves did _ (effects_leave p did (all_effects (Next p) p refl t.world.coding state flight answer))
         (end_leaves p (Container start) (answer_in (any_call (after t.world.coding state flight answer))))
     step_leaves start flight stands = absurd stands
 
@@ -64,14 +62,3 @@ module _ {T : Type 0} (terms : Terms) (code : Coding T) (c : ℕ) (t : Trace T) 
     pub step_is_free : (flight : ContainerFlight T)
         → first_row (going_rows t.world.coding t.world.kept (Some (flights.Container flight)) None) ≡ None
     step_is_free flight = grind arith
-
-    -- a step of a call that waits for no decision is not refused
-    pub next_is_free : (p : ℕ) (flight : ContainerFlight T) → flight_in t.world p ≡ Some (flights.Container flight)
-        → is_due t.world.coding (Some (flights.Container flight)) ≡ false → open_refusal t.world (Next p) ≡ None
-    next_is_free p flight here due = grind arith
-
-    -- the begin of a call of the container is not refused, if the party has none under way and the owner is a
-    -- number that a cell can hold
-    pub begin_is_free : (p : ℕ) (start : ContainerStart T) → flight_in t.world p ≡ None → names_owner start ≡ true
-        → open_refusal t.world (Begin p (Container start)) ≡ None
-    begin_is_free p start free named = grind arith

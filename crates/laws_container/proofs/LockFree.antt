@@ -41,18 +41,18 @@ use Rattle.model.specs.Families.Indices.Robust.Dead.{dead_with}
 use Rattle.model.specs.LockFree.{KeepsEndingOf, IsDefault, default_container_bound}
 use Rattle.model.specs.Turns.{number_of}
 use Rattle.model.specs.World.{capacity_error}
+use Rattle.model.specs.World.{World}
 use Rattle.model.proofs.LockFree.Falls.{FallsIn, StepFallsBy}
 use Rattle.model.proofs.LockFree.Own.{OwnLaws, OwnAfter, KnownAfter, Lasts, keeps_ending_by}
 use Rattle.model.proofs.LockFree.Weighed.{KeepsEndingBy}
 use Rattle.model.proofs.Rows.{IsPossible, possible_on}
 use Rattle.model.specs.Refusals.{call_refusal}
-use Rattle.model.specs.World.{World}
 use Rattle.model.specs.declared.turn.Refusal.{Refusal}
 use Rattle.model.specs.declared.turn.Turn.{Turn}
 use Rattle.model.proofs.Parties.{found_put_same, found_put_other}
 use Rattle.laws_robust.proofs.Opening.{admitted_is}
-use Rattle.laws_container.proofs.MeasuredCalls.{RemoveStands, ReplaceStands, CallStands}
-use Rattle.laws_container.proofs.MeasuredCalls.{measure, At, Kept, Known, outline}
+use Rattle.laws_container.proofs.MeasuredCalls.{RemoveStands, ReplaceStands, CallStands, measure, At, Kept, Known}
+use Rattle.laws_container.proofs.MeasuredCalls.{outline, AreOfContainer}
 use Rattle.laws_container.proofs.MeasuredFalls.{M, any_call, StepFallsWith, add_falls, remove_falls, replace_falls}
 use Rattle.laws_container.proofs.MeasuredLooks.{find_falls, find_comes, recover_falls, recover_comes, look_falls, count_falls}
 use Rattle.laws_container.proofs.Looks.{written_same, written_other}
@@ -138,7 +138,7 @@ module _ {T : Type 0} (code : Coding T) (c : ℕ) where
   looks_has p q call old states (Some state) found has = set_has p q _ state states found has
 
   -- a party that has a state has one after a step of any call
-  pub steps_has : (p q : ℕ) (flight : ContainerFlight T) (old : ℕ) (states : List (ℕ × ContainerState T)) → has_state q states
+  steps_has : (p q : ℕ) (flight : ContainerFlight T) (old : ℕ) (states : List (ℕ × ContainerState T)) → has_state q states
       → has_state q (states_after code p flight old states)
   steps_has p q (calls.Look which call) old states has = looks_has p q call old states (state_of p states) refl has
   steps_has p q flight old states has = has
@@ -167,7 +167,7 @@ module _ {T : Type 0} (code : Coding T) (c : ℕ) where
   in_states dead states = registries.Container dead states
 
   -- a turn takes no party's state away if it leaves one to each party that had one
-  pub lasts_by : (dead later : List ℕ) (states then : List (ℕ × ContainerState T)) → ((q : ℕ) → has_state q states → has_state q then)
+  lasts_by : (dead later : List ℕ) (states then : List (ℕ × ContainerState T)) → ((q : ℕ) → has_state q states → has_state q then)
       → Lasts outline (in_states dead states) (in_states later then)
   lasts_by dead later states then more q (flights.Container (calls.Look which call)) known = more q known
   lasts_by dead later states then more q flight known = tt
@@ -308,20 +308,22 @@ module _ {T : Type 0} (code : Coding T) (c : ℕ) where
   decides words p kept (starts.Container start) (flights.Container flight) said stands held due = absurd held
   decides words p kept start flight said stands held due = absurd stands
 
-  -- what becomes of a call by a step is decided by its stage and by what is kept beside the words
-  told : (words : List ℕ) (beside : Option (ℕ × ℕ)) (p : ℕ) (start : Start T) (flight : Flight T) (old : ℕ) (kept : Registry T)
-      → At code c start flight → Kept kept → (step_of code words beside p start flight old kept).after ≡ goes_of code p flight old kept
-  told = grind arith
+  -- the calls of the container stand as `Stands` says
+  module _ (Stands : ContainerFlight T → Type 0) where
+    -- what becomes of a call by a step is decided by its stage and by what is kept beside the words
+    pub told : (words : List ℕ) (beside : Option (ℕ × ℕ)) (p : ℕ) (start : Start T) (flight : Flight T) (old : ℕ) (kept : Registry T)
+        → AreOfContainer Stands start flight → Kept kept → (step_of code words beside p start flight old kept).after ≡ goes_of code p flight old kept
+    told = grind arith
 
-  -- a step of a call of the container leaves a registry of a container, and leaves each party
-  -- that had a state one
-  stays : (words : List ℕ) (beside : Option (ℕ × ℕ)) (p : ℕ) (start : Start T) (flight : Flight T) (old : ℕ) (kept : Registry T)
-      → At code c start flight → Kept kept
-      → Kept (step_of code words beside p start flight old kept).kept × Lasts outline kept (step_of code words beside p start flight old kept).kept
-  stays words beside p (starts.Container start) (flights.Container flight) old (registries.Container dead states) stands held =
-      (tt, lasts_by dead dead states (states_after code p flight old states) (λ q has. steps_has p q flight old states has))
-  stays words beside p (starts.Container start) (flights.Container flight) old kept stands held = absurd held
-  stays words beside p start flight old kept stands held = absurd stands
+    -- a step of a call of the container leaves a registry of a container, and leaves each party
+    -- that had a state one
+    pub stays : (words : List ℕ) (beside : Option (ℕ × ℕ)) (p : ℕ) (start : Start T) (flight : Flight T) (old : ℕ) (kept : Registry T)
+        → AreOfContainer Stands start flight → Kept kept
+        → Kept (step_of code words beside p start flight old kept).kept × Lasts outline kept (step_of code words beside p start flight old kept).kept
+    stays words beside p (starts.Container start) (flights.Container flight) old (registries.Container dead states) stands held =
+        (tt, lasts_by dead dead states (states_after code p flight old states) (λ q has. steps_has p q flight old states has))
+    stays words beside p (starts.Container start) (flights.Container flight) old kept stands held = absurd held
+    stays words beside p start flight old kept stands held = absurd stands
 
   -- how a call of the container goes on, in the form that the frame of lock-freedom asks
   own_after : (start : ContainerStart T) (after : After (ContainerFlight T) (Answer T)) → StandsAfter after
@@ -382,9 +384,9 @@ module _ {T : Type 0} (code : Coding T) (c : ℕ) where
         opens = tt;
         begins = begins;
         knows = knows;
-        stays = stays;
+        stays = stays (CallStands c);
         goes = goes;
-        told = told;
+        told = told (CallStands c);
         dies = dies;
         decides = decides;
         most = λ words start flight at. (let may = admitted_is c admitted in most c code.size may.0 coded.some words flight);

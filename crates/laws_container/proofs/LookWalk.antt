@@ -23,7 +23,7 @@ use Rattle.laws_container.proofs.LookSteps.{value_put, value_number, value_here,
 use Rattle.laws_container.proofs.LookSteps.{course_passed, course_word}
 use Rattle.laws_container.proofs.Invariant.{Scene, Inv, before, view}
 use Rattle.laws_container.proofs.KeptCopies.{HasCopied, ShowsOwn, copies_of, CallsOn, own_later}
-use Rattle.laws_container.proofs.Knows.{IsPaid, Copying, CheckPaid, LookKnows}
+use Rattle.laws_container.proofs.Knows.{IsPaid, Copying, CheckPaid, LookKnows, LookCopies}
 use Rattle.laws_container.proofs.StateInvariant.{number_at, Rests, Course}
 use Rattle.laws_container.proofs.Stages.{all, done, sees_now, since_then, changes_then, backs_then}
 use Rattle.laws_container.proofs.CallProgress.{AreBelow, LookAt, look_number}
@@ -348,6 +348,38 @@ module _ {T : Type 0} (scene : Scene T) (inv : Inv scene) where
             (backs_then scene false))
         paid_then = grind (arith, inl, count_at, inr)
 
+        -- after the load of a word the look has copied one word more
+        knows_then : (k : ℕ) → at + 1 ≡ k
+            → (words' : List ℕ) (states' : List (ℕ × ContainerState T)) (latest' : List (ℕ × Party T)) (es' : List (Event T))
+            → IsAfterLookStep (record { terms = scene.terms; words = words'; latest = latest'; events = es' }) None → state_of p states' ≡ Some with_it
+            → CheckPaid code c index count
+            (view scene.terms words' states' latest' es' p (since_then scene word_ask) (changes_then scene word_ask)
+            (backs_then scene false))
+            × LookCopies code c index count k
+            (view scene.terms words' states' latest' es' p (since_then scene word_ask) (changes_then scene word_ask)
+            (backs_then scene false))
+        knows_then k is words' states' latest' es' comes found = (
+          paid_then words' states' latest' es' comes,
+          record {
+            looks =
+                record {
+                  state = with_it;
+                  found = found;
+                  course =
+                      course_word code c (record { terms = scene.terms; words = words'; latest = latest'; events = es' })
+                      p at (datum_in code c m index at) (comes.later s index index course);
+                };
+            number = number;
+            copying =
+                subst (λ k. Copying code c index count with_it.shown.copy k
+                (view scene.terms words' states' latest' es' p (since_then scene word_ask)
+                (changes_then scene word_ask) (backs_then scene false)))
+                is
+                (copying_more code c ats inv.elements.coded.few comes.words (λ kept. kept)
+                comes.well_formed copying);
+          },
+        )
+
         -- the step in which a look loads a word: it goes on to the next word, or to the check of the number
         pub walks_word : Walker s (Some (loads (element_word c code.size index at))) Lead → WalkAt (stages.LoadsWord index count at)
         walks_word walker =
@@ -359,24 +391,7 @@ module _ {T : Type 0} (scene : Scene T) (inv : Inv scene) where
             let more : at + 1 < code.size = grind (arith, nat_tests) in
             let allowed = few in
             walker.goes (stages.LoadsWord index count (at + 1)) false None with_it tt same_words
-            (ap (λ d. d ++ []) none, (below, seen_still index (done scene) seen, odd), more) (omega arith)
-            (λ words' states' latest' es' comes found. (
-              paid_then words' states' latest' es' comes,
-              record {
-                looks =
-                    record {
-                      state = with_it;
-                      found = found;
-                      course =
-                          course_word code c (record { terms = scene.terms; words = words'; latest = latest'; events = es' })
-                          p at (datum_in code c m index at) (comes.later s index index course);
-                    };
-                number = number;
-                copying =
-                    copying_more code c ats inv.elements.coded.few comes.words (λ kept. kept) comes.well_formed
-                    copying;
-              },
-            )))
+            (ap (λ d. d ++ []) none, (below, seen_still index (done scene) seen, odd), more) (omega arith) (knows_then (at + 1) refl))
             -- that was the last word: the look goes on to the check, with a whole copy
             (λ t.
             let last : code.size ≤ at + 1 = grind (arith, nat_tests) in
@@ -384,28 +399,7 @@ module _ {T : Type 0} (scene : Scene T) (inv : Inv scene) where
             let is_last : at + 1 ≡ code.size = omega arith in
             let allowed = few in
             walker.goes (stages.ChecksCount index count) false None with_it tt same_words
-            (ap (λ d. d ++ []) none, (below, seen_still index (done scene) seen, odd)) (omega arith)
-            (λ words' states' latest' es' comes found. (
-              paid_then words' states' latest' es' comes,
-              record {
-                looks =
-                    record {
-                      state = with_it;
-                      found = found;
-                      course =
-                          course_word code c (record { terms = scene.terms; words = words'; latest = latest'; events = es' })
-                          p at (datum_in code c m index at) (comes.later s index index course);
-                    };
-                number = number;
-                copying =
-                    subst (λ k. Copying code c index count with_it.shown.copy k
-                    (view scene.terms words' states' latest' es' p (since_then scene word_ask)
-                    (changes_then scene word_ask) (backs_then scene false)))
-                    is_last
-                    (copying_more code c ats inv.elements.coded.few comes.words (λ kept. kept)
-                    comes.well_formed copying);
-              },
-            )))
+            (ap (λ d. d ++ []) none, (below, seen_still index (done scene) seen, odd)) (omega arith) (knows_then code.size is_last))
 
       -- ---- the number is exchanged for itself
 

@@ -87,7 +87,7 @@ module _ (T : Type 0) where
   no_replace = grind arith
 
   -- the end of a look changes nothing of the set or of what stands
-  pub silent_end : (which : LookOf) → EndsSilently (looks_as {T = T} which)
+  pub silent_end : (which : LookOf) (answer : Answer T) → EndsSilently (looks_as which) answer
   silent_end = grind arith
 
   -- a look that stands at its stage stands there as a call of the container
@@ -298,7 +298,7 @@ module _ {T : Type 0} (looking : Looking T) where
         let written : List (Event T) = Finished p (Container start) answer ∷ [] in
         let contents : (i : ℕ) → contents_of i (events ++ written) ≡ contents_of i events = λ i. fold-append (contents_after i) None events written in
         let m' = after scene words' party_after written in
-        let writes : LookWrites words' None written = ends_alone same contents (silent_end T which) in
+        let writes : LookWrites words' None written = ends_alone same contents (silent_end T which _) in
         ends scene answer ask back here.span (record {
           longer = none_lengthens;
           does = does writes party_after (settled st)
@@ -322,7 +322,7 @@ module _ {T : Type 0} (looking : Looking T) where
         let writes : LookWrites words' (Some copy) finish =
         record {
           same = same;
-          silent = (tt, (silent_end T which, tt));
+          silent = (tt, (silent_end T which _, tt));
           own = (refl, (refl, tt));
           none = tt;
           contents = contents;
@@ -360,7 +360,7 @@ module _ {T : Type 0} (looking : Looking T) where
         let words' = words_after ws ask in
         let written : List (Event T) = Finished p (Container start) answer ∷ [] in
         let contents : (i : ℕ) → contents_of i (events ++ written) ≡ contents_of i events = λ i. fold-append (contents_after i) None events written in
-        let writes : LookWrites words' None written = ends_alone same contents (silent_end T which) in
+        let writes : LookWrites words' None written = ends_alone same contents (silent_end T which _) in
         ends scene answer ask false here.span (record {
           longer = none_lengthens;
           does = does writes party_after s

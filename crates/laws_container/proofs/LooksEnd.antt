@@ -159,13 +159,13 @@ module _ {T : Type 0} (last : LastStep T) where
           → IsAfterLookStep scene inv (after scene (words_after ws ask_now) y (copies_of p what ++ Finished p (Container start) answer ∷ [])) what
       comes_end None =
           let written : List (Event T) = Finished p (Container start) answer ∷ [] in
-          comes looking (ends_alone looking passed.same (λ i. fold-append (contents_after i) None events written) (silent_end T which)) y
+          comes looking (ends_alone looking passed.same (λ i. fold-append (contents_after i) None events written) (silent_end T which _)) y
       comes_end (Some copy) =
           let written : List (Event T) = Copied p copy.0 copy.1 ∷ Finished p (Container start) answer ∷ [] in
           let writes : LookWrites looking (words_after ws ask_now) (Some copy) (Finished p (Container start) answer ∷ []) =
           record {
             same = passed.same;
-            silent = (tt, (silent_end T which, tt));
+            silent = (tt, (silent_end T which _, tt));
             own = (refl, (refl, tt));
             none = tt;
             contents = λ i. fold-append (contents_after i) None events written;

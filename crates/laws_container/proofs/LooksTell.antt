@@ -4,35 +4,33 @@ use Rattle.laws_container.proofs.Names.{◌≡◌, ◌≢◌, ℕ, ◌+◌, Bool
 use Rattle.laws_container.proofs.Names.{◌∷◌, ◌++◌, refl, sym, ap, subst, ◌∙◌, arith, append_cancel_left}
 use Rattle.laws_container.proofs.Names.{AllByRecursion, LookStage, ContainerState, look_asks, Answer, Event, Begun}
 use Rattle.laws_container.proofs.Names.{Died, Finished, Start, Container, Flight, Registry, ContainerStart}
-use Rattle.laws_container.proofs.Names.{ContainerFlight, LookOf, Doing, Going, Over, Party, Turn, Begin, Next, Decide}
-use Rattle.laws_container.proofs.Names.{Die, Coding, want_of, ask_of, is_question, beside_of, step_of, goes_after}
-use Rattle.laws_container.proofs.Names.{states_after, ShowsOwnCopies, state_in, shows, IsLook, EndsLook, IsCurrent}
-use Rattle.laws_container.proofs.Names.{AnswersOfState, MomentsOfState, LeavesState, Act, state_of, effects}
-use Rattle.laws_container.proofs.Names.{questions, SetAct, party_of, put, doing_of, flight_of, IsParty, IsEffectOf}
-use Rattle.laws_container.proofs.Names.{span_of, is_due, IsShut, Step, answer_in, old_of, number_of, step_count}
-use Rattle.laws_container.proofs.Names.{after_next, after_decision, after_answer, events_of_step, events_of_answer}
-use Rattle.laws_container.proofs.Names.{events_of_next, events_of_decision, events_of, ending_of, ask_of_doing}
-use Rattle.laws_container.proofs.Names.{after_turn, Trace, flight_in, no_more, StandsThere, stands_there, both_ways}
+use Rattle.laws_container.proofs.Names.{ContainerFlight, LookOf, Going, Party, Turn, Begin, Next, Decide, Die, Coding}
+use Rattle.laws_container.proofs.Names.{want_of, ask_of, is_question, beside_of, step_of, goes_after, states_after}
+use Rattle.laws_container.proofs.Names.{ShowsOwnCopies, state_in, shows, IsLook, EndsLook, IsCurrent, AnswersOfState}
+use Rattle.laws_container.proofs.Names.{MomentsOfState, LeavesState, Act, state_of, effects, questions, SetAct}
+use Rattle.laws_container.proofs.Names.{party_of, put, doing_of, flight_of, IsParty, IsEffectOf, span_of, is_due}
+use Rattle.laws_container.proofs.Names.{IsShut, Step, answer_in, old_of, number_of, step_count, events_of_step}
+use Rattle.laws_container.proofs.Names.{events_of, ending_of, after_turn, Trace, flight_in, no_more, StandsThere}
+use Rattle.laws_container.proofs.Names.{stands_there, both_ways}
 use Rattle.model.specs.declared.families.Flight.TheVariants as flights
 use Rattle.model.specs.declared.families.Registry.TheVariants as registries
 use Rattle.model.specs.declared.families.container.ContainerStart.TheVariants as starts
 use Rattle.model.specs.declared.families.container.calls.ContainerFlight.TheVariants as calls
 use Rattle.model.specs.declared.families.container.calls.LookOf.TheVariants as kinds
-use Rattle.model.proofs.Frame as frame
 use Rattle.laws_container.proofs.Invariant.{Scene, Inv, family_by}
 use Rattle.laws_container.proofs.KeptCopies.{name_of, IsGetting, HasCopied}
 use Rattle.laws_container.proofs.Looks.{looks_as}
 use Rattle.laws_container.proofs.LooksEnd.{LastStep, look_tells, look_leaves}
-pub use Rattle.laws_container.proofs.Moves.{look_asks_none}
 use Rattle.laws_container.proofs.WellFormed.{IsWellFormedSoFar}
-use Rattle.laws_container.proofs.Sound.{MayGoOn, Shown, SoundRun, kept_now, scene_of, inv_with, IsThere, is_there}
+use Rattle.laws_container.proofs.Sound.{SoundRun, kept_now, scene_of, inv_with, IsThere, is_there}
 use Rattle.laws_container.proofs.Stages.{all, done, any_call}
 use Rattle.laws_container.proofs.CallProgress.{look_at, LookAt, At}
-use Rattle.laws_container.proofs.Terms.{Terms}
 use Rattle.laws_container.proofs.Turns.{owes}
 use Rattle.laws_container.proofs.Written.{all_effects}
 use Rattle.laws_container.specs.ConditionalPromises.{LooksRightIf}
 use Rattle.laws_container.proofs.Allowed.{IsAllowed}
+use Rattle.laws_robust.proofs.OneTurn.{by_next, by_decision}
+pub use Rattle.laws_container.proofs.Moves.{look_asks_none}
 
 -- ---- a turn that ends a call writes its end last
 
@@ -118,15 +116,7 @@ look_counts size c stage = grind arith
 
 -- a run that is sound, and a look that its next turn ends
 pub record EndingLook (T : Type 0) : Type 0 where
-  -- what is shown of every call, and by which terms
-  pub shown : Shown T
-  pub terms : Terms
-  -- the machine up to this turn, whose run is sound and may go on
-  pub code : Coding T
-  pub capacity : ℕ
-  pub trace : Trace T
-  pub sound : frame.Sound (family_by terms code capacity) trace
-  pub may : MayGoOn terms trace
+  pub run : SoundRun T
   -- party `party` ends the look of the name `start` with `answer`, and before that writes the events `wrote` in the turn
   pub party : ℕ
   pub start : ContainerStart T
@@ -135,7 +125,11 @@ pub record EndingLook (T : Type 0) : Type 0 where
   pub wrote : List (Event T)
 
 module _ {T : Type 0} (ending : EndingLook T) where
-  open ending use {shown, terms, code, capacity as c, trace as t, sound, may, party as p, start, answer, look, wrote}
+  open ending use {run, party as p, start, answer, look, wrote}
+  open ending.run use {shown, terms, code, trace as t, sound, may}
+
+  abbrev c : ℕ
+  c = t.world.capacity
 
   -- the last event of these is the end of the look
   abbrev EndsLast : List (Event T) → Type 0
@@ -254,41 +248,25 @@ module _ {T : Type 0} (ending : EndingLook T) where
   -- ---- any turn
 
   -- a step that wrote this end last is the step in which the look ends
-  next_look : {q : ℕ} → (o : Option (Party T)) → party_of q t.world.latest ≡ o → EndsLast (events_of_next t.world q o)
-      → LookTurn q (after_next t.world q o).kept (after_next t.world q o).latest (events_of_next t.world q o)
-  next_look None found ended = absurd (no_more wrote (Finished p (Container start) answer) [] ended)
-  next_look {q} (Some x) found ended = go x.doing refl ended
-    where
-      -- the cases are whether the party's call is over or under way
-      go : (doing : Doing T) → x.doing ≡ doing → EndsLast (events_of_answer t.world q x (old_of t.world.words (ask_of_doing t.world.coding doing)) doing)
-          → LookTurn q (after_answer t.world q x (ask_of_doing t.world.coding doing) (old_of t.world.words (ask_of_doing t.world.coding doing)) doing).kept
-          (after_answer t.world q x (ask_of_doing t.world.coding doing) (old_of t.world.words (ask_of_doing t.world.coding doing)) doing).latest
-          (events_of_answer t.world q x (old_of t.world.words (ask_of_doing t.world.coding doing)) doing)
-      go (Over others) same_doing ended = absurd (no_more wrote (Finished p (Container start) answer) [] ended)
-      go (Going flight since) same_doing ended =
-          any_look q x since found (Next q) refl (old_of t.world.words (ask_of (want_of t.world.coding flight)))
-          same_doing (λ no. refl) _ (λ no. refl) ended
+  next_look : (q : ℕ) → EndsLast (events_of t.world (Next q))
+      → LookTurn q (after_turn t (Next q)).world.kept (after_turn t (Next q)).world.latest (events_of t.world (Next q))
+  next_look q =
+      by_next t.world q (λ w es. EndsLast es → LookTurn q w.kept w.latest es)
+      (λ ended. absurd (no_more wrote (Finished p (Container start) answer) [] ended)) (λ x flight since has.
+      any_look q x since has.found (Next q) refl (old_of t.world.words (ask_of (want_of t.world.coding flight)))
+      has.doing (λ no. refl) _ (λ no. refl))
 
   -- a decision that wrote this end last is the step in which the look ends; there is none, since no look
   -- waits for a decision
-  decision_look : {q : ℕ} (said : Bool) → is_due t.world.coding (flight_in t.world q) ≡ true
-      → (o : Option (Party T)) → party_of q t.world.latest ≡ o → EndsLast (events_of_decision t.world q said o)
-      → LookTurn q (after_decision t.world q said o).kept (after_decision t.world q said o).latest (events_of_decision t.world q said o)
-  decision_look said due None found ended = absurd (no_more wrote (Finished p (Container start) answer) [] ended)
-  decision_look {q} said due (Some x) found ended = go x.doing refl ended
-    where
-      -- the cases are whether the party's call is over or under way
-      go : (doing : Doing T) → x.doing ≡ doing → EndsLast (events_of_answer t.world q x (number_of said) doing)
-          → LookTurn q (after_answer t.world q x None (number_of said) doing).kept
-          (after_answer t.world q x None (number_of said) doing).latest
-          (events_of_answer t.world q x (number_of said) doing)
-      go (Over others) same_doing ended = absurd (no_more wrote (Finished p (Container start) answer) [] ended)
-      go (Going flight since) same_doing ended =
-          let here : flight_in t.world q ≡ Some flight = ap (λ o. flight_of (doing_of o)) found ∙ ap (λ d. flight_of (Some d)) same_doing in
-          let asks : is_question (want_of t.world.coding flight) ≡ true = rw here at due in
-          any_look q x since found (Decide q said) refl (number_of said) same_doing
-          (λ no. both_ways (is_question (want_of t.world.coding flight)) no asks) _
-          (λ no. both_ways (is_question (want_of t.world.coding flight)) no asks) ended
+  decision_look : (q : ℕ) (said : Bool) → is_due t.world.coding (flight_in t.world q) ≡ true → EndsLast (events_of t.world (Decide q said))
+      → LookTurn q (after_turn t (Decide q said)).world.kept (after_turn t (Decide q said)).world.latest (events_of t.world (Decide q said))
+  decision_look q said due =
+      by_decision t.world q (λ w es. EndsLast es → LookTurn q w.kept w.latest es)
+      (λ ended. absurd (no_more wrote (Finished p (Container start) answer) [] ended)) said (λ x flight since has.
+      let asks : is_question (want_of t.world.coding flight) ≡ true = rw has.here at due in
+      any_look q x since has.found (Decide q said) refl (number_of said) has.doing
+      (λ no. both_ways (is_question (want_of t.world.coding flight)) no asks) _
+      (λ no. both_ways (is_question (want_of t.world.coding flight)) no asks))
 
   -- the turn in which a look ends: of which party, with which events
   pub record LookEnd (new : Trace T) : Type 0 where
@@ -301,13 +279,13 @@ module _ {T : Type 0} (ending : EndingLook T) where
   pub look_end : (turn : Turn T) → IsAllowed t.world turn → EndsLast (events_of t.world turn) → LookEnd (after_turn t turn)
   look_end (Begin q a) allowed ended = absurd (no_end (Begun q a) p (Container start) answer wrote (λ h. cc) ended)
   look_end (Next q) allowed ended =
-      record { party = q; events = events_of t.world (Next q); is = refl; turn = next_look (party_of q t.world.latest) refl ended }
+      record { party = q; events = events_of t.world (Next q); is = refl; turn = next_look q ended }
   look_end (Decide q said) allowed ended =
       record {
         party = q;
         events = events_of t.world (Decide q said);
         is = refl;
-        turn = decision_look said allowed (party_of q t.world.latest) refl ended;
+        turn = decision_look q said allowed ended;
       }
   look_end (Die o) allowed ended = absurd (no_end (Died o) p (Container start) answer wrote (λ h. cc) ended)
 
@@ -410,25 +388,12 @@ module _ {T : Type 0} (ending : EndingLook T) where
 
 -- a turn from a sound machine that is not refused
 module _ {T : Type 0} (run : SoundRun T) (turn : Turn T) (r : IsAllowed run.trace.world turn) where
-  open run use {shown as is_shown, terms as by_terms, code as coding, trace as t, sound as is_sound, may as may_go}
+  open run use {terms as by_terms, trace as t}
 
   -- the look that the turn ends
   abbrev pub ending_look : {p : ℕ} {start : ContainerStart T} {answer : Answer T} → EndsLook p start answer t (after_turn t turn) → EndingLook T
   ending_look {p} {start} {answer} ends =
-      record {
-        shown = is_shown;
-        terms = by_terms;
-        code = coding;
-        capacity = t.world.capacity;
-        trace = t;
-        sound = is_sound;
-        may = may_go;
-        party = p;
-        start = start;
-        answer = answer;
-        look = ends.is_look;
-        wrote = ends.wrote;
-      }
+      record { run = run; party = p; start = start; answer = answer; look = ends.is_look; wrote = ends.wrote }
 
   pub ended : {p : ℕ} {start : ContainerStart T} {answer : Answer T} (ends : EndsLook p start answer t (after_turn t turn))
       → LookEnd (ending_look ends) (after_turn t turn)

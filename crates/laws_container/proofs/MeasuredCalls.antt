@@ -241,10 +241,14 @@ module _ {T : Type 0} where
   abbrev pub measure : ℕ → ℕ → WordMeasure T
   measure size c = record { left = left size c; pays = pays c; alone = c * (size + 7) + max 2 size; changes = max 2 c }
 
+  -- the begin and the call are of a container, and the call stands so
+  abbrev pub AreOfContainer : (ContainerFlight T → Type 0) → Start T → Flight T → Type 0
+  AreOfContainer Stands (starts.Container start) (flights.Container flight) = Stands flight
+  AreOfContainer Stands start flight = ⊥
+
   -- the call is one of the container, at a stage where the measure needs it
   abbrev pub At : Coding T → ℕ → Start T → Flight T → Type 0
-  At code c (starts.Container start) (flights.Container flight) = CallStands c flight
-  At code c start flight = ⊥
+  At code c start flight = AreOfContainer (CallStands c) start flight
 
   -- the registry is a container's
   abbrev pub Kept : Registry T → Type 0

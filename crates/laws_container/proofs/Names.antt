@@ -16,7 +16,7 @@ pub use Rattle.laws_robust.proofs.Parts.{IsSaid, count_ask, count_step as part_s
 pub use Rattle.laws_robust.proofs.Parts.{raise_ask, raise_step}
 pub use Rattle.laws_robust.proofs.Past.{began_earlier, since_begun, since_less, through_less, through_now, through_so}
 pub use Rattle.laws_robust.proofs.Rights.{AreOwned, IsBy, Right, right_after}
-pub use Rattle.laws_robust.proofs.SetActs.{all_so, by_latest, last_one, was_one}
+pub use Rattle.laws_robust.proofs.Lists.{all_both, all_either, all_so, by_latest, last_one, one_of_none, still_one, was_one}
 pub use Rattle.laws_robust.proofs.Sound.{count_asks_none, lock_asks_none, raise_asks_none}
 pub use Rattle.laws_robust.proofs.Stages.{exchange_sets, exchanges, fails_same, is_seen, loads, loads_same}
 pub use Rattle.laws_robust.proofs.CallProgress.{AcquireAt, CountAt, LockAt, ReleaseAt, acquire_at, acquire_number}
@@ -50,8 +50,8 @@ pub use Rattle.model.proofs.Names.{whose, words_after, wrote_in, zero, ℕ, ⊎_
 pub use Rattle.model.proofs.Names.{◌==◌, ◌^◌, ◌∙◌, ◌∷◌, ◌≡◌, ◌≢◌, ◌≤◌, ◌⊎◌}
 pub use Rattle.model.proofs.Orders.{Keeps}
 pub use Rattle.model.proofs.Parties.{apart, found_put_other, found_put_same, itself, party_put_other, party_put_same}
-pub use Rattle.model.proofs.Readings.{AllFollow, AreOwn, AreRight, Each-append, Each-less, Each-nil, Earlier, Last, SplitAt}
-pub use Rattle.model.proofs.Readings.{no_more, span_of-death, span_of-other, span_of-own, split_last}
+pub use Rattle.model.proofs.Readings.{AllFollow, AreOwn, AreRight, Each-append, Each-less, Each-nil}
+pub use Rattle.model.proofs.Readings.{no_more, span_of-death, span_of-other, span_of-own}
 pub use Rattle.model.proofs.Rows.{MayBegin, MayDie, may_begin, must_be_due, next_passes, passes, row_passed}
 pub use Rattle.model.proofs.Scenes.{ComesFrom, StandsThere, stands_there}
 pub use Rattle.model.specs.Families.Container.Bounds.{most_steps}

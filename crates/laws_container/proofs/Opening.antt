@@ -14,6 +14,7 @@ use Rattle.laws_container.proofs.StateInvariant.{Sight, Rests, number_in, number
 use Rattle.laws_container.proofs.Sound.{Opens}
 use Rattle.laws_container.proofs.Terms.{Terms}
 use Rattle.laws_container.proofs.Turns.{Now}
+use Rattle.laws_robust.proofs.Opening.{unfilled_good}
 
 -- ---- the words
 
@@ -61,21 +62,7 @@ module _ (z c : ℕ) where
   words_good some few =
       let long = first_long in
       let all_long = rest_long in
-      record {
-        some = some;
-        few = few;
-        wide = omega arith;
-        cells = no_owner;
-        filled = λ i owner e. absurd (cc);
-        lock = refl;
-        low = λ t. omega arith;
-        bound = omega arith;
-        died = λ owner. refl;
-        does = Each-nil _;
-        answers = Each-nil _;
-        owned = λ calm. record { held = λ i owner e. absurd (cc); settled = λ i owner e. absurd (cc) };
-        holds = λ calm. Each-nil _;
-      }
+      unfilled_good some few (omega arith) refl no_owner
 
 -- ---- a new state
 

@@ -4,7 +4,7 @@
 use Rattle.laws_container.proofs.Names.{◌≡◌, ◌≢◌, ⊎_elim, ℕ, ◌+◌, ◌*◌, ◌≤◌, ◌==◌, if◌then◌else◌, false}
 use Rattle.laws_container.proofs.Names.{true, Option, Some, None, List, [], ◌∷◌, refl, sym, subst, append-nil, arith}
 use Rattle.laws_container.proofs.Names.{cases_lt, nat_tests, Ask, RecoverStage, ReleaseState}
-use Rattle.laws_container.proofs.Names.{change_word, recover_ends, empty, locked, greatest, Event, Finished}
+use Rattle.laws_container.proofs.Names.{change_word, recover_ends, locked, greatest, Event, Finished}
 use Rattle.laws_container.proofs.Names.{Container, UnlockedAtLast, is_locked, IsUnlocked, StillToFree, filled_of}
 use Rattle.laws_container.proofs.Names.{set_acts_of, words_after, held_now, is_gone, counter_of, some_none, is_shut}
 use Rattle.laws_container.proofs.Names.{unlocked, quiet_end, IsWorn, worn_on, none_beyond, through_now, loads_same}

@@ -1,15 +1,15 @@
 -- The steps of a recovery behind its question at an index: it empties the cell, if that has its owner still,
 -- and then hides what stands there, unless the number of the element has changed. What a step has to show is
 -- said by `StepOf` and `Leads` of `Stages`.
-use Rattle.laws_container.proofs.Names.{◌≡◌, ◌≢◌, ◌⊎◌, ⊎_elim, inl, inr, ℕ, ◌+◌, ◌*◌, ◌%◌, ◌≤◌, ◌==◌}
-use Rattle.laws_container.proofs.Names.{if◌then◌else◌, Bool, false, true, Option, Some, None, List, [], ◌∷◌, ◌++◌}
-use Rattle.laws_container.proofs.Names.{set, refl, sym, ap, subst, ◌∙◌, append-nil, arith, nat_tests, fold-append}
-use Rattle.laws_container.proofs.Names.{Ask, GoOn, RecoverStage, count_word, is_even, recover_comes_to}
-use Rattle.laws_container.proofs.Names.{recover_raises, cell_word, empty, one_more, Event, FreedOf, Hidden, Party}
-use Rattle.laws_container.proofs.Names.{WasShown, Sees, HidesOne, acts, cell_of, LivesToRelease, Frees, Yes}
-use Rattle.laws_container.proofs.Names.{filled_after, filled_of, IsOneOf, HasJustFreed, flight_of, words_after}
-use Rattle.laws_container.proofs.Names.{step_count, is_gone, cell, was_one, by_latest, at_same, some_none, one_owner}
-use Rattle.laws_container.proofs.Names.{both_ways, filled_by, calm_less, IsWorn, exchanges, exchange_sets, fails_same}
+use Rattle.laws_container.proofs.Names.{◌≡◌, ◌≢◌, ◌⊎◌, ⊎_elim, inl, inr, ℕ, ◌+◌, ◌*◌, ◌%◌, ◌≤◌, ◌==◌, if◌then◌else◌}
+use Rattle.laws_container.proofs.Names.{Bool, false, true, Option, Some, None, List, [], ◌∷◌, ◌++◌, set, refl, sym}
+use Rattle.laws_container.proofs.Names.{ap, subst, ◌∙◌, append-nil, arith, nat_tests, fold-append, Ask, GoOn}
+use Rattle.laws_container.proofs.Names.{RecoverStage, count_word, is_even, recover_comes_to, recover_raises}
+use Rattle.laws_container.proofs.Names.{cell_word, empty, one_more, Event, FreedOf, Hidden, Party, WasShown, Sees}
+use Rattle.laws_container.proofs.Names.{HidesOne, acts, cell_of, LivesToRelease, Frees, Yes, filled_after, filled_of}
+use Rattle.laws_container.proofs.Names.{IsOneOf, HasJustFreed, flight_of, words_after, step_count, is_gone, cell}
+use Rattle.laws_container.proofs.Names.{was_one, by_latest, at_same, some_none, one_owner, both_ways, filled_by}
+use Rattle.laws_container.proofs.Names.{calm_less, IsWorn, exchanges, exchange_sets, fails_same, one_of_none}
 use Rattle.steps.specs.declared.container.recover.RecoverStage.TheVariants as recovers
 use Rattle.steps.specs.declared.indices.robust.parts.Raise.TheVariants as raises
 use Rattle.model.specs.declared.families.container.ContainerStart.TheVariants.{Recover}
@@ -27,7 +27,7 @@ use Rattle.laws_container.proofs.Left.{left_after, left_of}
 use Rattle.laws_container.proofs.RecoverParts.{Recovery, IsAtStage, as_given, freeing, OwnStep, fill_same, none, hidden_still, as_recover, first, Few, then_at}
 use Rattle.laws_container.proofs.RecoverParts.{stays_does, go_on, recs, fills_on, asked_on, told_none, comes_to_next}
 use Rattle.laws_container.proofs.RecoverReads.{LeadsOn, LeadsToStage, IsInCourseAt, LeavesWords, silent_step, course_calm, calm_recs, calm_on, index_at_least}
-use Rattle.laws_container.proofs.Recoveries.{rehidden, one_of_none, has_of_none, has_latest, was_act, course_then}
+use Rattle.laws_container.proofs.Recoveries.{rehidden, course_then}
 use Rattle.laws_container.proofs.SetSteps.{rest_set, wide_set, frees}
 use Rattle.laws_container.proofs.Stages.{all, done, sees_now, then_sees, StepOf, Leads, none_lengthens, backs_then, since_then, changes_then, was_well_formed}
 use Rattle.laws_container.proofs.CallProgress.{recover_at, recover_number, for_back, for_index, AskedOrShown, IsInCourse, RecoverAt}
@@ -177,7 +177,7 @@ module _ {T : Type 0} (recovery : Recovery T) where
       -- for the set the exchange frees the index, and does nothing else
       set_does : set_invariant.Does (of_set scene) (words_after ws empty_it) frees_it
       set_does =
-          set_frees.frees (of_set scene) (inv_of_set scene inv) (words_after ws empty_it) index owner
+          set_frees.frees (of_set scene) (inv_of_set scene inv)
           stands.0.within filled (subst (LivesToRelease owner events) (sym here.call.span) tt)
           (λ calm q ne o alive h. let same : owner ≡ o = one_owner (filled_of index events) owner o filled h.filled in
           both_ways (is_gone scene.terms.by o events) alive (subst (λ n. is_gone scene.terms.by n events ≡ true) same knows.1.dead))
@@ -189,7 +189,7 @@ module _ {T : Type 0} (recovery : Recovery T) where
 
       -- the recovery was told to free the index, or was shown that nothing stood there
       was_known : IsOneOf (Yes index owner) (all scene) ⊎ WasShown p index events
-      was_known = grind (arith, inl, by_latest, all, inr, has_latest, done)
+      was_known = grind (arith, inl, by_latest, all, inr, done)
 
       -- the exchange that empties the cell does for the machine what freeing the index does
       does : {y : Party T} → owes (flight_of (Some y.doing)) ≡ true → KeepsInvariant scene (words_after ws empty_it) scene.states y frees_it
@@ -216,7 +216,7 @@ module _ {T : Type 0} (recovery : Recovery T) where
             asked = asked_on recovery here (step y) (index + 1) knows.1.asked;
             told = λ i said. inl
                 (⊎_elim (λ yes. ⊎_elim (λ had. inl had) (λ e. absurd (cc)) (was_one (Yes i owner) (Frees index owner) (all scene) yes))
-                (λ seen. inr (has_of_none (Sees i) (done scene) seen)) said);
+                (λ seen. inr (one_of_none (Sees i) (done scene) seen)) said);
             was = λ i e. inl (λ now. some_none (filled_of i (events ++ frees_it)) owner
                 (fold-append (filled_after i) None events frees_it ∙ at_same index i None (filled_of i events) e) now);
             new = λ i e. absurd e;
@@ -252,7 +252,7 @@ module _ {T : Type 0} (recovery : Recovery T) where
           (λ j was. ⊎_elim (λ had. inl had)
           (λ e. inr (let same : index ≡ j = cc in
           subst (λ n. AskedOrShown c z (all scene) (done scene) owner n) same
-          (⊎_elim (λ yes. inl yes.1) (λ shown. inr (has_latest (Sees index) (done scene) shown)) stands.1)))
+          (⊎_elim (λ yes. inl yes.1) (λ shown. inr (by_latest (Sees index) (done scene) shown)) stands.1)))
           (was_one (Frees j owner) (Frees index owner) (all scene) was))
 
       -- an exchange that empties the cell leads on: to hiding what stands there if the number is odd, and to
@@ -376,7 +376,7 @@ module _ {T : Type 0} (recovery : Recovery T) where
                 asked = asked_on recovery here step (index + 1) knows.1.asked;
                 told = λ i said. inl
                     (⊎_elim (λ yes. inl (one_of_none (Yes i owner) (all scene) yes))
-                    (λ seen. ⊎_elim (λ had. inr had) (λ e. absurd (cc)) (was_act (HidesOne index) seen))
+                    (λ seen. ⊎_elim (λ had. inr had) (λ e. absurd (cc)) (was_one (Sees i) (HidesOne index) (done scene) seen))
                     said);
                 was = λ i e. absurd e;
                 new = λ i e. absurd e;

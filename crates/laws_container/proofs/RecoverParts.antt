@@ -1,13 +1,14 @@
 -- What the steps of a recovery have in common: how it goes on to a stage, how it comes to the next index, and
 -- what it knows after a step.
-use Rattle.laws_container.proofs.Names.{◌≡◌, ◌⊎◌, inl, inr, ℕ, ◌+◌, ◌*◌, ◌<◌, ◌≤◌, if◌then◌else◌, nat_lt}
-use Rattle.laws_container.proofs.Names.{Bool, true, Option, Some, List, [], ◌++◌, refl, sym, ap, subst, arith}
-use Rattle.laws_container.proofs.Names.{AllByRecursion, nat_tests, Ask, After, GoOn, RecoverStage, ReleaseMode}
-use Rattle.laws_container.proofs.Names.{ReleaseState, recover_comes_to, empty, went_on, Answer, Event, Container}
-use Rattle.laws_container.proofs.Names.{ContainerStart, ContainerFlight, Party, WasShown, promise, Sees, acts}
-use Rattle.laws_container.proofs.Names.{acts_of, HeldThroughout, StillToFree, Frees, Asks, Yes, set_acts, set_acts_of}
+use Rattle.laws_container.proofs.Names.{◌≡◌, ◌⊎◌, inl, inr, ℕ, ◌+◌, ◌*◌, ◌<◌, ◌≤◌, if◌then◌else◌, nat_lt, Bool, true}
+use Rattle.laws_container.proofs.Names.{Option, Some, List, [], ◌++◌, refl, sym, ap, subst, arith, AllByRecursion}
+use Rattle.laws_container.proofs.Names.{nat_tests, Ask, After, GoOn, RecoverStage, ReleaseMode, ReleaseState}
+use Rattle.laws_container.proofs.Names.{recover_comes_to, empty, went_on, Answer, Event, Container, ContainerStart}
+use Rattle.laws_container.proofs.Names.{ContainerFlight, Party, WasShown, promise, Sees, acts, acts_of}
+use Rattle.laws_container.proofs.Names.{HeldThroughout, StillToFree, Frees, Asks, Yes, set_acts, set_acts_of}
 use Rattle.laws_container.proofs.Names.{filled_of, IsOneOf, as_it_is, BeginsNone, put, flight_of, Stands, Open}
 use Rattle.laws_container.proofs.Names.{as_call, words_after, step_count, AreOwn, AllFollow, IsWorn, worn_on, Goes}
+use Rattle.laws_container.proofs.Names.{one_of_none}
 use Rattle.steps.specs.declared.container.recover.Recover as recover_calls
 use Rattle.steps.specs.declared.container.recover.RecoverStage.TheVariants as recovers
 use Rattle.steps.specs.declared.copied.Buffer as buffers
@@ -22,7 +23,6 @@ use Rattle.laws_container.proofs.Invariant.{Scene, Inv, before, after, AreAllRig
 use Rattle.model.proofs.Locks.{locked_later}
 use Rattle.laws_container.proofs.KeptLocks.{NoIndex, FilledBut, filled_then, filled_calm}
 use Rattle.laws_container.proofs.Knows.{AskedBelow, Recovers, IsLong, Knows}
-use Rattle.laws_container.proofs.Recoveries.{one_of_none, has_of_none}
 use Rattle.laws_container.proofs.Recoveries as knowing
 use Rattle.laws_container.proofs.Silent.{Silent, silently}
 use Rattle.laws_container.proofs.Stages.{AreInCall, IsUnderWay, Lengthens, none_in_call, all, done, sees_now, then_sees, ShowsThen}
@@ -249,7 +249,7 @@ module _ {T : Type 0} (recovery : Recovery T) where
     -- events that tell and show nothing add no index that it was told to free or was shown
     pub told_none : (i : ℕ) → IsOneOf (Yes i owner) (set_acts_of p events ++ []) ⊎ IsOneOf (Sees i) (acts_of p events ++ [])
         → (IsOneOf (Yes i owner) (set_acts_of p events) ⊎ WasShown p i events) ⊎ none i
-    told_none = grind (arith, inl, one_of_none, inr, has_of_none)
+    told_none = grind (arith, inl, one_of_none, inr)
 
     -- a step that frees nothing adds no freed index
     none_freed : (i : ℕ) → IsOneOf (Frees i owner) (set_acts_of p events ++ []) → IsOneOf (Frees i owner) (set_acts_of p events)

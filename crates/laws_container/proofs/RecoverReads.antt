@@ -5,12 +5,13 @@ use Rattle.laws_container.proofs.Names.{◌≡◌, ◌≢◌, ◌⊎◌, ⊎_eli
 use Rattle.laws_container.proofs.Names.{nat_lt, Bool, false, true, Option, Some, None, is_some, List, [], ◌∷◌, ◌++◌}
 use Rattle.laws_container.proofs.Names.{refl, sym, ap, subst, ◌∙◌, append-nil, arith, nat_tests, Ask, After, GoOn}
 use Rattle.laws_container.proofs.Names.{ReleaseState, RecoverStage, ReleaseMode, LockIfLastIndex, Default, count_word}
-use Rattle.laws_container.proofs.Names.{is_even, recover_comes_to, recover_ends, recover_sees, cell_word}
-use Rattle.laws_container.proofs.Names.{locked, Event, Shown, Party, WasShown, Act, Sees, acts_of, seen_in}
-use Rattle.laws_container.proofs.Names.{contents_of, IsFilledWith, IsUnlocked, HeldThroughout, StillToFree}
-use Rattle.laws_container.proofs.Names.{SetAct, Frees, Asks, Yes, set_acts_of, IsOneOf, asked_in, words_after}
-use Rattle.laws_container.proofs.Names.{AllByRecursion, AreOwn, BeginsNone, step_count, held_now, held_later, no_more, IsWorn, counter_of, cell}
-use Rattle.laws_container.proofs.Names.{filled_by, is_shut, unlocked, through_now, loads_same}
+use Rattle.laws_container.proofs.Names.{is_even, recover_comes_to, recover_ends, recover_sees, cell_word, locked}
+use Rattle.laws_container.proofs.Names.{Event, Shown, Party, WasShown, Act, Sees, acts_of, seen_in, contents_of}
+use Rattle.laws_container.proofs.Names.{IsFilledWith, IsUnlocked, HeldThroughout, StillToFree, SetAct, Frees, Asks}
+use Rattle.laws_container.proofs.Names.{Yes, set_acts_of, IsOneOf, asked_in, words_after, AllByRecursion, AreOwn}
+use Rattle.laws_container.proofs.Names.{BeginsNone, step_count, held_now, held_later, no_more, IsWorn, counter_of}
+use Rattle.laws_container.proofs.Names.{cell, filled_by, is_shut, unlocked, through_now, loads_same, one_of_none}
+use Rattle.laws_container.proofs.Names.{last_one, was_one}
 use Rattle.steps.specs.declared.container.recover.Recover as recover_calls
 use Rattle.steps.specs.declared.container.recover.RecoverStage.TheVariants as recovers
 use Rattle.steps.specs.declared.copied.Buffer as buffers
@@ -19,7 +20,7 @@ use Rattle.model.specs.declared.families.container.ContainerStart.TheVariants.{R
 use Rattle.laws_robust.proofs.Stages as set_stages
 use Rattle.laws_container.proofs.Copies.{copying_first}
 use Rattle.laws_container.proofs.Core.{count_at}
-use Rattle.laws_container.proofs.Finds.{has_last, nothing_stands}
+use Rattle.laws_container.proofs.Finds.{nothing_stands}
 use Rattle.laws_container.proofs.HiddenKnows.{HasHidden}
 use Rattle.laws_container.proofs.Invariant.{AreAllRight, before, of_set, inv_of_set}
 use Rattle.model.proofs.Locks.{locked_later}
@@ -27,7 +28,7 @@ use Rattle.laws_container.proofs.KeptLocks.{NoIndex, FilledBut, filled_none}
 use Rattle.laws_container.proofs.Knows.{WasFilled, Recovers, RecoverKnows, Knows}
 use Rattle.laws_container.proofs.RecoverParts.{Recovery, IsAtStage, OwnStep, fill_same, none, hidden_still, hidden_then, as_recover, first, then_at}
 use Rattle.laws_container.proofs.RecoverParts.{reads_does, go_on, recs, fills_on, asked_on, asked_more, told_none, comes_to_next}
-use Rattle.laws_container.proofs.Recoveries.{one_of_none, was_act, course_then}
+use Rattle.laws_container.proofs.Recoveries.{course_then}
 use Rattle.laws_container.proofs.Silent.{Silent, silent_set}
 use Rattle.laws_container.proofs.Stages.{all, done, sees_now, then_sees, ShowsThen, StepOf, Leads}
 use Rattle.laws_container.proofs.Stages.{Lengthens, none_lengthens, backs_then, since_then, changes_then, acts_more}
@@ -360,11 +361,11 @@ module _ {T : Type 0} (recovery : Recovery T) where
                 New = λ i. i ≡ index;
                 asked =
                     asked_more recovery here step index rec.asked
-                    (λ through. inr (subst (IsOneOf (Sees index)) (sym acts_then) (has_last (Sees index) (done scene))));
+                    (λ through. inr (subst (IsOneOf (Sees index)) (sym acts_then) (last_one (Sees index) (done scene))));
                 told = λ i said.
                     ⊎_elim (λ yes. inl (inl (one_of_none (Yes i owner) (all scene) yes)))
                     (λ seen. ⊎_elim (λ had. inl (inr had)) (λ e. let is : index ≡ i = cc in inr (sym is))
-                    (was_act (Sees index) seen))
+                    (was_one (Sees i) (Sees index) (done scene) seen))
                     said;
                 was = λ i e. absurd e;
                 new = λ i e. inr e;

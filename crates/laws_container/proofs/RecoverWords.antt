@@ -2,16 +2,15 @@
 -- exchange for itself, and is told whether to free the index. What a step has to show is said by `StepOf` and
 -- `Leads` of `Stages`.
 use Rattle.laws_container.proofs.Names.{◌≡◌, ◌≢◌, ⊎_elim, inl, inr, ℕ, ◌+◌, ◌*◌, ◌<◌, ◌≤◌, ◌==◌, if◌then◌else◌}
-use Rattle.laws_container.proofs.Names.{nat_lt, false, true, not, Option, Some, None, List, [], ◌∷◌, ◌++◌, set}
-use Rattle.laws_container.proofs.Names.{fold, refl, sym, ap, subst, ◌∙◌, append-nil, append_assoc, arith, nat_tests}
-use Rattle.laws_container.proofs.Names.{set-get_or, length-set, flat_map-append, fold-append, Ask, GoOn}
-use Rattle.laws_container.proofs.Names.{RecoverStage, count_word, element_word, is_even}
-use Rattle.laws_container.proofs.Names.{recover_comes_to, recover_sees, Event, Asked, Told, Copied, Shown}
-use Rattle.laws_container.proofs.Names.{Container, ContainerStart, Copies, Sees, act, acts, acts_of, IsFilledWith}
-use Rattle.laws_container.proofs.Names.{IsUnlocked, Frees, Asks, Yes, set_act, set_acts, set_acts_of, filled_after}
-use Rattle.laws_container.proofs.Names.{IsOneOf, asked_in, read_in, kept_at, Open, own_after, words_after, held_later}
-use Rattle.laws_container.proofs.Names.{gone_more, IsWorn, was_one, last_one, loads_same, exchanges, exchange_sets}
-use Rattle.laws_container.proofs.Names.{fails_same}
+use Rattle.laws_container.proofs.Names.{nat_lt, false, true, not, Option, Some, None, List, [], ◌∷◌, ◌++◌, set, fold}
+use Rattle.laws_container.proofs.Names.{refl, sym, ap, subst, ◌∙◌, append-nil, append_assoc, arith, nat_tests}
+use Rattle.laws_container.proofs.Names.{set-get_or, length-set, flat_map-append, fold-append, Ask, GoOn, RecoverStage}
+use Rattle.laws_container.proofs.Names.{count_word, element_word, is_even, recover_comes_to, recover_sees, Event}
+use Rattle.laws_container.proofs.Names.{Asked, Told, Copied, Shown, Container, ContainerStart, Copies, Sees, act}
+use Rattle.laws_container.proofs.Names.{acts, acts_of, IsFilledWith, IsUnlocked, Frees, Asks, Yes, set_act, set_acts}
+use Rattle.laws_container.proofs.Names.{set_acts_of, filled_after, IsOneOf, asked_in, read_in, kept_at, Open}
+use Rattle.laws_container.proofs.Names.{own_after, words_after, held_later, gone_more, IsWorn, was_one, last_one}
+use Rattle.laws_container.proofs.Names.{loads_same, exchanges, exchange_sets, fails_same, still_one, one_of_none}
 use Rattle.steps.specs.declared.container.recover.RecoverStage.TheVariants as recovers
 use Rattle.steps.specs.declared.copied.Buffer as buffers
 use Rattle.model.specs.declared.families.container.ContainerStart.TheVariants.{Recover}
@@ -24,7 +23,7 @@ use Rattle.laws_container.proofs.KeptLocks.{NoIndex, FilledBut}
 use Rattle.laws_container.proofs.Knows.{View, WasFilled, Copying, CheckPaid, Recovers, RecoverKnows, IsLong}
 use Rattle.laws_container.proofs.RecoverParts.{Recovery, IsAtStage, OwnStep, fill_same, none, as_recover, first, then_at, reads_does}
 use Rattle.laws_container.proofs.RecoverParts.{go_on, recs, fills_on, asked_on, asked_more, hidden_then, covers_then}
-use Rattle.laws_container.proofs.Recoveries.{one_more_of, has_of_none, was_act, course_then}
+use Rattle.laws_container.proofs.Recoveries.{course_then}
 use Rattle.laws_container.proofs.Stages.{none_lengthens, all, done, sees_now, then_sees, StepOf, AnswerOf, Leads}
 use Rattle.laws_container.proofs.Stages.{set_acts_more, acts_more}
 use Rattle.laws_container.proofs.Stages.{was_well_formed}
@@ -228,7 +227,7 @@ module _ {T : Type 0} (recovery : Recovery T) where
                     (λ through. inl (subst (IsOneOf (Asks index owner)) (sym set_acts_then) (last_one (Asks index owner) (all scene))));
                 told = λ i said. inl
                     (⊎_elim (λ yes. ⊎_elim (λ had. inl had) (λ e. absurd (cc)) (was_one (Yes i owner) (Asks index owner) (all scene) yes))
-                    (λ seen. ⊎_elim (λ had. inr had) (λ e. absurd (cc)) (was_act (Copies index value) seen))
+                    (λ seen. ⊎_elim (λ had. inr had) (λ e. absurd (cc)) (was_one (Sees i) (Copies index value) (done scene) seen))
                     said);
                 was = λ i e. absurd e;
                 new = λ i e. absurd e;
@@ -318,7 +317,7 @@ module _ {T : Type 0} (recovery : Recovery T) where
                 (λ j was. ⊎_elim (λ had. inl had) (λ e. absurd (cc)) (was_one (Frees j owner) (Yes index owner) (all scene) was)),
             inl (
               record { before = all scene; is = refl },
-              one_more_of (Asks index owner) (all scene) (Yes index owner ∷ [])
+              still_one (Asks index owner) (all scene) (Yes index owner ∷ [])
                   (record { before = stands.2.before; after = []; is = stands.2.is }),
             ),
           );
@@ -333,7 +332,7 @@ module _ {T : Type 0} (recovery : Recovery T) where
                 told = λ i said.
                     ⊎_elim (λ yes. ⊎_elim (λ had. inl (inl had)) (λ e. let is : index ≡ i = cc in inr (sym is))
                     (was_one (Yes i owner) (Yes index owner) (all scene) yes))
-                    (λ seen. inl (inr (has_of_none (Sees i) (done scene) seen))) said;
+                    (λ seen. inl (inr (one_of_none (Sees i) (done scene) seen))) said;
                 was = λ i e. absurd e;
                 new = λ i e. inr e;
                 hidden = hidden_then recovery here step

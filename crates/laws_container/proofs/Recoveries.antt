@@ -1,45 +1,19 @@
 -- What a recovery knows once its party has taken a turn: what it has asked about, been told and been shown,
 -- and which indices its owner has lost.
-use Rattle.laws_container.proofs.Names.{◌≡◌, ◌≢◌, ◌⊎◌, ⊎_elim, inl, inr, ℕ, ◌+◌, ◌<◌, ◌≤◌, Some, List, [], ◌∷◌, ◌++◌}
-use Rattle.laws_container.proofs.Names.{sym, subst, append_assoc, append-nil, arith, cases_eq}
-use Rattle.laws_container.proofs.Names.{flat_map-append, ContainerState, Event, Party, Coding, WasShown, Act, Sees}
-use Rattle.laws_container.proofs.Names.{acts, acts_of, index_seen, seen_in, IsUnlocked, HeldThroughout, StillToFree}
-use Rattle.laws_container.proofs.Names.{SetAct, Frees, Asks, Yes, index_asked, asked_in, set_acts, set_acts_of}
-use Rattle.laws_container.proofs.Names.{filled_of, IsOneOf, IsLatest, BeginsNone, held_later, SplitAt, Last, Earlier}
-use Rattle.laws_container.proofs.Names.{split_last, gone_more, honest_less, stays_lost, Goes, through_less}
-use Rattle.laws_container.proofs.Finds.{all_both, below_more, has_more}
+use Rattle.laws_container.proofs.Names.{◌≡◌, ◌≢◌, ◌⊎◌, ⊎_elim, inl, inr, ℕ, ◌+◌, ◌<◌, ◌≤◌, Some, List, ◌++◌, sym}
+use Rattle.laws_container.proofs.Names.{subst, arith, cases_eq, flat_map-append, ContainerState, Event, Party, Coding}
+use Rattle.laws_container.proofs.Names.{WasShown, Act, Sees, acts, acts_of, index_seen, seen_in, IsUnlocked}
+use Rattle.laws_container.proofs.Names.{HeldThroughout, StillToFree, SetAct, Frees, Asks, Yes, index_asked, asked_in}
+use Rattle.laws_container.proofs.Names.{set_acts, set_acts_of, filled_of, IsOneOf, BeginsNone, held_later, gone_more}
+use Rattle.laws_container.proofs.Names.{honest_less, stays_lost, Goes, through_less, all_both, still_one}
+use Rattle.laws_container.proofs.Finds.{below_more}
 use Rattle.laws_container.proofs.HiddenKnows.{HasHidden}
 use Rattle.laws_container.proofs.Knows.{View, now, IsGone, AskedBelow, GoneBut, Recovers}
 use Rattle.laws_container.proofs.CallProgress.{AreBelow, AskedOrShown, IsInCourse}
 
 -- ---- what the recovery has done
 
--- what the call has done it has done still when it has done more
-pub one_more_of : (one : SetAct) (all more : List SetAct) → IsOneOf one all → IsOneOf one (all ++ more)
-one_more_of = grind (arith, append_assoc)
-
--- where no act was added, each act is one of the earlier ones
-pub one_of_none : (one : SetAct) (all : List SetAct) → IsOneOf one (all ++ []) → IsOneOf one all
-one_of_none one all is_one = subst (IsOneOf one) (append-nil all) is_one
-
 module _ {T : Type 0} where
-  -- where no act on elements was added, each act is one of the earlier ones
-  pub has_of_none : (one : Act T) (all : List (Act T)) → IsOneOf one (all ++ []) → IsOneOf one all
-  has_of_none one all is_one = subst (IsOneOf one) (append-nil all) is_one
-
-  -- where one act was added, each act is one of the earlier ones, or that last one
-  pub was_act : {one : Act T} (last : Act T) {all : List (Act T)} → IsOneOf one (all ++ last ∷ []) → IsOneOf one all ⊎ (last ≡ one)
-  was_act {one} last {all} is_one = go (split_last all last is_one.before one is_one.after is_one.is)
-    where
-      -- the cases are whether the act is the last one
-      go : SplitAt all last is_one.before one is_one.after → IsOneOf one all ⊎ (last ≡ one)
-      go (Last p q) = inr q
-      go (Earlier rest p) = inl (record { before = is_one.before; after = rest; is = p })
-
-  -- the latest act is one of the acts
-  pub has_latest : (one : Act T) (all : List (Act T)) → IsLatest one all → IsOneOf one all
-  has_latest one all latest = record { before = latest.before; after = []; is = latest.is }
-
   -- the recovery keeps its course when it has done more, if it has seen and asked about indices below the new
   -- bound, and has freed none but those it had, or had asked about or was shown
   pub course_then : {c z : ℕ} {all : List SetAct} (ds : List SetAct) {done : List (Act T)} (fresh : List (Act T)) {owner i b i' b' : ℕ}
@@ -61,7 +35,7 @@ module _ {T : Type 0} where
       -- what the recovery has asked about or was shown it has asked about or was shown still
       later : (j : ℕ) → AskedOrShown c z all done owner j → AskedOrShown c z (all ++ ds) (done ++ fresh) owner j
       later j asked_or_shown =
-          ⊎_elim (λ asked. inl (one_more_of (Asks j owner) all ds asked)) (λ shown. inr (has_more (Sees j) done fresh shown)) asked_or_shown
+          ⊎_elim (λ asked. inl (still_one (Asks j owner) all ds asked)) (λ shown. inr (still_one (Sees j) done fresh shown)) asked_or_shown
 
 -- ---- what the recovery knows
 
@@ -132,8 +106,8 @@ module _ {T : Type 0} (turn : OwnTurn T) where
   -- the recovery has still asked about the indices below `k`
   pub asked_then : (k : ℕ) → AskedBelow code c owner k v → AskedBelow code c owner k then_view
   asked_then k asked_so i below through =
-      ⊎_elim (λ a. inl (subst (IsOneOf (Asks i owner)) (sym set_acts_more) (one_more_of (Asks i owner) (set_acts_of p events) (set_acts es) a)))
-      (λ s. inr (subst (IsOneOf (Sees i)) (sym acts_more) (has_more (Sees i) (acts_of p events) (acts es) s)))
+      ⊎_elim (λ a. inl (subst (IsOneOf (Asks i owner)) (sym set_acts_more) (still_one (Asks i owner) (set_acts_of p events) (set_acts es) a)))
+      (λ s. inr (subst (IsOneOf (Sees i)) (sym acts_more) (still_one (Sees i) (acts_of p events) (acts es) s)))
       (asked_so i below (through_less p (StillToFree p owner i) events es fresh through))
 
   -- the recovery has asked about one index more, if it need not free that one, or has asked

@@ -3,14 +3,14 @@
 -- show is said by `StepOf` and `Leads` of `Stages`.
 use Rattle.laws_container.proofs.Names.{◌≡◌, ⊎_elim, inl, inr, ℕ, ◌+◌, ◌*◌, ◌<◌, ◌≤◌, Bool, false, Option, Some, None}
 use Rattle.laws_container.proofs.Names.{is_some, List, [], ◌∷◌, ◌++◌, set, refl, sym, ap, subst, append-nil, arith}
-use Rattle.laws_container.proofs.Names.{fold-append, Ask, After, ReleaseMode, LockIfLastIndex, Default}
-use Rattle.laws_container.proofs.Names.{ReleaseState, Lock, Raise, recover_raised, recover_locked, locked}
-use Rattle.laws_container.proofs.Names.{greatest, first_lock, raise_after, raise_goes_back, lock_after}
-use Rattle.laws_container.proofs.Names.{lock_goes_back, Event, Locked, Container, most_steps, promise, Sees}
-use Rattle.laws_container.proofs.Names.{locked_after, IsFilled, Frees, Yes, Locks, holder_of, set_acts_of}
-use Rattle.laws_container.proofs.Names.{HasJustFreed, Stands, Open, old_of, words_after, held_now, AllFollow, IsCalm}
-use Rattle.laws_container.proofs.Names.{counter_of, times_below, was_one, is_shut, IsWorn, raise_ask, lock_ask}
-use Rattle.laws_container.proofs.Names.{Goes, Party, raise_step, lock_moves, IsSaid, raise_number, lock_number, LockAt}
+use Rattle.laws_container.proofs.Names.{fold-append, Ask, After, ReleaseMode, LockIfLastIndex, Default, ReleaseState}
+use Rattle.laws_container.proofs.Names.{Lock, Raise, recover_raised, recover_locked, locked, greatest, first_lock}
+use Rattle.laws_container.proofs.Names.{raise_after, raise_goes_back, lock_after, lock_goes_back, Event, Locked}
+use Rattle.laws_container.proofs.Names.{Container, most_steps, promise, Sees, locked_after, IsFilled, Frees, Yes}
+use Rattle.laws_container.proofs.Names.{Locks, holder_of, set_acts_of, HasJustFreed, Stands, Open, old_of}
+use Rattle.laws_container.proofs.Names.{words_after, held_now, AllFollow, IsCalm, counter_of, times_below, was_one}
+use Rattle.laws_container.proofs.Names.{is_shut, IsWorn, raise_ask, lock_ask, Goes, Party, raise_step, lock_moves}
+use Rattle.laws_container.proofs.Names.{IsSaid, raise_number, lock_number, LockAt, one_of_none}
 use Rattle.steps.specs.declared.ask.After.TheVariants.{Done}
 use Rattle.steps.specs.declared.container.recover.RecoverStage.TheVariants as recovers
 use Rattle.steps.specs.declared.indices.enums.ReleaseState.TheVariants as states
@@ -30,7 +30,7 @@ use Rattle.laws_container.proofs.RecoverParts.{first, Few, then_at, recs, asked_
 use Rattle.laws_container.proofs.RecoverEnds.{LeavesAllBut, stays_recs, stays_on, stays_next, just_on}
 use Rattle.laws_container.proofs.RecoverReads.{IsInCourseAt, course_calm, back_at_least}
 use Rattle.laws_container.proofs.RecoverReads.{index_at_least}
-use Rattle.laws_container.proofs.Recoveries.{has_of_none, course_then}
+use Rattle.laws_container.proofs.Recoveries.{course_then}
 use Rattle.laws_container.proofs.SetSteps.{rest_set, wide_set, locks}
 use Rattle.laws_container.proofs.Stages.{all, done, sees_now, Leads}
 use Rattle.laws_container.proofs.Stages.{backs_then, since_then, changes_then, was_well_formed}
@@ -195,7 +195,7 @@ module _ {T : Type 0} (recovery : Recovery T) where
         → Few recovery ask false 1 (index + 1)
         → locks_to ask false locking (Done states.Locked)
     locks_set ask nobody less new paid few =
-        let set_does = set_locks.locks (of_set scene) (inv_of_set scene inv) (words_after ws ask) [] set_effects.quiet_none tt tt tt nobody less new in
+        let set_does = set_locks.locks (of_set scene) (inv_of_set scene inv) set_effects.quiet_none tt tt tt nobody less new in
         let step = λ (y : Party T). own_lock ask y set_does.goes in
         comes_to_next recovery here index ask false (record {
           longer = λ start w. refl;
@@ -217,7 +217,7 @@ module _ {T : Type 0} (recovery : Recovery T) where
             New = none;
             asked = asked_on recovery here (step y) (index + 1) knows.1.asked;
             told = λ i said. inl (⊎_elim (λ yes. ⊎_elim (λ had. inl had) (λ e. absurd (cc)) (was_one (Yes i owner) Locks (all scene) yes))
-                (λ seen. inr (has_of_none (Sees i) (done scene) seen)) said);
+                (λ seen. inr (one_of_none (Sees i) (done scene) seen)) said);
             was = λ i e. absurd e;
             new = λ i e. absurd e;
             hidden = hidden_then recovery here (step y)

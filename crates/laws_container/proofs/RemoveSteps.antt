@@ -2,9 +2,8 @@
 -- a remove. What a step has to show is said by `StepOf` and `Leads` of `Stages`.
 use Rattle.laws_container.proofs.Names.{◌≡◌, inl, ℕ, ◌+◌, ◌<◌, ◌≤◌, false, Option, Some, None, List, [], ◌∷◌, refl}
 use Rattle.laws_container.proofs.Names.{sym, ap, subst, arith, Ask, ContainerHandleNotOwnedByContainer, RemoveStage}
-use Rattle.laws_container.proofs.Names.{ReleaseMode, count_word, empty, Event, Finished, Container}
-use Rattle.laws_container.proofs.Names.{ContainerStart, ContainerFlight, place_of, words_after, loads_same}
-use Rattle.laws_container.proofs.Names.{release_at}
+use Rattle.laws_container.proofs.Names.{ReleaseMode, count_word, empty, Event, Finished, Container, ContainerStart}
+use Rattle.laws_container.proofs.Names.{place_of, words_after, loads_same, release_at}
 use Rattle.steps.specs.declared.ask.After.TheVariants.{Done}
 use Rattle.steps.specs.declared.container.remove.RemoveStage.TheVariants as removes
 use Rattle.steps.specs.declared.indices.robust.release.ReleaseStage.TheVariants as releases
@@ -16,6 +15,7 @@ use Rattle.laws_robust.proofs.Knows as set_knows
 use Rattle.laws_robust.proofs.Stages as set_stages
 use Rattle.laws_container.proofs.Core.{count_at}
 use Rattle.laws_container.proofs.HiddenRemoves.{Removing, refused_done, refused_right, total_is, hides_step, end_step}
+use Rattle.laws_container.proofs.HiddenRemoves.{at_stage, IsAtStage}
 use Rattle.laws_container.proofs.Invariant.{right_end, Scene, Inv, ActsFor, before, of_set, inv_of_set}
 use Rattle.laws_container.proofs.Knows.{RemoveKnows}
 use Rattle.laws_container.proofs.Silent.{silently}
@@ -37,18 +37,10 @@ module _ {T : Type 0} (removing : Removing T) where
   abbrev start : ContainerStart T
   start = Remove index owner mode
 
-  -- the remove as a call at this stage
-  abbrev at_stage : RemoveStage → ContainerFlight T
-  at_stage stage = remove_at c index owner mode stage
-
-  -- the party's call under way is this remove, at this stage
-  abbrev IsAtStage : RemoveStage → Type 0
-  IsAtStage stage = IsUnderWay scene (Remove index owner mode) (remove_at c index owner mode stage)
-
   -- ---- the number is loaded
 
   -- the remove loads the number of the element at its index
-  module _ (here : IsAtStage removes.LoadsCount) (none : all scene ≡ []) (nothing : done scene ≡ [])
+  module _ (here : IsAtStage removing removes.LoadsCount) (none : all scene ≡ []) (nothing : done scene ≡ [])
       (knows : set_knows.Knows c (release_at c index owner mode releases.EmptiesCell) (set_stages.now (of_set scene)))
       (few_steps : steps ≤ 0) where
     abbrev load_it : Option Ask
@@ -58,7 +50,7 @@ module _ {T : Type 0} (removing : Removing T) where
     number = count_in code c (before scene) index
 
     -- the step in which a remove loads the number of the element leads to the release of the set
-    loads_step : StepOf scene start (at_stage removes.LoadsCount)
+    loads_step : StepOf scene start (at_stage removing removes.LoadsCount)
     loads_step =
         let next = removes.Releases number releases.EmptiesCell in
         let same = loads_same ws (count_word c index) in

@@ -1,20 +1,18 @@
 -- The steps of a remove. It goes through the release of the set, which frees its index; then it hides what
 -- stood there, unless the number of the element has changed, and counts its change. What a step has to show
 -- is said by `StepOf` and `Leads` of `Stages`.
-use Rattle.laws_container.proofs.Names.{◌≡◌, ◌≢◌, ⊎_elim, inl, inr, ℕ, ◌+◌, ◌%◌, ◌<◌, ◌≤◌, if◌then◌else◌, Bool}
-use Rattle.laws_container.proofs.Names.{false, true, Option, Some, None, List, [], ◌∷◌, ◌++◌, set, refl, sym, ap}
-use Rattle.laws_container.proofs.Names.{subst, ◌∙◌, arith, Ok, fold-append, Ask, After, GoOn}
-use Rattle.laws_container.proofs.Names.{ContainerHandleNotOwnedByContainer, RemoveStage, ReleaseMode, LockIfLastIndex}
-use Rattle.laws_container.proofs.Names.{ReleaseState, GiveBack, ReleaseStage, count_word, is_even, Removed}
-use Rattle.laws_container.proofs.Names.{at_remove, remove_released, cell_word, empty, locked, greatest, went_on}
-use Rattle.laws_container.proofs.Names.{Answer, Event, FreedOf, Locked, Finished, Container, ContainerStart}
-use Rattle.laws_container.proofs.Names.{ContainerFlight, Party, place_of, removed, promise, Act, contents_after}
-use Rattle.laws_container.proofs.Names.{HasDone, locked_after, is_locked, LivesToRelease}
-use Rattle.laws_container.proofs.Names.{Frees, Locks, filled_of, holder_of, settled_of, IsOneOf}
-use Rattle.laws_container.proofs.Names.{as_it_is, SinceBegin, Stands, Open, span_of, as_call, words_after}
-use Rattle.laws_container.proofs.Names.{step_count, held_now, AllFollow, no_more, Word, is_gone}
-use Rattle.laws_container.proofs.Names.{GivesBackRight, IsHonest, IsCalm, lives_freed, counter_of, was_one}
-use Rattle.laws_container.proofs.Names.{release_at, release_number, ReleaseAt}
+use Rattle.laws_container.proofs.Names.{◌≡◌, ◌≢◌, ⊎_elim, inl, inr, ℕ, ◌+◌, ◌%◌, ◌<◌, ◌≤◌, if◌then◌else◌, Bool, false}
+use Rattle.laws_container.proofs.Names.{true, Option, Some, None, List, [], ◌∷◌, ◌++◌, set, refl, sym, ap, subst, ◌∙◌}
+use Rattle.laws_container.proofs.Names.{arith, Ok, fold-append, Ask, After, GoOn, ContainerHandleNotOwnedByContainer}
+use Rattle.laws_container.proofs.Names.{RemoveStage, ReleaseMode, LockIfLastIndex, ReleaseState, ReleaseStage}
+use Rattle.laws_container.proofs.Names.{count_word, is_even, Removed, at_remove, remove_released, cell_word, empty}
+use Rattle.laws_container.proofs.Names.{locked, greatest, went_on, Answer, Event, FreedOf, Locked, Finished}
+use Rattle.laws_container.proofs.Names.{Container, ContainerStart, ContainerFlight, Party, removed, promise, Act}
+use Rattle.laws_container.proofs.Names.{contents_after, HasDone, locked_after, is_locked, LivesToRelease, Frees}
+use Rattle.laws_container.proofs.Names.{Locks, filled_of, holder_of, settled_of, IsOneOf, as_it_is, SinceBegin}
+use Rattle.laws_container.proofs.Names.{Stands, Open, span_of, as_call, words_after, step_count, held_now, AllFollow}
+use Rattle.laws_container.proofs.Names.{no_more, Word, is_gone, GivesBackRight, IsHonest, IsCalm, lives_freed}
+use Rattle.laws_container.proofs.Names.{counter_of, was_one, release_at, release_number, ReleaseAt}
 use Rattle.steps.specs.declared.ask.After.TheVariants.{Done}
 use Rattle.steps.specs.declared.container.remove.Remove as remove_calls
 use Rattle.steps.specs.declared.container.remove.RemoveStage.TheVariants as removes
@@ -36,16 +34,17 @@ use Rattle.laws_container.specs.Gone.{FreedBy}
 use Rattle.laws_container.proofs.Core.{count_at}
 use Rattle.laws_container.proofs.HiddenKnows.{RemoveCovers, StillStands, HasHidden, no_index}
 use Rattle.laws_container.proofs.HiddenRemoves.{Removing, as_given, freeing, refused_done, refused_right, total_is}
+use Rattle.laws_container.proofs.HiddenRemoves.{at_stage, IsAtStage, then_at, given_is}
 use Rattle.laws_container.proofs.HiddenOn.{hidden_even, hidden_calm, stands_calm, hidden_on, stands_on, hidden_freed}
 use Rattle.laws_container.proofs.Invariant.{KeepsInvariant, right_end, before, after, of_set, inv_of_set, wrote_of}
 use Rattle.laws_container.proofs.Knows.{View, HasLeft, ReleaseHides, ReleaseLeft, RemoveSays, IsPaid, Knows}
 use Rattle.laws_container.proofs.Left.{left_after, left_of}
 use Rattle.laws_container.proofs.SetSteps.{rest_set, wide_set, frees, locks}
 use Rattle.laws_container.proofs.Silent.{silently}
-use Rattle.laws_container.proofs.Stages.{sees_calmly, AreInCall, IsUnderWay, all, done, sees_now, then_sees, StepOf, Leads, none_lengthens}
-use Rattle.laws_container.proofs.Stages.{party_then, since_then, changes_then, backs_then, goes_on, goes_calmly, ends}
-use Rattle.laws_container.proofs.Stages.{owes_none, was_well_formed, was_well_formed_calmly}
-use Rattle.laws_container.proofs.CallProgress.{remove_at, remove_number, release_total, RemoveAt, place_is}
+use Rattle.laws_container.proofs.Stages.{sees_calmly, AreInCall, all, done, sees_now, then_sees, StepOf, Leads}
+use Rattle.laws_container.proofs.Stages.{none_lengthens, party_then, since_then, changes_then, backs_then, goes_on}
+use Rattle.laws_container.proofs.Stages.{goes_calmly, ends, owes_none, was_well_formed, was_well_formed_calmly}
+use Rattle.laws_container.proofs.CallProgress.{remove_number, release_total, RemoveAt}
 use Rattle.laws_container.proofs.SetStays.{moves}
 use Rattle.laws_container.proofs.Terms.{Keeps}
 use Rattle.laws_container.proofs.Turns.{remove_owes, count_in}
@@ -66,10 +65,6 @@ module _ {T : Type 0} (removing : Removing T) where
   abbrev start : ContainerStart T
   start = Remove index owner mode
 
-  -- the remove as a call at this stage
-  abbrev at_stage : RemoveStage → ContainerFlight T
-  at_stage stage = remove_at c index owner mode stage
-
   -- how the remove goes on, as a call of the container
   abbrev as_remove : After remove_calls.Remove Removed → After (ContainerFlight T) (Answer T)
   as_remove a =
@@ -79,27 +74,16 @@ module _ {T : Type 0} (removing : Removing T) where
   abbrev first : remove_calls.Remove
   first = record { capacity = c; stage = removes.LoadsCount }
 
-  -- the party's call under way is this remove, at this stage
-  abbrev IsAtStage : RemoveStage → Type 0
-  IsAtStage stage = IsUnderWay scene (Remove index owner mode) (remove_at c index owner mode stage)
-
-  -- the party after the step by which the remove comes to stage `next`
-  abbrev then_at : RemoveStage → Option Ask → Bool → Party T
-  then_at next ask back = party_then scene start ask back (GoOn (at_stage next))
-
   -- what the remove sees after a step that writes nothing and leads to stage `next`
   abbrev SeesCalmly : RemoveStage → Option Ask → Bool → View T
   SeesCalmly next ask back =
-      sees_calmly scene ask back scene.states (then_at next ask back)
-
-  given_is : ◌≡◌ {A = GiveBack} (record { index = index; owner = owner; mode = mode }) (record { index = place_of c index; owner = owner; mode = mode })
-  given_is = grind (arith, place_is)
+      sees_calmly scene ask back scene.states (then_at removing next ask back)
 
   -- ---- a step on the counter, or none, that writes nothing
 
   -- a step of a remove that owes no raise of the changes, which leaves all words but the counter and writes
   -- nothing, keeps what holds of the machine
-  stays_does : (stage : RemoveStage) → IsAtStage stage → {words' : List ℕ} → set_effects.Stays (of_set scene) words'
+  stays_does : (stage : RemoveStage) → IsAtStage removing stage → {words' : List ℕ} → set_effects.Stays (of_set scene) words'
       → {y : Party T} → remove_owes stage ≡ false → KeepsInvariant scene words' scene.states y []
   stays_does stage here {words'} stays {y} owes =
       moves (as_given removing stage here) y stays (was_well_formed scene start tt here.span words' y [] tt) (owes_none scene y here owes)
@@ -110,21 +94,21 @@ module _ {T : Type 0} (removing : Removing T) where
     pub stays : set_effects.Stays (of_set scene) (words_after ws ask)
     pub few : steps + step_count ask ≤ remove_number c index owner mode next (backs_then scene back)
     pub stands : RemoveAt c z (all scene) (done scene) index owner mode next
-    pub known : Knows code c (at_stage next) (SeesCalmly next ask back)
+    pub known : Knows code c (at_stage removing next) (SeesCalmly next ask back)
 
   -- such a step leads a remove that owes no raise of the changes to that stage
-  pub stays_on : (stage : RemoveStage) → IsAtStage stage → remove_owes stage ≡ false → (next : RemoveStage) (ask : Option Ask) (back : Bool)
-      → StaysOn next ask back → Leads scene start ask back scene.states [] (GoOn (at_stage next))
+  pub stays_on : (stage : RemoveStage) → IsAtStage removing stage → remove_owes stage ≡ false → (next : RemoveStage) (ask : Option Ask) (back : Bool)
+      → StaysOn next ask back → Leads scene start ask back scene.states [] (GoOn (at_stage removing next))
   stays_on stage here owes next ask back on =
-      goes_calmly scene (at_stage next) ask back here.span (record {
+      goes_calmly scene (at_stage removing next) ask back here.span (record {
         does = stays_does stage here on.stays owes;
         few = on.few;
-        stands = (refl, given_is, fits, on.stands);
+        stands = (refl, given_is removing, fits, on.stands);
         known = on.known;
       })
 
   -- a remove that finds another owner in the cell ends with the answer that its handle is not the container's
-  refuses : (stage : RemoveStage) → IsAtStage stage → remove_owes stage ≡ false → (ask : Option Ask)
+  refuses : (stage : RemoveStage) → IsAtStage removing stage → remove_owes stage ≡ false → (ask : Option Ask)
       → words_after ws ask ≡ ws → filled_of index events ≢ Some owner → all scene ≡ [] → IsPaid (sees_now scene)
       → steps + step_count ask ≤ 1 + release_total c index owner mode (backs_then scene false)
       → Leads scene start ask false scene.states [] (Done (answers.NotRemoved ContainerHandleNotOwnedByContainer))
@@ -150,7 +134,7 @@ module _ {T : Type 0} (removing : Removing T) where
 
   -- the remove is in the release of the set, at `stage`, after it has loaded the number
   -- `count` of the element
-  module _ (count : ℕ) (stage : ReleaseStage) (here : IsAtStage (removes.Releases count stage))
+  module _ (count : ℕ) (stage : ReleaseStage) (here : IsAtStage removing (removes.Releases count stage))
       (now_at : ReleaseAt c index owner mode (all scene) stage) (nothing : done scene ≡ [])
       (left : ReleaseLeft code c index count stage (sees_now scene))
       (hiding : ReleaseHides code c index owner count stage (sees_now scene)) where
@@ -201,7 +185,7 @@ module _ {T : Type 0} (removing : Removing T) where
         record {
           within = was_left.within;
           below = λ kept. let low = was_left.below kept in omega arith;
-          left = λ holds is. was_left.left (was_well_formed_calmly scene start tt here.span (then_at next ask back) holds) (sym same ∙ is);
+          left = λ holds is. was_left.left (was_well_formed_calmly scene start tt here.span (then_at removing next ask back) holds) (sym same ∙ is);
         }
 
     -- a release that has freed the index knows that what stands there under the loaded number was left there
@@ -248,15 +232,15 @@ module _ {T : Type 0} (removing : Removing T) where
         let same : count_at c (words_after ws ask) index ≡ count_in code c (before scene) index = stays.others (count_word c index) (omega arith) in
         λ well_formed lives since. ⊎_elim (λ is. inl (same ∙ is)) (λ even. inr (ap (λ n. n % 2) same ∙ even))
         (covers stands (was_well_formed_calmly scene start tt here.span
-        (then_at (removes.Releases count releases.EmptiesCell) ask back) well_formed)
+        (then_at removing (removes.Releases count releases.EmptiesCell) ask back) well_formed)
         lives since)
     hides_next (releases.Raises raise) ask back stays stands =
         stands_calm (freeing removing this here) (words_after ws ask)
-        (then_at (removes.Releases count (releases.Raises raise)) ask back) index count
+        (then_at removing (removes.Releases count (releases.Raises raise)) ask back) index count
         (stays.others (count_word c index) (omega arith)) (stands_still stands)
     hides_next (releases.Locks lock) ask back stays stands =
         stands_calm (freeing removing this here) (words_after ws ask)
-        (then_at (removes.Releases count (releases.Locks lock)) ask back) index count
+        (then_at removing (removes.Releases count (releases.Locks lock)) ask back) index count
         (stays.others (count_word c index) (omega arith)) (stands_still stands.2)
 
     -- where the loaded number is even nothing stood at the index, so there is nothing to hide
@@ -299,7 +283,7 @@ module _ {T : Type 0} (removing : Removing T) where
           known = (
             paid,
             says_now (removes.AddsChange state) ask back mode state why,
-            hidden_calm (freeing removing this here) (words_after ws ask) (then_at (removes.AddsChange state) ask back) (none_stands freed t),
+            hidden_calm (freeing removing this here) (words_after ws ask) (then_at removing (removes.AddsChange state) ask back) (none_stands freed t),
           );
         }))
         -- a value stood at the index: the remove hides it next
@@ -319,7 +303,7 @@ module _ {T : Type 0} (removing : Removing T) where
             says_now (removes.Hides count state) ask back mode state why,
             left_calm (removes.Hides count state) ask back stays (has_left freed),
             stands_calm (freeing removing this here) (words_after ws ask)
-                (then_at (removes.Hides count state) ask back) index count
+                (then_at removing (removes.Hides count state) ask back) index count
                 (stays.others (count_word c index) (omega arith)) (stands_still freed),
           );
         }))
@@ -339,29 +323,29 @@ module _ {T : Type 0} (removing : Removing T) where
         (is_even count)
         -- nothing stood at the index: the remove counts its change next
         (λ t.
-        goes_on scene (at_stage (removes.AddsChange states.Locked)) ask false here.span (record {
+        goes_on scene (at_stage removing (removes.AddsChange states.Locked)) ask false here.span (record {
           longer = λ start w. refl;
-          does = does (then_at (removes.AddsChange states.Locked) ask false);
+          does = does (then_at removing (removes.AddsChange states.Locked) ask false);
           follows = stands;
           few = omega arith;
-          stands = (refl, given_is, fits, (below, done_then));
+          stands = (refl, given_is removing, fits, (below, done_then));
           known = (
             paid,
             says,
             hidden_on (freeing removing this here) (words_after ws ask)
-                (then_at (removes.AddsChange states.Locked) ask false) lock_in_call frees_none (none_stands freed t),
+                (then_at removing (removes.AddsChange states.Locked) ask false) lock_in_call frees_none (none_stands freed t),
           );
         }))
         -- a value stood at the index: the remove hides it next
         (λ t.
-        goes_on scene (at_stage (removes.Hides count states.Locked)) ask false here.span (record {
+        goes_on scene (at_stage removing (removes.Hides count states.Locked)) ask false here.span (record {
           longer = λ start w. refl;
-          does = does (then_at (removes.Hides count states.Locked) ask false);
+          does = does (then_at removing (removes.Hides count states.Locked) ask false);
           follows = stands;
           few = omega arith;
           stands = (
             refl,
-            given_is,
+            given_is removing,
             fits,
             (
               below,
@@ -375,8 +359,8 @@ module _ {T : Type 0} (removing : Removing T) where
           known = (
             paid,
             says,
-            left_then (then_at (removes.Hides count states.Locked) ask false),
-            stands_then (then_at (removes.Hides count states.Locked) ask false),
+            left_then (then_at removing (removes.Hides count states.Locked) ask false),
+            stands_then (then_at removing (removes.Hides count states.Locked) ask false),
           );
         }))
       where
@@ -384,7 +368,7 @@ module _ {T : Type 0} (removing : Removing T) where
         lock_in_call = record { own = (refl, tt); fresh = tt; longer = λ start w. refl }
 
         set_does : set_invariant.Does (of_set scene) (words_after ws ask) (Locked p ∷ [])
-        set_does = set_locks.locks (of_set scene) (inv_of_set scene inv) (words_after ws ask) [] set_effects.quiet_none tt tt tt nobody less new
+        set_does = set_locks.locks (of_set scene) (inv_of_set scene inv) set_effects.quiet_none tt tt tt nobody less new
 
         -- for the machine of the container the lock does what it does for that of the set
         does : (y : Party T) → KeepsInvariant scene (words_after ws ask) scene.states y (Locked p ∷ [])
@@ -447,11 +431,11 @@ module _ {T : Type 0} (removing : Removing T) where
               });
           freed = λ ask new does none known few.
               let next = removes.Releases count (releases.Raises raises.LoadsCounter) in
-              let party_after = then_at next ask false in
+              let party_after = then_at removing next ask false in
               let written : List (Event T) = FreedOf p index owner ∷ [] in
               let rest = rest_set scene (cell_word index) empty (omega arith) new in
               let same : count_at c (words_after ws ask) index ≡ count_in code c (before scene) index = rest (count_word c index) (omega arith) in
-              goes_on scene (at_stage next) ask false here.span (record {
+              goes_on scene (at_stage removing next) ask false here.span (record {
                 longer = λ start w. refl;
                 does =
                     frees (as_given removing this here) party_after rest (wide_set scene (cell_word index) empty new) does
@@ -460,7 +444,7 @@ module _ {T : Type 0} (removing : Removing T) where
                     (subst (FreedBy scene.terms.by p index owner events) (sym here.span) tt);
                 follows = ((refl, refl, none), tt);
                 few = omega arith;
-                stands = (refl, given_is, fits, (below, ap (λ d. d ++ Frees index owner ∷ []) none, ap (λ (d : List (Act T)). d ++ []) nothing));
+                stands = (refl, given_is removing, fits, (below, ap (λ d. d ++ Frees index owner ∷ []) none, ap (λ (d : List (Act T)). d ++ []) nothing));
                 known = (
                   known,
                   record {
@@ -488,7 +472,7 @@ module _ {T : Type 0} (removing : Removing T) where
     -- the step of a remove in the release of the set keeps the invariant
     pub release_step : set_knows.Knows c (release_at c index owner mode stage) (set_stages.now (of_set scene))
         → steps ≤ 1 + release_number c mode stage backs
-        → StepOf scene start (at_stage (removes.Releases count stage))
+        → StepOf scene start (at_stage removing (removes.Releases count stage))
     release_step knows few_steps =
         held_step releasing LeadsInRemove caller
         stage now_at knows few_steps

@@ -2,22 +2,21 @@
 -- ends in its first one.
 use Rattle.laws_container.proofs.Names.{◌≡◌, inl, ℕ, ◌<◌, ◌≤◌, false, None, List, [], ◌∷◌, refl, sym, subst, arith}
 use Rattle.laws_container.proofs.Names.{ContainerHandleNotOwnedByContainer, ReplaceStage, empty, Event, Finished}
-use Rattle.laws_container.proofs.Names.{Container, ContainerStart, place_of, StandsWellFormed, Hides, quiet_end}
+use Rattle.laws_container.proofs.Names.{Container, ContainerStart, place_of, StandsWellFormed}
 use Rattle.steps.specs.declared.ask.After.TheVariants.{Done}
 use Rattle.steps.specs.declared.container.replace.ReplaceStage.TheVariants as replaces
 use Rattle.model.specs.declared.event.Answer.TheVariants as answers
 use Rattle.model.specs.declared.families.container.ContainerStart.TheVariants.{Replace}
-use Rattle.laws_robust.proofs.Effects as set_effects
-use Rattle.laws_container.proofs.Invariant.{Scene, Inv, ActsFor, of_set, inv_of_set}
+use Rattle.laws_container.proofs.Invariant.{Scene, Inv, ActsFor, right_end}
 use Rattle.laws_container.proofs.Knows.{ReplacesKnow}
 use Rattle.laws_container.proofs.WellFormed.{well_formed_before}
 use Rattle.laws_container.proofs.Stages.{Call, IsUnderWay, all, done, sees_now, StepOf}
 use Rattle.laws_container.proofs.Stages.{none_lengthens, party_then}
 use Rattle.laws_container.proofs.Stages.{ends, owes_none}
 use Rattle.laws_container.proofs.CallProgress.{replace_at, replace_number, ReplaceAt, place_is}
-use Rattle.laws_container.proofs.Steps.{end_does, ends_calmly}
 use Rattle.laws_container.proofs.ReplaceSteps.{Replacing, cell_step}
 use Rattle.laws_container.proofs.ReplaceFound.{count_step, hide_step, store_step, place_step, end_step}
+use Rattle.laws_container.proofs.Silent.{silently}
 
 -- a replace of this value at `index` for `owner` is under way in the turn of the scene
 module _ {T : Type 0} {scene : Scene T} (inv : Inv scene) (index : ℕ) (value : T) {owner : ℕ} (fits : owner < empty) (acts : ActsFor scene owner) where
@@ -45,15 +44,7 @@ module _ {T : Type 0} {scene : Scene T} (inv : Inv scene) (index : ℕ) (value :
       record { scene = scene; inv = inv; start = start; flight = replace_at c at value owner replaces.Refuses; no_look = tt; here = here } in
       ends scene (answers.NotRemoved ContainerHandleNotOwnedByContainer) None false here.span (record {
         longer = none_lengthens;
-        does = ends_calmly call party_after (record {
-          set_does =
-              end_does call party_after (set_effects.stays_same (of_set scene) (inv_of_set scene inv) scene.words refl).leaves
-              (quiet_end p (Container start) (answers.NotRemoved ContainerHandleNotOwnedByContainer) (λ i o. refl) (λ i r. refl));
-          answers = inl past;
-          placed = λ holds. tt;
-          well_formed = well_formed;
-        })
-            refl (λ i b. refl) (owes_none scene party_after here refl);
+        does = silently call refl (tt, tt) (refl, tt) well_formed (owes_none scene party_after here refl) (right_end scene (inl past) (λ holds. tt));
         follows = ((refl, (none_done, nothing)), tt);
         few = omega arith;
         paid = omega arith;

@@ -2,44 +2,39 @@
 -- the element, hides what stands there, stores the words of its value, places it and counts the change. What
 -- a step has to show is said by `StepOf` and `Leads` of `Stages`.
 use Rattle.laws_container.proofs.Names.{◌≡◌, ◌≢◌, ⊎_elim, inl, inr, ℕ, ◌+◌, ◌%◌, ◌<◌, ◌≤◌, ◌==◌, if◌then◌else◌}
-use Rattle.laws_container.proofs.Names.{nat_lt, false, true, Option, Some, None, is_some, List, [], ◌∷◌, ◌++◌}
-use Rattle.laws_container.proofs.Names.{get_or, set, fold, refl, sym, ap, subst, ◌∙◌, append-nil, arith, cases_eq}
-use Rattle.laws_container.proofs.Names.{nat_tests, fold-append, Ask, After, GoOn}
-use Rattle.laws_container.proofs.Names.{ReplaceStage, change_word, count_word, element_word, is_even, Replaced}
-use Rattle.laws_container.proofs.Names.{at_replace, one_more, went_on, Answer, Event, Placed, Hidden, Finished}
-use Rattle.laws_container.proofs.Names.{Container, ContainerStart, ContainerFlight, Party, replaced}
-use Rattle.laws_container.proofs.Names.{Hides, places, contents_after, contents_of, announced_after}
-use Rattle.laws_container.proofs.Names.{announced_of, IsFilledWith, SetAct, settled_after, as_it_is, put}
-use Rattle.laws_container.proofs.Names.{as_call, words_after, held_later, at_same, at_other, quiet_end}
-use Rattle.laws_container.proofs.Names.{calm_less, gone_less, loads_same, exchanges, fails_same}
+use Rattle.laws_container.proofs.Names.{nat_lt, false, true, Option, Some, None, is_some, List, [], ◌∷◌, ◌++◌, get_or}
+use Rattle.laws_container.proofs.Names.{set, fold, refl, sym, ap, subst, ◌∙◌, append-nil, arith, cases_eq, nat_tests}
+use Rattle.laws_container.proofs.Names.{fold-append, Ask, GoOn, ReplaceStage, change_word, count_word, element_word}
+use Rattle.laws_container.proofs.Names.{is_even, at_replace, one_more, Event, Placed, Hidden, Finished, Container}
+use Rattle.laws_container.proofs.Names.{ContainerStart, Party, Hides, places, contents_after, contents_of}
+use Rattle.laws_container.proofs.Names.{announced_after, announced_of, IsFilledWith, SetAct, settled_after, put}
+use Rattle.laws_container.proofs.Names.{words_after, held_later, at_same, at_other, quiet_end, calm_less, gone_less}
+use Rattle.laws_container.proofs.Names.{loads_same, exchanges, fails_same}
 use Rattle.steps.specs.declared.ask.After.TheVariants.{Done}
-use Rattle.steps.specs.declared.container.replace.Replace as replace_calls
 use Rattle.steps.specs.declared.container.replace.ReplaceStage.TheVariants as replaces
 use Rattle.model.specs.declared.event.Answer.TheVariants as answers
 use Rattle.model.specs.declared.families.container.ContainerStart.TheVariants.{Replace}
-use Rattle.model.specs.declared.families.container.calls.ContainerFlight.TheVariants as calls
 use Rattle.laws_robust.proofs.Stages as set_stages
 use Rattle.laws_container.proofs.AddWrites.{placed_once}
 use Rattle.laws_container.proofs.Contents.{store_writes}
 use Rattle.laws_container.proofs.Core.{count_at, count_set}
 use Rattle.laws_container.proofs.Invariant.{before, after, inv_of_set}
-use Rattle.laws_container.proofs.Keeping.{replacing}
-use Rattle.laws_container.proofs.Knows.{View, ReplaceKnows, Covers, Writes, HasPlaced, Stood, Knows}
+use Rattle.laws_container.proofs.Knows.{ReplaceKnows, Covers, Writes, HasPlaced, Stood, Knows}
 use Rattle.laws_container.proofs.Left.{left_after, left_of}
 use Rattle.laws_container.proofs.WellFormed.{IsWellFormedSoFar, well_formed_before}
 use Rattle.laws_container.proofs.Replacers.{replacer_after}
 use Rattle.laws_container.proofs.Replaces.{ReplaceOwns, earlier}
 use Rattle.laws_container.proofs.Sets.{leaves_behind}
-use Rattle.laws_container.proofs.Stages.{sees_calmly, AreInCall, none_in_call, IsUnderWay, all, done, sees_now, then_sees, StepOf, Leads}
-use Rattle.laws_container.proofs.Stages.{none_lengthens, party_then, acts_more}
-use Rattle.laws_container.proofs.Stages.{goes_on, goes_calmly, ends}
-use Rattle.laws_container.proofs.CallProgress.{replace_at, replace_number, ReplaceAt, MayHaveHidden}
+use Rattle.laws_container.proofs.Stages.{AreInCall, none_in_call, all, done, sees_now, then_sees, StepOf, Leads}
+use Rattle.laws_container.proofs.Stages.{none_lengthens, party_then, acts_more, goes_on, goes_calmly, ends}
+use Rattle.laws_container.proofs.CallProgress.{replace_number, ReplaceAt, MayHaveHidden}
 use Rattle.laws_container.proofs.Steps.{StoresWord, stores_word, hides, places as places_it, misplaces, end_does, ends_counted}
 use Rattle.laws_container.proofs.Turns.{WellFormed, replace_owes, count_in}
 use Rattle.laws_container.proofs.Writers.{IsWriter, one_writer}
 use Rattle.laws_container.proofs.Writing.{even_is, odd_is, adds_one, stores_to, adds_to_count, adds_to_change, hides_count}
 use Rattle.laws_container.proofs.ReplaceSteps.{Replacing, as_given, calm_step, found_calm, found_then, given_is}
-use Rattle.laws_container.proofs.ReplaceSteps.{stands_if, was_calm, was_going}
+use Rattle.laws_container.proofs.ReplaceSteps.{stands_if, was_calm, was_going, at_stage, as_replace, first, IsAtStage}
+use Rattle.laws_container.proofs.ReplaceSteps.{then_at, SeesCalmly}
 use Rattle.laws_robust.proofs.Cases.{on_bool}
 
 -- a replace is under way: of the value at `index`, with the handle's `owner`, by party `p` of the scene
@@ -56,32 +51,6 @@ module _ {T : Type 0} (replacing : Replacing T) where
   abbrev start : ContainerStart T
   start = Replace index value owner
 
-  -- the replace as a call at this stage
-  abbrev at_stage : ReplaceStage → ContainerFlight T
-  at_stage stage = replace_at c index value owner stage
-
-  -- how the replace goes on, as a call of the container
-  abbrev as_replace : After (replace_calls.Replace T) Replaced → After (ContainerFlight T) (Answer T)
-  as_replace a =
-      as_call calls.Replace replaced
-      (went_on as_it_is (record { index = index; owner = owner; value = value }) tt a)
-
-  abbrev first : replace_calls.Replace T
-  first = record { capacity = c; stage = replaces.LoadsCell; of = record {} }
-
-  -- the party's call under way is this replace, at this stage
-  abbrev IsAtStage : ReplaceStage → Type 0
-  IsAtStage stage = IsUnderWay scene (Replace index value owner) (replace_at c index value owner stage)
-
-  -- the party after the step by which the replace comes to stage `next`
-  abbrev then_at : ReplaceStage → Option Ask → Party T
-  then_at next ask = party_then scene start ask false (GoOn (at_stage next))
-
-  -- what the replace sees after a step that writes nothing and leads to stage `next`
-  abbrev SeesCalmly : ReplaceStage → Ask → View T
-  SeesCalmly next ask =
-      sees_calmly scene (Some ask) false scene.states (then_at next (Some ask))
-
   -- ---- it has found him
 
   -- the replace has found its owner in the cell
@@ -95,7 +64,7 @@ module _ {T : Type 0} (replacing : Replacing T) where
     nobody_else = grind (arith, one_writer, mine)
 
     -- a replace that has found its owner in the cell knows so after a step that writes nothing
-    knows_calm : (stage next : ReplaceStage) → IsAtStage stage → (ask : Ask) → ReplaceKnows c index owner value (SeesCalmly next ask)
+    knows_calm : (stage next : ReplaceStage) → IsAtStage replacing stage → (ask : Ask) → ReplaceKnows c index owner value (SeesCalmly replacing next ask)
     knows_calm stage next here ask =
         record {
           paid = let paid = knows.paid in
@@ -123,8 +92,8 @@ module _ {T : Type 0} (replacing : Replacing T) where
           }
 
       -- after events that leave the set, the replace still knows that it has found its owner
-      knows_then : (stage next : ReplaceStage) → IsAtStage stage → (ask : Ask)
-          → ReplaceKnows c index owner value (then_sees scene (Some ask) false scene.states (then_at next (Some ask)) es)
+      knows_then : (stage next : ReplaceStage) → IsAtStage replacing stage → (ask : Ask)
+          → ReplaceKnows c index owner value (then_sees scene (Some ask) false scene.states (then_at replacing next (Some ask)) es)
       knows_then stage next here ask =
           record {
             paid = let paid = knows.paid in
@@ -137,9 +106,9 @@ module _ {T : Type 0} (replacing : Replacing T) where
 
     -- where the number of the element is even, a replace that has stored no word knows that none
     -- of its value is written
-    first_word : (stage next : ReplaceStage) → IsAtStage stage → (ask : Ask) → words_after ws (Some ask) ≡ ws
+    first_word : (stage next : ReplaceStage) → IsAtStage replacing stage → (ask : Ask) → words_after ws (Some ask) ≡ ws
         → (WellFormed (before scene) → count_in code c (before scene) i % 2 ≡ 0)
-        → Writes code c owner i value 0 (SeesCalmly next ask)
+        → Writes code c owner i value 0 (SeesCalmly replacing next ask)
     first_word stage next here ask same even =
         record {
           few = omega arith;
@@ -147,7 +116,7 @@ module _ {T : Type 0} (replacing : Replacing T) where
               λ holds lives. record {
                 even =
                     ap (λ w. count_at c w i % 2) same
-                    ∙ even (was_calm replacing stage here knows.filled (then_at next (Some ask)) (omega arith) holds);
+                    ∙ even (was_calm replacing stage here knows.filled (then_at replacing next (Some ask)) (omega arith) holds);
                 written = λ j js. absurd (omega arith);
               };
         }
@@ -155,7 +124,7 @@ module _ {T : Type 0} (replacing : Replacing T) where
     -- ---- the number is loaded
 
     -- the replace loads the number of the element
-    module _ (here : IsAtStage replaces.LoadsCount) (nothing : done scene ≡ []) (few_steps : steps ≤ 1) where
+    module _ (here : IsAtStage replacing replaces.LoadsCount) (nothing : done scene ≡ []) (few_steps : steps ≤ 1) where
       abbrev load_it : Ask
       load_it = set_stages.loads (count_word c i)
 
@@ -164,10 +133,11 @@ module _ {T : Type 0} (replacing : Replacing T) where
 
       -- the step in which a replace loads the number of the element: it goes on to hide the element if the
       -- number is odd, and to store its first word if it is even
-      pub count_step : StepOf scene start (at_stage replaces.LoadsCount)
+      pub count_step : StepOf scene start (at_stage replacing replaces.LoadsCount)
       count_step =
           on_bool (λ b. Leads scene start (Some (set_stages.loads (count_word c i))) false scene.states []
-          (as_replace (if b then GoOn (at_replace first (replaces.Stores 0)) else GoOn (at_replace first (replaces.Hides number)))))
+          (as_replace replacing (if b then GoOn (at_replace (first replacing) (replaces.Stores 0)) else GoOn
+          (at_replace (first replacing) (replaces.Hides number)))))
           (is_even number)
           (λ t.
           let some = inv.elements.coded.some in
@@ -197,7 +167,7 @@ module _ {T : Type 0} (replacing : Replacing T) where
     -- ---- what stands there is hidden
 
     -- the replace has found the odd number `count`, and hides what stands there
-    module _ {count : ℕ} (here : IsAtStage (replaces.Hides count)) (nothing : done scene ≡ [])
+    module _ {count : ℕ} (here : IsAtStage replacing (replaces.Hides count)) (nothing : done scene ≡ [])
         (odd : count % 2 ≡ 1) (covers : Covers code c owner i count (sees_now scene)) (few_steps : steps ≤ 2) where
       abbrev hide_it : Ask
       hide_it = exchanges (count_word c i) count (one_more count)
@@ -207,17 +177,17 @@ module _ {T : Type 0} (replacing : Replacing T) where
 
       -- the step in which a replace hides what stands at the index: it goes on to its first word, whether it
       -- finds the loaded number or another one
-      pub hide_step : StepOf scene start (at_stage (replaces.Hides count))
+      pub hide_step : StepOf scene start (at_stage replacing (replaces.Hides count))
       hide_step =
           on_bool (λ b. Leads scene start (Some (exchanges (count_word c i) count (one_more count))) false scene.states
-          ((if b then Hidden p i ∷ [] else []) ++ []) (GoOn (at_stage (replaces.Stores 0))))
+          ((if b then Hidden p i ∷ [] else []) ++ []) (GoOn (at_stage replacing (replaces.Stores 0))))
           (now_at == count)
           -- the number is the one that was loaded: the step hides what stands there
           (λ t.
           let same_count : now_at ≡ count = grind (arith, nat_tests) in
           let some = inv.elements.coded.some in
           let wide = inv.elements.wide in
-          let party_after = then_at (replaces.Stores 0) (Some hide_it) in
+          let party_after = then_at replacing (replaces.Stores 0) (Some hide_it) in
           let told_now : List (Event T) = Hidden p i ∷ [] in
           let in_call : AreInCall scene told_now = record { own = (refl, tt); fresh = tt; longer = λ start w. refl } in
           let new = hides_count inv i count below same_count in
@@ -226,7 +196,7 @@ module _ {T : Type 0} (replacing : Replacing T) where
           was_going replacing (replaces.Hides count) here knows.filled (words_after ws (Some hide_it)) party_after in_call (omega arith) in
           let after : count_at c (words_after ws (Some hide_it)) i ≡ one_more now_at =
           ap (λ w. count_at c w i) new ∙ count_set c code.size ws i (one_more now_at) (omega arith) in
-          goes_on scene (at_stage (replaces.Stores 0)) (Some hide_it) false here.span (record {
+          goes_on scene (at_stage replacing (replaces.Stores 0)) (Some hide_it) false here.span (record {
             longer = λ start w. refl;
             does =
                 hides (as_given replacing (replaces.Hides count) here) party_after (record { below = below; new = new; owed = refl }) now_odd
@@ -267,7 +237,7 @@ module _ {T : Type 0} (replacing : Replacing T) where
     -- ---- a word is stored
 
     -- the replace has stored the first `at` words of its value, and stores the next one
-    module _ {at : ℕ} (here : IsAtStage (replaces.Stores at))
+    module _ {at : ℕ} (here : IsAtStage replacing (replaces.Stores at))
         (hidden : MayHaveHidden c code.size (all scene) (done scene) i) (ats : at < code.size)
         (has_stored : Writes code c owner i value at (sees_now scene)) (few_steps : steps ≤ 3 + at) where
       abbrev store_it : Ask
@@ -276,41 +246,42 @@ module _ {T : Type 0} (replacing : Replacing T) where
       -- a store of a word leads to stage `next`, where the replace knows what that stage asks
       store_to : (next : ReplaceStage) → replace_owes next ≡ true → steps + 1 ≤ replace_number code.size next
           → ReplaceAt c code.size (all scene) (done scene) index next
-          → Knows code c (at_stage next) (SeesCalmly next store_it)
-          → Leads scene start (Some store_it) false scene.states [] (GoOn (at_stage next))
+          → Knows code c (at_stage replacing next) (SeesCalmly replacing next store_it)
+          → Leads scene start (Some store_it) false scene.states [] (GoOn (at_stage replacing next))
       store_to next owe few stands known =
-          goes_calmly scene (at_stage next) (Some store_it) false here.span (record {
+          goes_calmly scene (at_stage replacing next) (Some store_it) false here.span (record {
             does =
-                stores_word (as_given replacing (replaces.Stores at) here) (then_at next (Some store_it)) word_stored
+                stores_word (as_given replacing (replaces.Stores at) here) (then_at replacing next (Some store_it)) word_stored
                 (was_going replacing (replaces.Stores at) here knows.filled (words_after ws (Some store_it))
-                (then_at next (Some store_it)) (none_in_call scene) (omega arith))
+                (then_at replacing next (Some store_it)) (none_in_call scene) (omega arith))
                 (λ was. owe);
             few = few;
             stands = (refl, given_is replacing, fits, stands);
             known = known;
           })
         where
-          word_stored : StoresWord (as_given replacing (replaces.Stores at) here) (then_at next (Some store_it))
+          word_stored : StoresWord (as_given replacing (replaces.Stores at) here) (then_at replacing next (Some store_it))
               (words_after ws (Some store_it)) i at value owner
           word_stored = record { below = below; word = ats; mine = mine; writing = λ holds. has_stored.has holds (acts.stays holds.kept); new = refl }
 
       -- after the store of a word, one word more of the value is written
-      one_more_word : (next : ReplaceStage) → Writes code c owner i value (at + 1) (SeesCalmly next store_it)
+      one_more_word : (next : ReplaceStage) → Writes code c owner i value (at + 1) (SeesCalmly replacing next store_it)
       one_more_word next =
           record {
             few = omega arith;
             has = λ holds lives.
-                let before_it = was_calm replacing (replaces.Stores at) here knows.filled (then_at next (Some store_it)) (omega arith) holds in
+                let before_it = was_calm replacing (replaces.Stores at) here knows.filled (then_at replacing next (Some store_it)) (omega arith) holds in
                 store_writes code c ws events (inv.elements.whole before_it) inv.elements.wide i below ats
                 (has_stored.has before_it (acts.stays before_it.kept));
           }
 
       -- the step in which a replace stores a word: it goes on to the next word, or to placing the value
-      pub store_step : StepOf scene start (at_stage (replaces.Stores at))
+      pub store_step : StepOf scene start (at_stage replacing (replaces.Stores at))
       store_step =
           on_bool (λ b. Leads scene start (Some (stores_to (element_word c code.size i at) (get_or (code.words_of value) at 0)))
           false scene.states []
-          (as_replace (if b then GoOn (at_replace first (replaces.Stores (at + 1))) else GoOn (at_replace first replaces.AddsCount))))
+          (as_replace replacing (if b then GoOn (at_replace (first replacing) (replaces.Stores (at + 1))) else GoOn
+          (at_replace (first replacing) replaces.AddsCount))))
           (nat_lt (at + 1) code.size)
           (λ t.
           let more : at + 1 < code.size = grind (arith, nat_tests) in
@@ -323,14 +294,14 @@ module _ {T : Type 0} (replacing : Replacing T) where
           let is_last : at + 1 ≡ code.size = omega arith in
           store_to replaces.AddsCount refl (omega arith) (below, none_done, hidden) (
             knows_calm (replaces.Stores at) replaces.AddsCount here store_it,
-            subst (λ n. Writes code c owner i value n (SeesCalmly replaces.AddsCount store_it)) is_last
+            subst (λ n. Writes code c owner i value n (SeesCalmly replacing replaces.AddsCount store_it)) is_last
                 (one_more_word replaces.AddsCount),
           ))
 
     -- ---- the value is placed
 
     -- the replace has stored all words of its value, and raises the number to place the value
-    module _ (here : IsAtStage replaces.AddsCount)
+    module _ (here : IsAtStage replacing replaces.AddsCount)
         (hidden : MayHaveHidden c code.size (all scene) (done scene) i)
         (has_stored : Writes code c owner i value code.size (sees_now scene)) (few_steps : steps ≤ 3 + code.size) where
       abbrev add_it : Ask
@@ -340,16 +311,16 @@ module _ {T : Type 0} (replacing : Replacing T) where
       count_now = count_in code c (before scene) i
 
       abbrev y : Party T
-      y = then_at replaces.AddsChange (Some add_it)
+      y = then_at replacing replaces.AddsChange (Some add_it)
 
       new : words_after ws (Some add_it) ≡ set ws (count_word c i) (one_more count_now)
       new = adds_to_count inv i below
 
       -- the step in which a replace raises the number to an odd one places its value
-      pub place_step : StepOf scene start (at_stage replaces.AddsCount)
+      pub place_step : StepOf scene start (at_stage replacing replaces.AddsCount)
       place_step =
           on_bool (λ b. Leads scene start (Some (adds_one (count_word c i))) false scene.states
-          ((if b then Placed p i value ∷ [] else []) ++ []) (GoOn (at_stage replaces.AddsChange)))
+          ((if b then Placed p i value ∷ [] else []) ++ []) (GoOn (at_stage replacing replaces.AddsChange)))
           (is_even count_now)
           -- the number is even: the step places the value
           (λ t.
@@ -357,7 +328,7 @@ module _ {T : Type 0} (replacing : Replacing T) where
           let in_call : AreInCall scene es = record { own = (refl, tt); fresh = tt; longer = λ start has_stored. refl } in
           let well_formed =
           was_going replacing replaces.AddsCount here knows.filled (words_after ws (Some add_it)) y in_call (omega arith) in
-          goes_on scene (at_stage replaces.AddsChange) (Some add_it) false here.span (record {
+          goes_on scene (at_stage replacing replaces.AddsChange) (Some add_it) false here.span (record {
             longer = λ start has_stored. refl;
             does =
                 places_it (as_given replacing replaces.AddsCount here) y (record { below = below; new = new; owed = refl }) acts mine
@@ -386,7 +357,7 @@ module _ {T : Type 0} (replacing : Replacing T) where
           absurd {A = ⊥} (omega arith) in
           let never = λ (holds : IsWellFormedSoFar scene.terms (put p y latest) events).
           ill_formed (subst (λ es. IsWellFormedSoFar scene.terms (put p y latest) es) (sym (append-nil events)) holds) in
-          goes_calmly scene (at_stage replaces.AddsChange) (Some add_it) false here.span (record {
+          goes_calmly scene (at_stage replacing replaces.AddsChange) (Some add_it) false here.span (record {
             does =
                 misplaces (as_given replacing replaces.AddsCount here) y {i = i} (record { below = below; new = new; owed = refl })
                 well_formed ill_formed;
@@ -402,13 +373,13 @@ module _ {T : Type 0} (replacing : Replacing T) where
     -- ---- the change is counted, and the call ends
 
     -- the replace has placed its value, and counts the change
-    module _ (here : IsAtStage replaces.AddsChange) (placed : HasPlaced code c i value (sees_now scene))
+    module _ (here : IsAtStage replacing replaces.AddsChange) (placed : HasPlaced code c i value (sees_now scene))
         (stood : Stood code c owner i (sees_now scene)) (few_steps : steps ≤ 4 + code.size) where
       abbrev end_it : Ask
       end_it = adds_one (change_word c)
 
       -- the step in which a replace counts its change ends the replace
-      pub end_step : StepOf scene start (at_stage replaces.AddsChange)
+      pub end_step : StepOf scene start (at_stage replacing replaces.AddsChange)
       end_step =
           let party_after = party_then scene start (Some end_it) false (Done answers.Done) in
           let written : List (Event T) = Finished p (Container start) answers.Done ∷ [] in

@@ -1,25 +1,23 @@
 -- The steps of a replace up to the load of its cell, and what its other steps need. Once it has found its
 -- owner in the cell it may write at its index until it ends, in a well-formed run. What a step has to show is
 -- said by `StepOf` and `Leads` of `Stages`.
-use Rattle.laws_container.proofs.Names.{◌≡◌, ◌≢◌, inr, ℕ, ◌+◌, ◌<◌, ◌≤◌, ◌==◌, if◌then◌else◌, false, true}
-use Rattle.laws_container.proofs.Names.{Option, Some, List, [], ◌∷◌, ◌++◌, fold, refl, sym, ap, subst, ◌∙◌}
-use Rattle.laws_container.proofs.Names.{append-nil, arith, Err, nat_tests, Ask, After, GoOn}
-use Rattle.laws_container.proofs.Names.{ContainerHandleNotOwnedByContainer, Replacement, ReplaceStage, Replaced}
-use Rattle.laws_container.proofs.Names.{at_replace, cell_word, empty, went_on, Answer, Event, Finished, Container}
-use Rattle.laws_container.proofs.Names.{ContainerStart, ContainerFlight, Party, place_of, replaced, StandsWellFormed}
-use Rattle.laws_container.proofs.Names.{MayReplace, cell_of, IsFilledWith, as_it_is, HeldSometime}
-use Rattle.laws_container.proofs.Names.{party_of, put, Open, own_after, span_of, as_call, words_after, held_now}
-use Rattle.laws_container.proofs.Names.{held_later, party_put_same, span_of-own, cell, filled_by, quiet_end}
-use Rattle.laws_container.proofs.Names.{loads_same}
+use Rattle.laws_container.proofs.Names.{◌≡◌, ◌≢◌, inr, ℕ, ◌+◌, ◌<◌, ◌≤◌, ◌==◌, if◌then◌else◌, false, true, Option}
+use Rattle.laws_container.proofs.Names.{Some, List, [], ◌∷◌, ◌++◌, fold, refl, sym, ap, subst, ◌∙◌, append-nil, arith}
+use Rattle.laws_container.proofs.Names.{Err, nat_tests, Ask, After, GoOn, ContainerHandleNotOwnedByContainer}
+use Rattle.laws_container.proofs.Names.{Replacement, ReplaceStage, Replaced, at_replace, cell_word, empty, went_on}
+use Rattle.laws_container.proofs.Names.{Answer, Event, Finished, Container, ContainerStart, ContainerFlight, Party}
+use Rattle.laws_container.proofs.Names.{place_of, replaced, StandsWellFormed, MayReplace, cell_of, IsFilledWith}
+use Rattle.laws_container.proofs.Names.{as_it_is, HeldSometime, party_of, put, Open, own_after, span_of, as_call}
+use Rattle.laws_container.proofs.Names.{words_after, held_now, held_later, party_put_same, span_of-own, cell}
+use Rattle.laws_container.proofs.Names.{filled_by, loads_same}
 use Rattle.steps.specs.declared.ask.After.TheVariants.{Done}
 use Rattle.steps.specs.declared.container.replace.Replace as replace_calls
 use Rattle.steps.specs.declared.container.replace.ReplaceStage.TheVariants as replaces
 use Rattle.model.specs.declared.event.Answer.TheVariants as answers
 use Rattle.model.specs.declared.families.container.ContainerStart.TheVariants.{Replace}
 use Rattle.model.specs.declared.families.container.calls.ContainerFlight.TheVariants as calls
-use Rattle.laws_robust.proofs.Effects as set_effects
 use Rattle.laws_robust.proofs.Stages as set_stages
-use Rattle.laws_container.proofs.Invariant.{Scene, Inv, ActsFor, before, after, of_set, inv_of_set, wrote_of}
+use Rattle.laws_container.proofs.Invariant.{Scene, Inv, ActsFor, before, after, inv_of_set, wrote_of, right_end}
 use Rattle.laws_container.proofs.Knows.{View, HasFound, IsPaid, Knows}
 use Rattle.laws_container.proofs.WellFormed.{IsWellFormedSoFar, well_formed_before}
 use Rattle.laws_container.proofs.Replaces.{ReplaceOwns, earlier}
@@ -27,9 +25,10 @@ use Rattle.laws_container.proofs.Stages.{sees_calmly, Call, AreInCall, none_in_c
 use Rattle.laws_container.proofs.Stages.{none_lengthens, party_then}
 use Rattle.laws_container.proofs.Stages.{goes_calmly, ends, owes_none}
 use Rattle.laws_container.proofs.CallProgress.{replace_at, replace_number, ReplaceAt, place_is}
-use Rattle.laws_container.proofs.Steps.{loads, end_does, ends_calmly}
+use Rattle.laws_container.proofs.Steps.{loads}
 use Rattle.laws_container.proofs.Turns.{WellFormed, replace_owes}
 use Rattle.laws_robust.proofs.Cases.{on_bool}
+use Rattle.laws_container.proofs.Silent.{silently}
 
 -- a replace by the party of the scene, of a handle whose index is below the capacity, for an owner that is
 -- not gone; it has done nothing to the set
@@ -63,20 +62,20 @@ module _ {T : Type 0} (replacing : Replacing T) where
   start = Replace index value owner
 
   -- the replace as a call at this stage
-  abbrev at_stage : ReplaceStage → ContainerFlight T
+  abbrev pub at_stage : ReplaceStage → ContainerFlight T
   at_stage stage = replace_at c index value owner stage
 
   -- how the replace goes on, as a call of the container
-  abbrev as_replace : After (replace_calls.Replace T) Replaced → After (ContainerFlight T) (Answer T)
+  abbrev pub as_replace : After (replace_calls.Replace T) Replaced → After (ContainerFlight T) (Answer T)
   as_replace a =
       as_call calls.Replace replaced
       (went_on as_it_is (record { index = index; owner = owner; value = value }) tt a)
 
-  abbrev first : replace_calls.Replace T
+  abbrev pub first : replace_calls.Replace T
   first = record { capacity = c; stage = replaces.LoadsCell; of = record {} }
 
   -- the party's call under way is this replace, at this stage
-  abbrev IsAtStage : ReplaceStage → Type 0
+  abbrev pub IsAtStage : ReplaceStage → Type 0
   IsAtStage stage = IsUnderWay scene (Replace index value owner) (replace_at c index value owner stage)
 
   -- the replace at this stage, as a call of the container
@@ -84,7 +83,7 @@ module _ {T : Type 0} (replacing : Replacing T) where
   as_given stage here = record { scene = scene; inv = inv; start = start; flight = at_stage stage; no_look = tt; here = here }
 
   -- the party after the step by which the replace comes to stage `next`
-  abbrev then_at : ReplaceStage → Option Ask → Party T
+  abbrev pub then_at : ReplaceStage → Option Ask → Party T
   then_at next ask = party_then scene start ask false (GoOn (at_stage next))
 
   pub given_is : ◌≡◌ {A = Replacement T} (record { index = index; owner = owner; value = value })
@@ -155,7 +154,7 @@ module _ {T : Type 0} (replacing : Replacing T) where
   -- ---- a step that changes nothing and writes nothing
 
   -- what the replace sees after a step that writes nothing and leads to stage `next`
-  abbrev SeesCalmly : ReplaceStage → Ask → View T
+  abbrev pub SeesCalmly : ReplaceStage → Ask → View T
   SeesCalmly next ask =
       sees_calmly scene (Some ask) false scene.states (then_at next (Some ask))
 
@@ -202,16 +201,9 @@ module _ {T : Type 0} (replacing : Replacing T) where
         (λ h. stands_if replaces.LoadsCell here (λ few. absurd (omega arith))) in
         ends scene (answers.NotRemoved ContainerHandleNotOwnedByContainer) (Some load_cell) false here.span (record {
           longer = none_lengthens;
-          does = ends_calmly (as_given replaces.LoadsCell here) party_after (record {
-            set_does =
-                end_does (as_given replaces.LoadsCell here) party_after
-                (set_effects.stays_same (of_set scene) (inv_of_set scene inv) (words_after ws (Some load_cell)) same).leaves
-                (quiet_end p (Container start) (answers.NotRemoved ContainerHandleNotOwnedByContainer) (λ i o. refl) (λ i r. refl));
-            answers = inr (λ filled. other (inv.good.cells index below ∙ ap cell_of filled));
-            placed = λ holds. tt;
-            well_formed = well_formed;
-          })
-              same (λ i b. refl) (owes_none scene party_after here refl);
+          does =
+              silently (as_given replaces.LoadsCell here) same (tt, tt) (refl, tt) well_formed (owes_none scene party_after here refl)
+              (right_end scene (inr (λ filled. other (inv.good.cells index below ∙ ap cell_of filled))) (λ holds. tt));
           follows = ((refl, (none_done, nothing)), tt);
           few = omega arith;
           paid = omega arith;

@@ -22,7 +22,6 @@ use Rattle.steps.specs.declared.indices.robust.parts.Raise.{Raise}
 use Rattle.steps.specs.declared.indices.robust.parts.Raise.TheVariants as raises
 use Rattle.model.specs.declared.event.Answer.{Answer}
 use Rattle.model.specs.declared.event.Start.{Start}
-use Rattle.model.specs.declared.event.Start.TheVariants as starts
 use Rattle.model.specs.declared.families.Flight.{Flight}
 use Rattle.model.specs.declared.families.Flight.TheVariants as flights
 use Rattle.model.specs.declared.families.container.calls.ContainerFlight.{ContainerFlight}
@@ -39,7 +38,8 @@ use Rattle.model.proofs.LockFree.Own.{Outline}
 use Rattle.laws_robust.proofs.Measured.{raise_left}
 use Rattle.laws_robust.proofs.RoomCalls.{pays_move}
 use Rattle.laws_robust.proofs.Room.{room, lock_left, release_left, Less, RaiseAt, CountAt, LockAt, AcquireAt, ReleaseAt}
-use Rattle.laws_container.proofs.MeasuredCalls.{again_at, behind, call_left, call_pays, measure, leaves, CallStands, Kept, Known}
+use Rattle.laws_container.proofs.MeasuredCalls.{again_at, behind, call_left, call_pays, measure, leaves, CallStands}
+use Rattle.laws_container.proofs.MeasuredCalls.{Kept, Known, AreOfContainer}
 use Rattle.laws_container.proofs.CallProgress.{look_at}
 
 -- ---- how many own steps a call has: those that it can take before its last one while the counter stays and no element is placed
@@ -148,8 +148,7 @@ module _ {T : Type 0} where
 
   -- the call is one of the container, and stands where it may
   abbrev pub AtAny : Coding T → ℕ → Start T → Flight T → Type 0
-  AtAny code c (starts.Container start) (flights.Container flight) = CallAt c flight
-  AtAny code c start flight = ⊥
+  AtAny code c start flight = AreOfContainer (CallAt c) start flight
 
   -- all calls of a container, with this measure, in the form that the frame of lock-freedom asks
   abbrev pub room_outline : Outline T

@@ -30,8 +30,8 @@ use Rattle.model.specs.declared.turn.Kind.TheVariants as kinds
 use Rattle.model.specs.declared.turn.Refusal.{Refusal}
 use Rattle.model.specs.declared.turn.Turn.{Turn}
 use Rattle.model.specs.Coding.{Coding}
-use Rattle.model.specs.Families.{ask_of, first_of, want_of, goes_of, step_of, is_question, kept_after_begin}
-use Rattle.model.specs.Families.Container.Calls.{want, after, states_after}
+use Rattle.model.specs.Families.{ask_of, first_of, want_of, goes_of, is_question, kept_after_begin}
+use Rattle.model.specs.Families.Container.Calls.{want, after}
 use Rattle.model.specs.Families.Container.States.{state_of}
 use Rattle.model.specs.LockFree.{KeepsEnding}
 use Rattle.model.specs.Step.{as_call}
@@ -40,7 +40,7 @@ use Rattle.model.specs.World.{World}
 use Rattle.model.proofs.Counts.{steps_small}
 use Rattle.model.proofs.LockFree.Falls.{FallsIn, StepFallsBy}
 use Rattle.model.proofs.LockFree.Measure.{WordMeasure, worth}
-use Rattle.model.proofs.LockFree.Own.{OwnLaws, OwnAfter, KnownAfter, Lasts, keeps_ending, keeps_ending_by}
+use Rattle.model.proofs.LockFree.Own.{OwnLaws, OwnAfter, KnownAfter, keeps_ending, keeps_ending_by}
 use Rattle.model.proofs.LockFree.Weighed.{KeepsEndingBy}
 use Rattle.model.proofs.Rows.{IsPossible}
 use Rattle.laws_robust.proofs.LockFree.{one_of}
@@ -51,7 +51,8 @@ use Rattle.laws_robust.proofs.RoomCalls.{top_most, lock_most, raise_most, releas
 use Rattle.laws_robust.proofs.RoomStands.{acquire_moves, count_moves}
 use Rattle.laws_container.proofs.Counter.{add_then, container_leaves}
 use Rattle.laws_container.specs.LockFree.{room_container_bound}
-use Rattle.laws_container.proofs.LockFree.{call_falls, call_decides, knows, dies, lasts_by, in_states, steps_has, call_known, never_asks}
+use Rattle.laws_container.proofs.LockFree.{call_falls, call_decides, knows, dies, in_states, call_known, never_asks}
+use Rattle.laws_container.proofs.LockFree.{stays, told}
 use Rattle.laws_container.proofs.MeasuredCalls.{again_at, behind, call_left, call_pays, measure, CallStands, Kept, Known}
 use Rattle.laws_container.proofs.MeasuredMost.{most as default_most}
 use Rattle.laws_container.proofs.RoomCalls.{each, remove_own, recover_own, call_own, owns, call_places, AddAt, CallAt, own_at, room_left, places}
@@ -398,22 +399,6 @@ module _ {T : Type 0} (code : Coding T) (c : ℕ) (some : 1 ≤ c) (wide : 1 ≤
   decides words p kept (starts.Container start) (flights.Container flight) said stands held due = absurd held
   decides words p kept start flight said stands held due = absurd stands
 
-  -- what becomes of a call by a step is decided by its stage and by what is kept beside the words
-  told : (words : List ℕ) (beside : Option (ℕ × ℕ)) (p : ℕ) (start : Start T) (flight : Flight T) (old : ℕ) (kept : Registry T)
-      → AtAny code c start flight → Kept kept → (step_of code words beside p start flight old kept).after ≡ goes_of code p flight old kept
-  told = grind arith
-
-  -- a step of a call of the container leaves a registry of a container, and leaves each party
-  -- that had a state one
-  stays : (words : List ℕ) (beside : Option (ℕ × ℕ)) (p : ℕ) (start : Start T) (flight : Flight T) (old : ℕ) (kept : Registry T)
-      → AtAny code c start flight → Kept kept
-      → Kept (step_of code words beside p start flight old kept).kept
-      × Lasts room_outline kept (step_of code words beside p start flight old kept).kept
-  stays words beside p (starts.Container start) (flights.Container flight) old (registries.Container dead states) stands held =
-      (tt, lasts_by code c dead dead states (states_after code p flight old states) (λ q has. steps_has code c p q flight old states has))
-  stays words beside p (starts.Container start) (flights.Container flight) old kept stands held = absurd held
-  stays words beside p start flight old kept stands held = absurd stands
-
   -- how a call of the container goes on, in the form that the frame of lock-freedom asks
   own_after : (start : ContainerStart T) (a : After (ContainerFlight T) (Answer T)) → CallAfter code c a
       → OwnAfter room_outline code c (starts.Container start) (as_call flights.Container (λ answer. answer) a)
@@ -454,9 +439,9 @@ module _ {T : Type 0} (code : Coding T) (c : ℕ) (some : 1 ≤ c) (wide : 1 ≤
         opens = tt;
         begins = begins;
         knows = knows code c;
-        stays = stays;
+        stays = stays code c (CallAt c);
         goes = goes;
-        told = told;
+        told = told code c (CallAt c);
         dies = dies code c;
         decides = decides;
         most = most;

@@ -1,11 +1,11 @@
 -- Steps that change no word, and write events that change nothing of the set nor of what stands: copies, what is shown, questions,
--- and the end of any call but an add and a replace.
+-- and the end of any call but of an add or a replace that has placed its value.
 use Rattle.laws_container.proofs.Names.{◌≡◌, ℕ, Bool, Option, List, [], ◌∷◌, ◌++◌, length, get_or, fold, refl, ap}
 use Rattle.laws_container.proofs.Names.{◌∙◌, arith, AllByRecursion, Event, Asked, Told, Copied, Shown, Finished}
-use Rattle.laws_container.proofs.Names.{Container, ContainerStart, Party, contents_after}
-use Rattle.laws_container.proofs.Names.{announced_after, locked_after, SetDoes, HoldsRight, filled_after}
-use Rattle.laws_container.proofs.Names.{holder_after, settled_after, dead_after, AreOwn, AreRight, GoneBy, AnswersBy}
-use Rattle.laws_container.proofs.Names.{IsWorn, Quiet, stays_same, quietly, Right, right_after}
+use Rattle.laws_container.proofs.Names.{Container, ContainerStart, Party, contents_after, announced_after}
+use Rattle.laws_container.proofs.Names.{locked_after, SetDoes, HoldsRight, filled_after, holder_after, settled_after}
+use Rattle.laws_container.proofs.Names.{dead_after, AreOwn, AreRight, GoneBy, AnswersBy, IsWorn, Quiet, stays_same}
+use Rattle.laws_container.proofs.Names.{quietly, Right, right_after, Answer}
 use Rattle.model.specs.declared.families.container.ContainerStart.TheVariants.{Add, Replace}
 use Rattle.laws_robust.proofs.Invariant as set_invariant
 use Rattle.laws_container.proofs.Effects.{OwesStill, Turn, calmly, reads_same}
@@ -13,13 +13,16 @@ use Rattle.laws_container.proofs.Invariant.{Scene, Inv, KeepsElements, AreAllRig
 use Rattle.laws_container.proofs.Left.{left_after}
 use Rattle.laws_container.proofs.Stages.{Call, does_with}
 use Rattle.laws_container.proofs.Turns.{WellFormed}
+use Rattle.model.specs.declared.event.Answer.TheVariants.{NoPlace, NotRemoved}
 
 module _ {T : Type 0} where
-  -- the end of any call but an add and a replace
-  abbrev pub EndsSilently : ContainerStart T → Type 0
-  EndsSilently (Add value owner) = ⊥
-  EndsSilently (Replace index value owner) = ⊥
-  EndsSilently start = Unit {0}
+  -- the end of any call but of an add or a replace that has placed its value
+  abbrev pub EndsSilently : ContainerStart T → Answer T → Type 0
+  EndsSilently (Add value owner) (NoPlace failure) = Unit {0}
+  EndsSilently (Add value owner) answer = ⊥
+  EndsSilently (Replace index value owner) (NotRemoved failure) = Unit {0}
+  EndsSilently (Replace index value owner) answer = ⊥
+  EndsSilently start answer = Unit {0}
 
   -- the event changes nothing of the set, of what stands or of what is announced
   abbrev pub Silent : Event T → Type 0
@@ -27,7 +30,7 @@ module _ {T : Type 0} where
   Silent (Told p index owner) = Unit {0}
   Silent (Copied p index value) = Unit {0}
   Silent (Shown p index) = Unit {0}
-  Silent (Finished p (Container start) answer) = EndsSilently start
+  Silent (Finished p (Container start) answer) = EndsSilently start answer
   Silent e = ⊥
 
   -- `f` reads something from one event after another, and no silent event changes it

@@ -1,11 +1,11 @@
 -- What the steps of a container's calls on the words of elements do: a load, a hide, the store of a word, the
 -- placing of a value, and an end that counts a change. Each is shown to keep the invariant (`KeepsInvariant`).
-use Rattle.laws_container.proofs.Names.{◌≡◌, ◌≢◌, ⊎_elim, ℕ, ◌%◌, ◌<◌, Bool, true, false, Some, None, is_some, List}
-use Rattle.laws_container.proofs.Names.{[], ◌∷◌, ◌++◌, length, get_or, set, refl, sym, ap, subst, ◌∙◌, arith}
-use Rattle.laws_container.proofs.Names.{cases_eq, fold-append, change_word, count_word, element_word, one_more}
-use Rattle.laws_container.proofs.Names.{Answer, Event, Placed, Hidden, Finished, Container}
-use Rattle.laws_container.proofs.Names.{Party, contents_after, contents_of, announced_after}
-use Rattle.laws_container.proofs.Names.{announced_of, filled_of, flight_of, is_gone, at_same, at_other, both_ways}
+use Rattle.laws_container.proofs.Names.{◌≡◌, ◌≢◌, ⊎_elim, ℕ, ◌%◌, ◌<◌, true, false, Some, None, is_some, List, []}
+use Rattle.laws_container.proofs.Names.{◌∷◌, ◌++◌, length, get_or, set, refl, sym, ap, subst, ◌∙◌, arith, cases_eq}
+use Rattle.laws_container.proofs.Names.{fold-append, change_word, count_word, element_word, one_more, Answer, Event}
+use Rattle.laws_container.proofs.Names.{Placed, Hidden, Finished, Container, Party, contents_after, contents_of}
+use Rattle.laws_container.proofs.Names.{announced_after, announced_of, filled_of, flight_of, is_gone, at_same}
+use Rattle.laws_container.proofs.Names.{at_other, both_ways}
 use Rattle.laws_robust.proofs.Effects as set_effects
 use Rattle.laws_robust.proofs.Invariant as set_invariant
 use Rattle.laws_container.specs.Gone.{AnswersBy}
@@ -266,21 +266,4 @@ module _ {T : Type 0} (call : Call T) (y : Party T) where
         (λ i. fold-append (contents_after i) None events finish)
         (λ i. fold-append (left_after i) true events finish)
         (λ holds i said. says (well_formed holds) i (sym (fold-append (announced_after i) false events finish) ∙ said)))
-        set_does end_right
-
-    -- an end that changes no word and announces nothing keeps the invariant, if a raise that is owed to the
-    -- changes is owed still
-    pub ends_calmly : words' ≡ scene.words
-        → ((i : ℕ) (b : Bool) → announced_after i b (Finished p (Container start) answer) ≡ b)
-        → OwesStill scene y → KeepsInvariant scene words' scene.states y finish
-    ends_calmly same quiet still =
-        does_with call
-        (calmly end_turn (λ n behind. ap (λ w. get_or w n 0) same) (ap length same)
-        (record {
-          contents = λ i. fold-append (contents_after i) None events finish;
-          announced = λ i. fold-append (announced_after i) false events finish ∙ quiet i (announced_of i events);
-          left = λ i was. fold-append (left_after i) true events finish ∙ was;
-          spares = λ holds q ne i o lives mine was. fold-append (left_after i) true events finish ∙ was;
-        })
-        still)
         set_does end_right

@@ -24,5 +24,5 @@ module _ {T : Type 0} (run : SoundRun T) (taken : TurnIf run) where
         looks = looks_right run turn r well_formed so_far;
         leaves = looks_leave run turn r;
         states = keeps_states shown terms code t turn r sound may;
-        visits = visits_unlocked shown code turn sound may;
+        visits = visits_unlocked run turn;
       }

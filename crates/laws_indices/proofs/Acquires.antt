@@ -1,6 +1,6 @@
 -- Each step of an acquire keeps the invariant.
 use Rattle.std.proofs.Common.{◌≡◌, ◌≢◌, ℕ, ◌+◌, ◌*◌, ◌<◌, ◌≤◌, ◌==◌, ⊎_elim, inl, nat_lt, Bool, true, false}
-use Rattle.std.proofs.Common.{bit_or, Option, Some, List, get_or, set, refl, sym, ap, subst, ◌∙◌, arith}
+use Rattle.std.proofs.Common.{bit_or, Some, List, get_or, set, refl, sym, ap, subst, ◌∙◌, arith}
 use Rattle.std.specs.Prelude.{max, Ok, Err}
 use Rattle.laws_indices.proofs.Names.{nat_tests, set-get_or, Ask, After, GoOn, Done, AcquireStage, next_word, flag_word}
 use Rattle.laws_indices.proofs.Names.{flag, has_flag, proposed, borrowed, locked, says_locked, Index, NoIndex, Finished}
@@ -30,14 +30,7 @@ use Rattle.laws_indices.proofs.Stages.{backs_then, paid_of, unless_then, goes_on
 -- indices before the step.
 module _ {T : Type 0} (scene : Scene T IndexSet) (inv : Inv outline scene) where
   open scene use {capacity as c, party as p, steps, backs, since, changes, latest, events}
-
-  -- the words of the set before the step
-  abbrev ws : List ℕ
-  ws = scene.state.words
-
-  -- the holders of the indices before the step
-  abbrev hs : List (Option ℕ)
-  hs = scene.state.holders
+  open scene.state use {words as ws, holders as hs}
 
   good_before : Good c ws hs (busy scene)
   good_before = inv.holds.good

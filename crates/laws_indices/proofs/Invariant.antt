@@ -1,8 +1,8 @@
 -- What holds of the machine of a unique index set between any two turns beside what the frame says of every machine, and
 -- what a turn must show to keep it.
-use Rattle.std.proofs.Common.{◌≡◌, ◌≢◌, ℕ, ◌+◌, ◌<◌, ◌≤◌, ⊎_elim, if◌then◌else◌, false, nat_lt, Option, Some}
-use Rattle.std.proofs.Common.{None, List, [], ◌++◌, fold, refl, sym, ap, subst, ◌∙◌, arith}
-use Rattle.laws_indices.proofs.Names.{cases_eq, fold-append, says_locked, NoIndex, Event, Finished, Start, Flight}
+use Rattle.std.proofs.Common.{◌≡◌, ◌≢◌, ℕ, ◌+◌, ◌<◌, ◌≤◌, if◌then◌else◌, false, nat_lt, Option, Some}
+use Rattle.std.proofs.Common.{None, List, [], ◌++◌, fold, refl, ap, ◌∙◌, arith}
+use Rattle.laws_indices.proofs.Names.{fold-append, says_locked, NoIndex, Event, Finished, Start, Flight}
 use Rattle.laws_indices.proofs.Names.{IndexFlight, Party, Coding, CountsRight, GoesStraight, party_of, put}
 use Rattle.laws_indices.proofs.Names.{doing_of, flight_of, Scene}
 use Rattle.steps.specs.declared.indices.enums.UniqueIndexSetAcquireFailure.TheVariants.{OutOfIndices}
@@ -18,7 +18,7 @@ use Rattle.model.specs.Reading.{Each}
 use Rattle.model.proofs.Family as families
 use Rattle.model.proofs.Family.{Outline}
 use Rattle.model.proofs.Frame.{Family}
-use Rattle.model.proofs.Parties.{party_put_same, party_put_other}
+use Rattle.model.proofs.Parties.{found_each}
 use Rattle.model.proofs.Readings.{AreRight, Each-append}
 use Rattle.laws_indices.proofs.Core.{head_of, holder, held_below, Good}
 use Rattle.laws_indices.proofs.Knows.{counts, takes, gives, flight_wrote, number_of, At, FlightKnows, IsSeen}
@@ -192,19 +192,7 @@ module _ {T : Type 0} where
     -- what holds of the call of each party, and of the party's new call, holds of each call afterwards
     of_each : (P : ℕ → Party T → Type 0) → P p y → ((q : ℕ) (x : Party T) → party_of q latest ≡ Some x → P q x)
         → (q : ℕ) (x : Party T) → party_of q latest' ≡ Some x → P q x
-    of_each P mine theirs q x found = ⊎_elim here there (cases_eq q p)
-      where
-        -- the party of the turn has the call that was put for it
-        here : q ≡ p → P q x
-        here same_party =
-            let found_there : party_of p latest' ≡ Some x = subst (λ n. party_of n latest' ≡ Some x) same_party found in
-            let both : Some y ≡ Some x = sym (party_put_same p y latest) ∙ found_there in
-            let same : y ≡ x = cc in
-            subst (λ n. P n x) (sym same_party) (subst (P p) same mine)
-
-        -- what holds of another party's call held before the turn, and holds still
-        there : q ≢ p → P q x
-        there ne = theirs q x (sym (party_put_other q p y latest ne) ∙ found)
+    of_each P mine theirs = found_each P p y latest mine (λ q x ne. theirs q x)
 
     -- what holds of the set before a turn holds after it, where the turn preserves it
     pub holds_more : Holds c s' latest' (events ++ es)

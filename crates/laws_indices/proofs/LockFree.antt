@@ -141,6 +141,11 @@ module _ (c : ℕ) (old new : List ℕ) (same : head_of new ≡ head_of old) (fe
 
 -- ---- the measure falls with each step
 
+-- where each of two numbers is less than another, the one that a test chooses is
+one_less : (t : Bool) (a b more_a more_b : ℕ) → a + 1 ≤ more_a → b + 1 ≤ more_b → cond t a b + 1 ≤ cond t more_a more_b
+one_less true a b more_a more_b first second = first
+one_less false a b more_a more_b first second = second
+
 module _ {T : Type 0} (code : Coding T) (c : ℕ) (words : List ℕ) where
   abbrev M : WordMeasure T
   M = measure c
@@ -272,12 +277,8 @@ module _ {T : Type 0} (code : Coding T) (c : ℕ) (words : List ℕ) where
   acquire_falls holders busy_calls good acquires.LoadsHead at heavy =
       sees_falls (flights.Indices (acquire_at c acquires.LoadsHead)) acquires.LoadsHead (load_leaves words 0)
       (omega arith) (omega arith)
-  acquire_falls holders busy_calls good (acquires.LoadsNext head) at heavy = go (now == head) refl
-    where
-      -- the cases are whether the head is still what was read
-      go : (t : Bool) → (now == head) ≡ t → NextStepFalls (acquire_at c (acquires.LoadsNext head))
-      go true head_same = inl (load_leaves words (next_word (proposed head)), rw head_same (omega arith), omega arith)
-      go false head_moved = inl (load_leaves words (next_word (proposed head)), rw head_moved (omega arith), omega arith)
+  acquire_falls holders busy_calls good (acquires.LoadsNext head) at heavy =
+      inl (load_leaves words (next_word (proposed head)), one_less (now == head) _ _ _ _ (omega arith) (omega arith), omega arith)
   acquire_falls holders busy_calls good (acquires.ExchangesHead head next) at heavy = exchange_falls good.some head next
   acquire_falls holders busy_calls good (acquires.Claims i) at heavy = go (is_claimed c words i) refl
     where
@@ -353,16 +354,9 @@ module _ {T : Type 0} (code : Coding T) (c : ℕ) (words : List ℕ) where
     lock_falls : (stage : ReleaseStage) → NextStepFalls (lock_at c index stage)
     lock_falls releases.ClearsFlag = inr (omega arith, inl (leaves c words cleared cleared_head cleared_fewer, omega arith))
     lock_falls releases.LoadsHead = let self = same_is now in inl (load_leaves words 0, rw self (omega arith), omega arith)
-    lock_falls (releases.StoresNext head) = go (now == head) refl
-      where
-        -- the cases are whether the head is still what was read
-        go : (t : Bool) → (now == head) ≡ t → NextStepFalls (lock_at c index (releases.StoresNext head))
-        go true head_same =
-            let same = stored_head head in
-            inr (rw (same, head_same) (omega arith), inl (leaves c words (stored head) same (stored_fewer head), omega arith))
-        go false head_moved =
-            let same = stored_head head in
-            inr (rw (same, head_moved) (omega arith), inl (leaves c words (stored head) same (stored_fewer head), omega arith))
+    lock_falls (releases.StoresNext head) =
+        let same = stored_head head in
+        inr (rw same (one_less (now == head) _ _ _ _ (omega arith) (omega arith)), inl (leaves c words (stored head) same (stored_fewer head), omega arith))
     lock_falls (releases.ExchangesHead head) = go (now == head) refl
       where
         -- the cases are whether the head is still what was read
@@ -388,22 +382,13 @@ module _ {T : Type 0} (code : Coding T) (c : ℕ) (words : List ℕ) where
 -- ---- no call has more than the capacity and four steps left
 
 module _ (c : ℕ) (some : 1 ≤ c) (words : List ℕ) where
-  -- whichever the test chooses is at most what both are
-  one_of : (t : Bool) (a b most : ℕ) → a ≤ most → b ≤ most → cond t a b ≤ most
-  one_of true a b most a_fits b_fits = a_fits
-  one_of false a b most a_fits b_fits = b_fits
-
   -- at a scan the measure is at most `c + 3`
   scans_low : (i : ℕ) → scans c words i ≤ c + 3
   scans_low = grind arith
 
   -- an acquire has no more steps left than the capacity and four
   acquire_most : (stage : AcquireStage) → acquire_left c words stage ≤ c + 4
-  acquire_most acquires.LoadsHead = omega arith
-  acquire_most (acquires.LoadsNext head) = one_of _ (c + 2) (c + 4) (c + 4) (omega arith) (omega arith)
-  acquire_most (acquires.ExchangesHead head next) = one_of _ (c + 1) (c + 3) (c + 4) (omega arith) (omega arith)
-  acquire_most (acquires.Claims i) = let low = scans_low 0 in one_of _ (scans c words 0 + 1) 0 (c + 4) (omega arith) (omega arith)
-  acquire_most (acquires.Scans i) = let low = scans_low i in omega arith
+  acquire_most = grind (arith, scans_low)
 
   -- no call has more steps left than the capacity and four, or more than one change to make
   most : {T : Type 0} → (flight : Flight T) → (left c words flight ≤ c + 4) × (pays flight ≤ 1)

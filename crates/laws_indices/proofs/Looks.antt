@@ -1,5 +1,5 @@
 -- The steps of the two looks at the head, `borrowed_indices` and `is_locked`, keep the invariant.
-use Rattle.std.proofs.Common.{◌≡◌, ◌≢◌, ℕ, ◌+◌, ◌≤◌, true, false, Option, Some, List, refl, sym, ◌∙◌, arith}
+use Rattle.std.proofs.Common.{◌≡◌, ◌≢◌, ℕ, ◌+◌, ◌≤◌, true, false, Some, refl, sym, ◌∙◌, arith}
 use Rattle.laws_indices.proofs.Names.{nat_tests, set-get_or, Ask, borrowed, locked, says_locked, IndexFlight}
 use Rattle.laws_indices.proofs.Names.{CountsRight, words_after, Scene, Inv}
 use Rattle.steps.specs.declared.ask.Op.TheVariants.{Load}
@@ -22,14 +22,7 @@ locked_at = IsLocked (record { call = record {}; given = tt; room = tt })
 
 module _ {T : Type 0} {scene : Scene T IndexSet} (inv : Inv outline scene) (straight : scene.backs ≡ 0) (few_steps : scene.steps ≤ 0) where
   open scene use {capacity as c, party as p, steps, backs, since, changes, latest, events}
-
-  -- the words of the set before the step
-  abbrev ws : List ℕ
-  ws = scene.state.words
-
-  -- the holders of the indices before the step
-  abbrev hs : List (Option ℕ)
-  hs = scene.state.holders
+  open scene.state use {words as ws, holders as hs}
 
   good_before : Good c ws hs (busy scene)
   good_before = inv.holds.good

@@ -1,7 +1,7 @@
 -- What each operation of a call does to the words, to the holders, and to the number of calls that take an
 -- index or give one back: the words stay right (`Good`).
 use Rattle.std.proofs.Common.{◌≡◌, ◌≢◌, ℕ, ◌+◌, ◌-◌, ◌%◌, ◌^◌, ◌<◌, ◌≤◌, ⊎_elim, true, false, bit_and, bit_or, Option}
-use Rattle.std.proofs.Common.{Some, None, is_some, List, length, get_or, set, sym, ap, subst, ◌∙◌, arith, length-set}
+use Rattle.std.proofs.Common.{Some, None, is_some, List, length, get_or, set, sym, ap, ◌∙◌, arith, length-set}
 use Rattle.std.proofs.Common.{get_or-set_same, get_or-set_other}
 use Rattle.laws_indices.proofs.Names.{cases_eq, cases_lt, flag_word, flag, borrowed, locked}
 use Rattle.std.proofs.lemmas.List.{get_or_past}

@@ -1,6 +1,6 @@
 -- Each step of a release keeps the invariant, in both modes.
 use Rattle.std.proofs.Common.{◌≡◌, ◌≢◌, ℕ, ◌+◌, ◌-◌, ◌*◌, ◌%◌, ◌^◌, ◌<◌, ◌≤◌, ◌==◌, inl, Bool, true, false}
-use Rattle.std.proofs.Common.{Option, Some, None, List, set, refl, sym, ap, subst, ◌∙◌, arith, get_or-set_same}
+use Rattle.std.proofs.Common.{Some, None, set, refl, sym, ap, ◌∙◌, arith, get_or-set_same}
 use Rattle.laws_indices.proofs.Names.{nat_tests, set-get_or, Ask, After, GoOn, Done, LockIfLastIndex, Default}
 use Rattle.laws_indices.proofs.Names.{ReleaseStage, next_word, flag_word, flag, proposed, borrowed, locked, says_locked}
 use Rattle.laws_indices.proofs.Names.{Answer, State, IndexStart, IndexFlight, words_after, Scene, Inv}
@@ -23,14 +23,7 @@ use Rattle.laws_indices.proofs.Stages.{goes_on, ends, frees_index, locks_set, sa
 -- the holders of the indices before the step.
 module _ {T : Type 0} (scene : Scene T IndexSet) (inv : Inv outline scene) (index : ℕ) (below : index < scene.capacity) where
   open scene use {capacity as c, party as p, steps, backs, since, changes, latest, events}
-
-  -- the words of the set before the step
-  abbrev ws : List ℕ
-  ws = scene.state.words
-
-  -- the holders of the indices before the step
-  abbrev hs : List (Option ℕ)
-  hs = scene.state.holders
+  open scene.state use {words as ws, holders as hs}
 
   good_before : Good c ws hs (busy scene)
   good_before = inv.holds.good

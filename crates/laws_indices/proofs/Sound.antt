@@ -80,7 +80,7 @@ module _ {T : Type 0} where
   turns code c =
       laws.turns_alone outline code c May
       (record {
-        holds_on = λ scene s' was y es changes' under preserves h. holds_more under preserves h;
+        holds_on = λ scene s' was y es changes'. holds_more;
         stays = λ scene s' was y es changes' preserves h own q ne start flight at. let keeps = preserves.keeps q ne in grind arith;
         knows = λ scene s' was y es changes' preserves own q ne since backs flight h. let seen = preserves.seen in grind arith;
         begin = λ t s p start flight may e rows. begin_shows code c s p e rows;

@@ -1,6 +1,6 @@
 -- Each step of a call of the set, and each begin of one, preserves what holds of the set.
-use Rattle.std.proofs.Common.{◌≡◌, ℕ, ◌≤◌, Option, Some, None, List, refl, sym, subst, arith}
-use Rattle.laws_indices.proofs.Names.{LockIfLastIndex, Default, AcquireStage, ReleaseStage, Start, Indices, Flight}
+use Rattle.std.proofs.Common.{◌≡◌, ℕ, ◌≤◌, Some, None, refl, ap, ◌∙◌, arith}
+use Rattle.laws_indices.proofs.Names.{LockIfLastIndex, Default, Start, Indices, Flight}
 use Rattle.laws_indices.proofs.Names.{IndexStart, IndexFlight, Party, Coding, party_of, Trace, Scene, Inv}
 use Rattle.model.specs.declared.families.Flight.TheVariants as flights
 use Rattle.model.specs.declared.families.Registry.TheVariants as registries
@@ -24,33 +24,12 @@ use Rattle.laws_indices.proofs.Stages.{IsHere, StepOf}
 
 module _ {T : Type 0} {scene : Scene T IndexSet} (inv : Inv outline scene) where
   open scene use {capacity as c, party as p}
+  open scene.state use {holders as hs}
 
-  abbrev hs : List (Option ℕ)
-  hs = scene.state.holders
-
-  -- an acquire whose capacity is `c` takes its step as the acquire named by `c`
-  acquire_moves : (n : ℕ) (stage : AcquireStage) → n ≡ c
-      → (IsHere scene (acquire_at c stage) → StepOf scene starts.Acquire (acquire_at c stage))
-      → IsHere scene (acquire_at n stage) → StepOf scene starts.Acquire (acquire_at n stage)
-  acquire_moves n stage e moves =
-      rw e moves
-
-  -- a release in mode Default whose capacity is `c` and whose index is `index` takes its step as the one
-  -- named by them
-  default_moves : (n i index : ℕ) (stage : ReleaseStage) → n ≡ c → i ≡ index
-      → (IsHere scene (default_at c index stage) → StepOf scene (starts.Release index Default) (default_at c index stage))
-      → IsHere scene (default_at n i stage)
-      → StepOf scene (starts.Release index Default) (default_at n i stage)
-  default_moves = grind arith
-
-  -- a release that may lock, whose capacity is `c` and whose index is `index`, takes its step as the one
-  -- named by them
-  lock_moves : (n i index : ℕ) (stage : ReleaseStage) → n ≡ c → i ≡ index
-      → (IsHere scene (lock_at c index stage) → StepOf scene (starts.Release index LockIfLastIndex) (lock_at c index stage))
-      → IsHere scene (lock_at n i stage)
-      → StepOf scene (starts.Release index LockIfLastIndex) (lock_at n i stage)
-  lock_moves n i index stage e same_index moves =
-      rw (e, same_index) moves
+  -- a call that is equal to another takes its step as that one
+  moves : {start : IndexStart} {flight same : IndexFlight} → flight ≡ same → (IsHere scene same → StepOf scene start same)
+      → IsHere scene flight → StepOf scene start flight
+  moves is step = rw is step
 
   -- any step of a call preserves what holds of the set, where the call stands at its stage and knows what
   -- the stage says
@@ -58,12 +37,12 @@ module _ {T : Type 0} {scene : Scene T IndexSet} (inv : Inv outline scene) where
       → scene.steps ≤ number_of c flight scene.backs
       → FlightKnows c scene.state.words scene.since scene.changes scene.backs flight → StepOf scene start flight
   step_moves starts.Acquire (calls.Acquire run) here at few_steps flight_knows =
-      acquire_moves run.call.capacity run.call.stage at.0 (λ h. acquire_step scene inv run.call.stage h at.1 flight_knows few_steps) here
+      moves (ap (λ n. acquire_at n run.call.stage) at.0) (λ h. acquire_step scene inv run.call.stage h at.1 flight_knows few_steps) here
   step_moves (starts.Release index Default) (calls.ReleaseDefault run) here at few_steps flight_knows =
-      default_moves run.call.capacity run.given index run.call.stage at.0 at.1
+      moves (ap (λ n. default_at n run.given run.call.stage) at.0 ∙ ap (λ i. default_at c i run.call.stage) at.1)
       (λ h. default_step scene inv index at.2 flight_knows run.call.stage h at.3 few_steps) here
   step_moves (starts.Release index LockIfLastIndex) (calls.ReleaseLock run) here at few_steps flight_knows =
-      lock_moves run.call.capacity run.given index run.call.stage at.0 at.1
+      moves (ap (λ n. lock_at n run.given run.call.stage) at.0 ∙ ap (λ i. lock_at c i run.call.stage) at.1)
       (λ h. lock_step scene inv index at.2 run.call.stage h at.3 flight_knows few_steps) here
   step_moves starts.BorrowedIndices (calls.BorrowedIndices run) here at few_steps flight_knows = counts_step inv flight_knows few_steps here
   step_moves starts.IsLocked (calls.IsLocked run) here at few_steps flight_knows = looks_step inv flight_knows few_steps

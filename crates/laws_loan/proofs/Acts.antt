@@ -2,7 +2,7 @@
 -- justified. A send acts as it publishes; where that left one index too many in the submission queue, it
 -- acts as the read position goes on. A receive acts as it moves the read position, or as it finds nothing.
 use Rattle.laws_loan.proofs.Names.{◌≡◌, ◌≢◌, ℕ, ◌-◌, ◌^◌, ◌<◌, ◌≤◌, ◌==◌, ◌&&◌, if◌then◌else◌, Bool, true, false, inl}
-use Rattle.laws_loan.proofs.Names.{Option, Some, List, [], ◌∷◌, ◌++◌, refl, sym, ap, subst, ◌∙◌, nat_tests}
+use Rattle.laws_loan.proofs.Names.{Option, Some, List, [], ◌∷◌, ◌++◌, refl, ap, ◌∙◌, nat_tests}
 use Rattle.laws_loan.proofs.Names.{nil_from_length, AllByRecursion, Ask, Load, OneWord, ReleaseStage, ReclaimStage}
 use Rattle.laws_loan.proofs.Names.{TakeBackStage, submission_word, shifted, move, load, distance, Answer, Event}
 use Rattle.laws_loan.proofs.Names.{Published, HandedOut, Freed, Returned, TakenBack, Index, LoanFlight, Effect, Turn}

@@ -1,8 +1,8 @@
 -- The begin of a call of a loan channel keeps the invariant, where the call is at its
 -- first stage (`IsFirst`).
-use Rattle.laws_loan.proofs.Names.{◌≡◌, ◌≢◌, ℕ, ◌+◌, ◌⊎◌, ⊎_elim, true, false, Option, Some, None, List, [], ◌∷◌}
+use Rattle.laws_loan.proofs.Names.{◌≡◌, ◌≢◌, ℕ, ◌+◌, ◌⊎◌, ⊎_elim, Option, Some, None, List, [], ◌∷◌}
 use Rattle.laws_loan.proofs.Names.{◌++◌, refl, sym, ap, subst, append-nil, cases_eq, fold-append, Event, Begun}
-use Rattle.laws_loan.proofs.Names.{Flight, Book, LoanStart, LoanFlight, Party, Coding, has_died, asks_for, taken_from}
+use Rattle.laws_loan.proofs.Names.{Flight, Book, LoanStart, LoanFlight, Party, Coding, asks_for, taken_from}
 use Rattle.laws_loan.proofs.Names.{MovesRight, BeginsRight, Passing, spot_of, receiver_after, receiver_of}
 use Rattle.laws_loan.proofs.Names.{reclaims_after, put, doing_of, flight_of, Span, Open, span_of, IsShut}
 use Rattle.laws_loan.proofs.Names.{party_at_begin, party_put_same, party_put_other, span_of-own, span_of-other}

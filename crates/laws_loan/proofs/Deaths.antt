@@ -1,6 +1,6 @@
 -- The death of a party keeps the invariant of a loan channel: its calls take no further step, and
 -- nothing else changes.
-use Rattle.laws_loan.proofs.Names.{◌≡◌, ◌≢◌, ℕ, ◌+◌, ◌⊎◌, ◌==◌, ◌||◌, ⊎_elim, if◌then◌else◌, Bool, true, false, List}
+use Rattle.laws_loan.proofs.Names.{◌≡◌, ◌≢◌, ℕ, ◌+◌, ◌==◌, ◌||◌, ⊎_elim, if◌then◌else◌, Bool, true, false, List}
 use Rattle.laws_loan.proofs.Names.{[], ◌∷◌, ◌++◌, refl, sym, ap, subst, ◌∙◌, append-nil, eq-eqb, ne_eqb, cases_eq}
 use Rattle.laws_loan.proofs.Names.{fold-append, Event, Died, Start, Flight, Registry, LoanStart, LoanFlight, Party}
 use Rattle.laws_loan.proofs.Names.{Coding, kept_after_death, has_died, dead_with, MovesRight, BeginsRight}

@@ -1,12 +1,12 @@
 -- The steps of a reclaim that pops the submission queue until the queue is empty. Each keeps the invariant:
 -- it has the fields of `Steps` (Sender).
 use Rattle.laws_loan.proofs.Names.{◌≡◌, ◌≢◌, ℕ, suc, ◌+◌, ◌%◌, ◌^◌, ◌*◌, ◌-◌, ◌<◌, ◌≤◌, ◌==◌, inl, Bool, true, false}
-use Rattle.laws_loan.proofs.Names.{not, Option, List, [], ◌∷◌, ◌++◌, length, get_or, refl, sym, ap, subst, ◌∙◌}
+use Rattle.laws_loan.proofs.Names.{not, Option, List, [], ◌∷◌, ◌++◌, length, get_or, refl, ap, ◌∙◌}
 use Rattle.laws_loan.proofs.Names.{append-nil, length-append, nat_tests, nil_from_length, set-get_or, flat_map-append}
 use Rattle.laws_loan.proofs.Names.{fold-append, Ask, After, GoOn, ReclaimStage, submission_word, reclaim_goes_back}
-use Rattle.laws_loan.proofs.Names.{load, Answer, Event, HandedOut, Index, LoanFlight, Effect, ask_of}
+use Rattle.laws_loan.proofs.Names.{load, Answer, Event, HandedOut, Index, LoanFlight, Effect}
 use Rattle.laws_loan.proofs.Names.{Waiting, spot_of, receiver_after, takes_back, taken_back, freed, sent_at}
-use Rattle.laws_loan.proofs.Names.{words_of_index, hands_out, handed_out, old_of, words_after}
+use Rattle.laws_loan.proofs.Names.{words_of_index, hands_out, handed_out, words_after}
 use Rattle.laws_loan.proofs.Names.{change_of, step_count, oldest, pop_front, Core, taken, layout}
 use Rattle.std.proofs.Common.{arith}
 use Rattle.steps.specs.declared.loan.reclaim.ReclaimStage.TheVariants as reclaims
@@ -17,7 +17,6 @@ use Rattle.steps.specs.Queues.Overflow.{cell_word, pop_asks}
 use Rattle.model.specs.declared.families.loan.effects.Effect.TheVariants as effects
 use Rattle.model.specs.Families.Loan.Reading.{frees}
 use Rattle.laws_loan.proofs.Channel.{Channel, no_roles, words_in}
-use Rattle.laws_loan.proofs.Cuts.{IsOn}
 use Rattle.laws_loan.proofs.Knows.{reclaim_counts, reclaim_number, StageAt}
 use Rattle.laws_loan.proofs.Lists.{first_there}
 use Rattle.laws_loan.proofs.Parts.{submission_old, submission_words, submission_change}
@@ -80,19 +79,6 @@ module _ {T : Type 0} (scene : Scene T) (wrote : List (Event T)) (small : scene.
   wide : length queued ≡ 5 + queue
   wide = grind (arith, low_write)
 
-  -- what an operation of the pop finds in the whole it finds in the queue
-  old_is : (stage : PopStage) → IsOn queued (pop_asks queue stage) → value stage ≡ old_of queued (ask_of (pop_asks queue stage))
-  old_is stage on = submission_old holds.parts (pop_asks queue stage) on
-
-  -- an operation on the submission queue changes that part of the words alone, to those of
-  -- the queue as it is then
-  words_are : (stage : PopStage) (k : Core ℕ) → IsOn queued (pop_asks queue stage)
-      → words_after queued (ask_of (pop_asks queue stage)) ≡ layout no_roles k
-      → words_after (words_in s) (asks stage) ≡ s.set ++ (layout no_roles k ++ layout no_roles s.completion)
-  words_are stage k on layout_is =
-      submission_words holds.parts (pop_asks queue stage) on
-      ∙ ap (λ ws. s.set ++ (ws ++ layout no_roles s.completion)) layout_is
-
   -- ---- the loads
 
   -- a step of the pop that changes no word, and leads to a stage where the reclaim stands,
@@ -120,9 +106,9 @@ module _ {T : Type 0} (scene : Scene T) (wrote : List (Event T)) (small : scene.
     loads_read : x.steps ≤ 4 * length (handed_out wrote) → StageKeepsAt pops.LoadsRead
     loads_read few =
         let on_queue : 1 < length queued = (let all = wide in omega arith) in
-        loads pops.LoadsRead (drains load_of_write) (words_are pops.LoadsRead s.submission on_queue refl) refl
+        loads pops.LoadsRead (drains load_of_write) (submission_words holds.parts (pop_asks queue pops.LoadsRead) on_queue refl) refl
         (refl, most, none_taken, none_freed) (omega arith) refl
-        (ap (then_of pops.LoadsRead) (old_is pops.LoadsRead on_queue)) refl
+        (ap (then_of pops.LoadsRead) (submission_old holds.parts (pop_asks queue pops.LoadsRead) on_queue)) refl
 
     -- the load of the write position leads to the completion queue where nothing waits, and
     -- else on to the cell
@@ -141,21 +127,24 @@ module _ {T : Type 0} (scene : Scene T) (wrote : List (Event T)) (small : scene.
             let empty : s.submission.waiting ≡ [] = nil_from_length s.submission.waiting (omega arith) in
             let none : length (taken_back wrote) ≡ 0 = ap length none_taken in
             let within = holds.parts.completion.few in
-            loads load_of_write (reclaims.Empties ring_pops.LoadsRead) (words_are load_of_write s.submission on refl) refl
+            loads load_of_write (reclaims.Empties ring_pops.LoadsRead) (submission_words holds.parts (pop_asks queue load_of_write) on refl) refl
             (tt, (omega arith), none_freed, empty) (omega arith) refl
-            (ap (then_of load_of_write) (old_is load_of_write on) ∙ (rw e refl)) refl
+            (ap (then_of load_of_write) (submission_old holds.parts (pop_asks queue load_of_write) on) ∙ (rw e refl)) refl
         go false e =
             let other : s.submission.write ≢ s.submission.read = grind (arith, nat_tests) in
             let write = holds.parts.submission.write in
-            loads load_of_write (drains load_of_cell) (words_are load_of_write s.submission on refl) refl
+            loads load_of_write (drains load_of_cell) (submission_words holds.parts (pop_asks queue load_of_write) on refl) refl
             ((refl, omega arith), most, none_taken, none_freed) (omega arith) refl
-            (ap (then_of load_of_write) (old_is load_of_write on) ∙ (rw e refl)) refl
+            (ap (then_of load_of_write) (submission_old holds.parts (pop_asks queue load_of_write) on) ∙ (rw e refl)) refl
 
     -- the load of the cell leads on to the move of the read position
     loads_cell : s.submission.read < s.submission.write → x.steps ≤ 4 * length (handed_out wrote) + 2 → StageKeepsAt load_of_cell
     loads_cell ahead few =
         let cell_within = submission.cell_on holds.parts low_write s.submission.read in
-        loads load_of_cell (drains moves) (words_are load_of_cell s.submission cell_within (set-get_or queued (cell_word queue s.submission.read) 0)) refl
+        loads load_of_cell (drains moves)
+        (submission_words holds.parts (pop_asks queue load_of_cell) cell_within
+        (set-get_or queued (cell_word queue s.submission.read) 0))
+        refl
         ((refl, ahead), most, none_taken, none_freed) (omega arith) refl refl refl
 
     -- ---- the oldest one leaves the queue
@@ -200,7 +189,7 @@ module _ {T : Type 0} (scene : Scene T) (wrote : List (Event T)) (small : scene.
           ap length (flat_map-append hands_out wrote (hands ∷ [])) ∙ length-append (handed_out wrote) (Index u ∷ [])
           in
           let words =
-          words_are moves k on_moves
+          submission_words holds.parts (pop_asks queue moves) on_moves
           (submission.take_words holds.parts low_write u rest first) in
           let good = submission.take_good holds.parts low_write u rest first in
           let placed = hands_it_out holds.parts.placed u below 0 rest first (inl refl) in
@@ -220,7 +209,7 @@ module _ {T : Type 0} (scene : Scene T) (wrote : List (Event T)) (small : scene.
         let u = get_or s.submission.cells (s.submission.read % (queue + 1)) 0 in
         let on_queue : 1 < length queued = (let all = wide in omega arith) in
         let is_same : (s.submission.read == s.submission.read) ≡ true = grind (arith, nat_tests) in
-        let found : value moves ≡ s.submission.read = old_is moves on_queue in
+        let found : value moves ≡ s.submission.read = submission_old holds.parts (pop_asks queue moves) on_queue in
         let place : sent_at (submission_word slots) queue (words_in s) s.submission.read ≡ u =
         submission_old holds.parts
         (load (cell_word queue s.submission.read))

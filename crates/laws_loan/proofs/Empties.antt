@@ -5,9 +5,9 @@ use Rattle.laws_loan.proofs.Names.{Option, Some, None, List, [], ◌∷◌, ◌+
 use Rattle.laws_loan.proofs.Names.{append-nil, length-append, AllByRecursion, nat_tests, set-get_or, flat_map-append}
 use Rattle.laws_loan.proofs.Names.{fold-append, Ask, After, GoOn, ReclaimStage, completion_word, next_sent}
 use Rattle.laws_loan.proofs.Names.{reclaim_goes_back, reclaim_releases, load, Answer, Number, Event, TakenBack}
-use Rattle.laws_loan.proofs.Names.{LoanFlight, Reclaim, Effect, one_word, ask_of, Returning, spot_of}
+use Rattle.laws_loan.proofs.Names.{LoanFlight, Reclaim, Effect, one_word, Returning, spot_of}
 use Rattle.laws_loan.proofs.Names.{receiver_after, takes_back, taken_back, freed, given_back_at, words_of_index, Open}
-use Rattle.laws_loan.proofs.Names.{as_call, old_of, words_after, step_count, Core, taken, layout}
+use Rattle.laws_loan.proofs.Names.{as_call, words_after, step_count, Core, taken, layout}
 use Rattle.std.proofs.Common.{arith}
 use Rattle.steps.specs.declared.ask.After.TheVariants.{Done}
 use Rattle.steps.specs.declared.indices.unique.ReleaseStage.TheVariants as releases
@@ -21,7 +21,6 @@ use Rattle.model.specs.Families.Loan.Reading.{frees}
 use Rattle.laws_queues.proofs.Ring.Keeping.{take_keeps}
 use Rattle.laws_loan.proofs.Channel.{Channel, no_roles, words_in}
 use Rattle.laws_loan.proofs.Completion as completion
-use Rattle.laws_loan.proofs.Cuts.{IsOn}
 use Rattle.laws_loan.proofs.Invariant.{hung}
 use Rattle.laws_loan.proofs.Knows.{reclaim_counts, reclaim_number, StageAt}
 use Rattle.laws_loan.proofs.Lists.{first_there}
@@ -101,19 +100,6 @@ module _ {T : Type 0} (scene : Scene T) (wrote : List (Event T)) (small : scene.
   long : length queued ≡ 4 + slots
   long = completion_long holds.parts
 
-  -- what an operation of the pop finds in the whole it finds in the queue
-  old_is : (stage : PopStage) → IsOn queued (pop_asks stage) → value stage ≡ old_of queued (ask_of (pop_asks stage))
-  old_is stage on = completion_old holds.parts (pop_asks stage) on
-
-  -- an operation on the completion queue changes that part of the words alone, to those of
-  -- the queue as it is then
-  words_are : (stage : PopStage) (k : Core ℕ) → IsOn queued (pop_asks stage)
-      → words_after queued (ask_of (pop_asks stage)) ≡ layout no_roles k
-      → words_after (words_in s) (asks stage) ≡ s.set ++ (layout no_roles s.submission ++ layout no_roles k)
-  words_are stage k on layout_is =
-      completion_words holds.parts (pop_asks stage) on
-      ∙ ap (λ ws. s.set ++ (layout no_roles s.submission ++ ws)) layout_is
-
   -- ---- the loads
 
   -- a step of the pop that changes no word, and leads to a stage where the reclaim stands,
@@ -141,16 +127,16 @@ module _ {T : Type 0} (scene : Scene T) (wrote : List (Event T)) (small : scene.
     loads_read : x.steps ≤ 4 * (slots + 1) + 4 * length (taken_back wrote) → StageKeepsAt pops.LoadsRead
     loads_read less =
         let on_queue : 1 < length queued = (let all = long in omega arith) in
-        loads pops.LoadsRead (empties load_of_write) (words_are pops.LoadsRead s.completion on_queue refl) refl
+        loads pops.LoadsRead (empties load_of_write) (completion_words holds.parts (pop_asks pops.LoadsRead) on_queue refl) refl
         (refl, most, none_freed, drained) (omega arith) refl
-        (ap (then_of pops.LoadsRead) (old_is pops.LoadsRead on_queue)) refl
+        (ap (then_of pops.LoadsRead) (completion_old holds.parts (pop_asks pops.LoadsRead) on_queue)) refl
 
     -- the load of the cell leads on to the store of the read position
     loads_cell : s.completion.read < s.completion.write → x.steps ≤ 4 * (slots + 1) + 4 * length (taken_back wrote) + 2 → StageKeepsAt load_of_cell
     loads_cell ahead less =
         let cell_within = completion.cell_on holds.parts reached s.completion.read in
         loads load_of_cell (empties store_of_read)
-        (words_are load_of_cell s.completion cell_within (set-get_or queued (word_at (cell_word slots 1 s.completion.read) 0) 0))
+        (completion_words holds.parts (pop_asks load_of_cell) cell_within (set-get_or queued (word_at (cell_word slots 1 s.completion.read) 0) 0))
         refl
         ((refl, ahead), most, none_freed, drained) (omega arith) refl refl refl
 
@@ -181,7 +167,7 @@ module _ {T : Type 0} (scene : Scene T) (wrote : List (Event T)) (small : scene.
             (asks load_of_write) false (Done (Number 0)) (end_of (Number 0) ∷ [])
         ends_steps =
             reclaim_ends r
-            (keeps_all holds (words_are load_of_write s.completion on_write refl)
+            (keeps_all holds (completion_words holds.parts (pop_asks load_of_write) on_write refl)
             (steps.busy_none r idle) (ap (hung s.submission.read) here))
             drained emptied (λ j below. none j (omega arith) below) (ap length none_freed) (omega arith) small
 
@@ -193,7 +179,7 @@ module _ {T : Type 0} (scene : Scene T) (wrote : List (Event T)) (small : scene.
             channel_then = s_still;
             step = (
               steps.goes_still r idle (empties load_of_write) (reclaims.Releases 0 index releases.ClearsFlag)
-                  (words_are load_of_write s.completion on_write refl) refl (
+                  (completion_words holds.parts (pop_asks load_of_write) on_write refl) refl (
                     first.2,
                     first.1,
                     (omega arith),
@@ -224,7 +210,7 @@ module _ {T : Type 0} (scene : Scene T) (wrote : List (Event T)) (small : scene.
             let both : (slots == 0 || s.completion.write == s.completion.read) ≡ true = rw (zero, e) refl in
             let emptied = completion.finds_none holds.parts reached e in
             let is : then_of load_of_write (value load_of_write) ≡ comes_after emptied less (next_sent s.book.places slots 0) =
-            ap (then_of load_of_write) (old_is load_of_write on_write) ∙ (rw both refl)
+            ap (then_of load_of_write) (completion_old holds.parts (pop_asks load_of_write) on_write) ∙ (rw both refl)
             in
             let found = comes emptied less (next_sent s.book.places slots 0) (comes_to s.book.places slots 0) in
             record {
@@ -237,9 +223,9 @@ module _ {T : Type 0} (scene : Scene T) (wrote : List (Event T)) (small : scene.
             let zero = none_zero in
             let both : (slots == 0 || s.completion.write == s.completion.read) ≡ false = rw (zero, e) refl in
             let ahead = completion.finds_some holds.parts reached e in
-            loads load_of_write (empties load_of_cell) (words_are load_of_write s.completion on_write refl) refl
+            loads load_of_write (empties load_of_cell) (completion_words holds.parts (pop_asks load_of_write) on_write refl) refl
             ((refl, ahead, refl, refl), most, none_freed, drained)
-            (omega arith) refl (ap (then_of load_of_write) (old_is load_of_write on_write) ∙ (rw both refl)) refl
+            (omega arith) refl (ap (then_of load_of_write) (completion_old holds.parts (pop_asks load_of_write) on_write) ∙ (rw both refl)) refl
 
     -- ---- the first one leaves the queue
 
@@ -271,7 +257,7 @@ module _ {T : Type 0} (scene : Scene T) (wrote : List (Event T)) (small : scene.
           let more : length (taken_back (wrote ++ takes ∷ [])) ≡ length (taken_back wrote) + 1 =
           ap length (flat_map-append takes_back wrote (takes ∷ [])) ∙ length-append (taken_back wrote) (v ∷ [])
           in
-          let words = words_are store_of_read m on_queue (completion.take_words holds.parts reached v rest first) in
+          let words = completion_words holds.parts (pop_asks store_of_read) on_queue (completion.take_words holds.parts reached v rest first) in
           let good = completion.take_good holds.parts reached v rest first in
           let placed = takes_it_back holds.parts.placed v below rest first in
           let tells : Tells queue true s.submission.waiting s.submission.waiting s.completion.waiting rest (takes ∷ []) =

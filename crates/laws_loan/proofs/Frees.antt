@@ -242,17 +242,7 @@ module _ {T : Type 0} {scene : Scene T} {number index : ℕ} {wrote : List (Even
     pub goes_steps : Steps scene 0 s_on (Open (starts.Loan calls.Reclaim) wrote) calls.Reclaim ask false (GoOn flight_on) []
     goes_steps =
         let one = one_step slots index stage in
-        let set_step : rests.SetStep T =
-        record {
-          scene = scene;
-          holds = holds;
-          straight = straight;
-          start = calls.Reclaim;
-          wrote = wrote;
-          from = from;
-          ask = ask;
-          set_then = words_then;
-        } in
+        let set_step : rests.SetStep T = rests.set_step scene holds straight from ask words_then in
         rests.goes_on set_step flight_on (record { words = whole_words r; good = good; unlocked = step.unlocked; calm = ap (hung s.submission.read) here })
         refl (omega arith)
         (refl, refl, refl, goes_known slots queue s words_then wrote (Releases number index stage) (Releases number' index' stage') at known)

@@ -33,8 +33,7 @@ use Rattle.laws_loan.proofs.Sender.{party_then}
 use Rattle.laws_loan.proofs.Spots.{passing_same, returning_passes}
 use Rattle.laws_loan.proofs.Still.{placed_still}
 use Rattle.laws_loan.proofs.Table.{returns_it}
-use Rattle.laws_loan.proofs.QueueEvents.{Tells, silent_tells}
-use Rattle.laws_loan.proofs.QueueEvents.{is_reclaiming}
+use Rattle.laws_loan.proofs.QueueEvents.{Tells, silent_tells, is_reclaiming}
 use Rattle.laws_loan.proofs.Turns.{Shows, sends_still}
 
 -- the push of a give-back at a stage
@@ -110,19 +109,6 @@ module _ {T : Type 0} (scene : Scene T) (p index : ℕ) where
     long : length queued ≡ 4 + slots
     long = completion_long holds.parts
 
-    -- what an operation of the push finds in the whole it finds in the queue
-    old_is : (stage : PushStage) → IsOn queued (want stage) → old stage ≡ old_of queued (ask_of (want stage))
-    old_is stage on = completion_old holds.parts (want stage) on
-
-    -- an operation on the completion queue changes that part of the words alone, to those of
-    -- the queue as it is then
-    words_are : (stage : PushStage) (k : Core ℕ) → IsOn queued (want stage)
-        → words_after queued (ask_of (want stage)) ≡ layout no_roles k
-        → words_after (words_in s) (asked stage) ≡ s.set ++ (layout no_roles s.submission ++ layout no_roles k)
-    words_are stage k on layout_is =
-        completion_words holds.parts (want stage) on
-        ∙ ap (λ ws. s.set ++ (layout no_roles s.submission ++ ws)) layout_is
-
     -- each step of the push counts as one
     one_step : (stage : PushStage) → step_count (asked stage) ≡ 1
     one_step = grind arith
@@ -138,7 +124,7 @@ module _ {T : Type 0} (scene : Scene T) (p index : ℕ) where
       goes_on : StepTo k stage (GoOn (give_at slots queue p index stage')) effects.Quiet
       goes_on =
           let one = one_step stage in (
-            gives_on r (asked stage) false kept (give_at slots queue p index stage') (words_are stage k on words)
+            gives_on r (asked stage) false kept (give_at slots queue p index stage') (completion_words holds.parts (want stage) on words)
                 (omega arith)
                 (other, refl, refl, refl, refl, refl, low, λ lives. (receives, (passes.0, ap (spot_of index) (append-nil s.events) ∙ passes.1), known))
                 (omega arith),
@@ -212,7 +198,7 @@ module _ {T : Type 0} (scene : Scene T) (p index : ℕ) where
       ends_with : x.steps ≤ 3 → StepTo full last (Done (answers.Truth true)) (effects.Returns index)
       ends_with steps =
           let words =
-          words_are last full (let wide = long in omega arith)
+          completion_words holds.parts (want last) (let wide = long in omega arith)
           (completion.publish_words holds.parts reached index room) in
           let others =
           at_given slots queue s full (s.events ++ told) p (record {
@@ -242,7 +228,8 @@ module _ {T : Type 0} (scene : Scene T) (p index : ℕ) where
     loads_write steps =
         let on_queue : 0 < length queued = (let wide = long in omega arith) in
         let goes : after_of load_of_write ≡ GoOn (give_at slots queue p index load_of_read) =
-        ap (λ n. given_after T slots queue p index (push_takes 1 (push_on slots load_of_write) load_of_write n)) (old_is load_of_write on_queue)
+        ap (λ n. given_after T slots queue p index (push_takes 1 (push_on slots load_of_write) load_of_write n))
+        (completion_old holds.parts (want load_of_write) on_queue)
         ∙ ap (given_after T slots queue p index) (completion.loads_write holds.parts reached)
         in
         record {
@@ -257,7 +244,8 @@ module _ {T : Type 0} (scene : Scene T) (p index : ℕ) where
     loads_read steps =
         let on_queue : 1 < length queued = (let wide = long in omega arith) in
         let goes : after_of load_of_read ≡ GoOn (give_at slots queue p index store_of_cell) =
-        ap (λ n. given_after T slots queue p index (push_takes 1 (push_on slots load_of_read) load_of_read n)) (old_is load_of_read on_queue)
+        ap (λ n. given_after T slots queue p index (push_takes 1 (push_on slots load_of_read) load_of_read n))
+        (completion_old holds.parts (want load_of_read) on_queue)
         ∙ ap (given_after T slots queue p index) (completion.loads_read holds.parts reached room)
         in
         record {

@@ -1,11 +1,10 @@
 -- What is proved of every run of a loan channel: each turn writes in order and acts where it is justified,
 -- and each call goes on as its table says.
-use Rattle.laws_loan.proofs.Names.{◌≡◌, ◌≢◌, ℕ, Option, Some, List, ◌++◌, refl, sym, ap, subst, After}
-use Rattle.laws_loan.proofs.Names.{OneWord, SendStage, Answer, Event, Start, Flight, Registry}
-use Rattle.laws_loan.proofs.Names.{LoanStart, LoanFlight, Going}
-use Rattle.laws_loan.proofs.Names.{Next, Coding, ask_of, beside_of, step_of, goes_of, want, after, promise}
-use Rattle.laws_loan.proofs.Names.{effect_of, IsTurnBy, IsKeptBy, ask_in, answer_in, old_of, ending_of, after_turn}
-use Rattle.laws_loan.proofs.Names.{StandsThere, stands_there, InOrder, in_order_from}
+use Rattle.laws_loan.proofs.Names.{◌≡◌, ◌≢◌, ℕ, Option, Some, List, ◌++◌, refl, sym, ap, subst, After, OneWord}
+use Rattle.laws_loan.proofs.Names.{SendStage, Answer, Event, Start, Flight, LoanStart, LoanFlight, Going, Next}
+use Rattle.laws_loan.proofs.Names.{Coding, ask_of, want, after, promise, effect_of, IsTurnBy, IsKeptBy, ask_in}
+use Rattle.laws_loan.proofs.Names.{answer_in, old_of, ending_of, after_turn, StandsThere, stands_there, InOrder}
+use Rattle.laws_loan.proofs.Names.{in_order_from}
 use native.Mathlib.Omega.{arith}
 use Rattle.steps.specs.declared.loan.send.SendStage.TheVariants as sends
 use Rattle.steps.specs.declared.queues.overflow.PopStage.{PopStage}
@@ -20,7 +19,7 @@ use Rattle.model.proofs.Orders.{Orders, Keeps, ends_end, turn_is}
 use Rattle.laws_loan.proofs.Acts.{did, acts_of, effects_are, did_effects, all_act, frees_silent, take_back_silent}
 use Rattle.laws_loan.proofs.Acts.{give_back_silent, reclaim_silent, waits, Acting, silent_right, send_right}
 use Rattle.laws_loan.proofs.Acts.{receive_right}
-use Rattle.laws_loan.proofs.Channel.{Channel, Represents, words_in, kept_is}
+use Rattle.laws_loan.proofs.Channel.{words_in, kept_is}
 use Rattle.laws_loan.proofs.Invariant.{family}
 use Rattle.laws_loan.proofs.Kept.{kept_by}
 use Rattle.laws_loan.proofs.Laws.{asks_nothing, reached}

@@ -27,17 +27,15 @@ use Rattle.laws_loan.proofs.Invariant.{family}
 use Rattle.laws_loan.proofs.LoanStep.{loan_acquires}
 use Rattle.laws_loan.proofs.Lives.{lives}
 use Rattle.laws_loan.proofs.Living.{turn_lives}
-use Rattle.laws_loan.proofs.Loans.{loan_at}
 use Rattle.laws_loan.proofs.Opens.{slots_are, queue_is, opening_sound}
 use Rattle.laws_loan.proofs.ReceiveSteps.{receive_comes}
 use Rattle.laws_loan.proofs.ReclaimStep.{reclaim_steps_from}
-use Rattle.laws_loan.proofs.Releases.{give_up_at}
 use Rattle.laws_loan.proofs.Scene.{Underway}
 use Rattle.laws_loan.proofs.Senders.{Stands, Comes}
-use Rattle.laws_loan.proofs.SendStep.{send_at, send_steps}
+use Rattle.laws_loan.proofs.SendStep.{send_steps}
 use Rattle.laws_loan.proofs.StepLaw.{channel}
 use Rattle.laws_loan.proofs.Tabled.{IsTabled, turn_tabled}
-use Rattle.laws_loan.proofs.TakeBackStep.{take_back_at, take_back_steps}
+use Rattle.laws_loan.proofs.TakeBackStep.{take_back_steps}
 
 module _ {T : Type 0} (m : Underway T) where
   open m use {coding as code, slots, queue, trace as t, sound, caller as x, since}

@@ -1,7 +1,7 @@
 -- The indices that wait in a queue are those whose spot by the events is that queue, each once; so no more
 -- wait than there are slots.
 use Rattle.laws_loan.proofs.Names.{◌≡◌, ◌≢◌, ℕ, zero, suc, ◌+◌, ◌<◌, ◌≤◌, ◌==◌, ⊎_elim, Bool, true, false, Some, None}
-use Rattle.laws_loan.proofs.Names.{List, [], ◌∷◌, ◌++◌, length, refl, sym, ap, subst, ◌∙◌, eq-eqb, ne_eqb, cases_eq}
+use Rattle.laws_loan.proofs.Names.{List, [], ◌∷◌, ◌++◌, length, refl, sym, ap, ◌∙◌, eq-eqb, ne_eqb, cases_eq}
 use Rattle.laws_loan.proofs.Names.{cases_lt, Event, Spot, Move, move_of, spot_of, one_if}
 use Rattle.std.proofs.Common.{arith}
 use Rattle.laws_indices.proofs.Sums.{sum_below, sum_moved, sum_none}

@@ -1,8 +1,7 @@
 -- Each step of a loan, which is an acquire of the set, leaves a machine with the invariant.
-use Rattle.laws_loan.proofs.Names.{Ok, Err, ◌≡◌, ℕ, false, Bool, Option, List, [], refl, sym, subst}
-use Rattle.laws_loan.proofs.Names.{Ask, After, GoOn, AcquireStage, Acquired, acquire_asks, acquire_takes}
-use Rattle.laws_loan.proofs.Names.{acquire_goes_back, went_on, Answer, LoanFlight, ask_of, as_it_is}
-use Rattle.laws_loan.proofs.Names.{Open, span_of, as_call, old_of, words_after}
+use Rattle.laws_loan.proofs.Names.{Ok, Err, ◌≡◌, ℕ, false, Bool, Option, List, [], refl, Ask, After, GoOn}
+use Rattle.laws_loan.proofs.Names.{AcquireStage, Acquired, acquire_asks, acquire_takes, went_on, Answer, LoanFlight}
+use Rattle.laws_loan.proofs.Names.{ask_of, as_it_is, Open, span_of, as_call, old_of, words_after}
 use Rattle.std.proofs.Common.{arith}
 use Rattle.steps.specs.declared.ask.After.TheVariants.{Done}
 use Rattle.steps.specs.declared.indices.enums.UniqueIndexSetAcquireFailure.TheVariants as failures

@@ -88,17 +88,7 @@ module _ {T : Type 0} (scene : Scene T) (stage : AcquireStage) (l : Loans scene 
 
   -- the step of the acquire, with which the words of the indices change
   abbrev set_step : rests.SetStep T
-  set_step =
-      record {
-        scene = scene;
-        holds = holds_before;
-        straight = straight;
-        start = calls.Loan;
-        wrote = [];
-        from = from;
-        ask = ask;
-        set_then = words_then;
-      }
+  set_step = rests.set_step scene holds_before straight from ask words_then
 
   -- ---- the loan goes on
 

@@ -36,23 +36,11 @@ use Rattle.laws_loan.proofs.Weight.{sender_most, receiver_most, most_sending}
 module _ {T : Type 0} where
   -- the sender without a call may still take the most steps of a call
   free_sender : (slots : ℕ) (o : Option (Party T)) → flight_of (doing_of o) ≡ None → sender_left slots o ≡ most_sending slots
-  free_sender slots None flight_is = refl
-  free_sender slots (Some x) flight_is = go x.doing refl
-    where
-      -- the cases are whether the party's call is under way or has ended
-      go : (d : Doing T) → x.doing ≡ d → sender_left slots (Some x) ≡ most_sending slots
-      go (Going flight since) doing_is = absurd (let is_under_way : flight_of (Some x.doing) ≡ Some flight = ap (λ d. flight_of (Some d)) doing_is in cc)
-      go (Over others) doing_is = rw doing_is refl
+  free_sender = grind arith
 
   -- the receiver without a call may still take four steps
   free_receiver : (read : ℕ) (o : Option (Party T)) → flight_of (doing_of o) ≡ None → receiver_left read o ≡ 4
-  free_receiver read None flight_is = refl
-  free_receiver read (Some x) flight_is = go x.doing refl
-    where
-      -- the cases are whether the party's call is under way or has ended
-      go : (d : Doing T) → x.doing ≡ d → receiver_left read (Some x) ≡ 4
-      go (Going flight since) doing_is = absurd (let is_under_way : flight_of (Some x.doing) ≡ Some flight = ap (λ d. flight_of (Some d)) doing_is in cc)
-      go (Over others) doing_is = rw doing_is refl
+  free_receiver = grind arith
 
   -- a begin leaves who the receiver is, and who has died
   begun_same : (code : Coding T) (slots : ℕ) (start : Start T) (p : ℕ) (book : Book)
@@ -62,20 +50,7 @@ module _ {T : Type 0} where
 
 -- a death makes no receiver's steps count for more
 dies : (q owner : ℕ) (dead : List ℕ) (left : ℕ) → cond (has_died q (dead_with owner dead)) 0 left ≤ cond (has_died q dead) 0 left
-dies q owner dead left = ⊎_elim now before (cases_eq q owner)
-  where
-    -- the owner who dies counts for nothing any more
-    now : q ≡ owner → cond (has_died q (dead_with owner dead)) 0 left ≤ cond (has_died q dead) 0 left
-    now same_party =
-        let has_died_now : has_died q (dead_with owner dead) ≡ true = rw same_party (died_now owner dead) in
-        let none = ap (λ b. cond b 0 left) has_died_now in
-        omega arith
-
-    -- any other party counts for as much as before
-    before : q ≢ owner → cond (has_died q (dead_with owner dead)) 0 left ≤ cond (has_died q dead) 0 left
-    before ne =
-        let same = ap (λ b. cond b 0 left) (died_before q owner dead ne) in
-        omega arith
+dies = grind (arith, died_now, died_before)
 
 module _ {T : Type 0} (code : Coding T) (slots queue : ℕ) (t : Trace T) (sound : P code slots queue t) where
   abbrev w : World T

@@ -1,15 +1,13 @@
 -- A step that ends no call lowers the weight of a loan channel's machine.
-use Rattle.laws_loan.proofs.Names.{◌≡◌, ◌≢◌, ℕ, ◌+◌, ◌-◌, ◌*◌, ◌≤◌, ◌⊎◌, inl, inr, ⊎_elim, Bool, true, false, Option, Some, None}
-use Rattle.laws_loan.proofs.Names.{List, [], ◌∷◌, ◌++◌, fold, refl, sym, ap, subst, ◌∙◌, Ask, After, GoOn}
-use Rattle.laws_loan.proofs.Names.{Answer, Event, Start, Flight, Registry, Book, LoanStart, LoanFlight, Send, GiveUp, TakeBack, Receive}
-use Rattle.laws_loan.proofs.Names.{GiveBack, Reclaim, Party, Coding, want_of, ask_of}
-use Rattle.laws_loan.proofs.Names.{step_of, beside_of, going_rows, first_row, want, after}
-use Rattle.laws_loan.proofs.Names.{book_after, ended_book, answer_in, has_died, receiver_of, party_put_same, party_put_other}
-use Rattle.laws_loan.proofs.Names.{old_of, step_count, change_of, party_after, events_of_step, ending_of}
-use Rattle.laws_loan.proofs.Names.{Trace, stands_there, StandsThere}
-use Rattle.laws_loan.proofs.Names.{acquire_asks}
-use Rattle.laws_loan.proofs.Names.{back_asks, as_call, Running, Part, Push, KnowsPush, push_number, one_word, completion_word}
-use Rattle.laws_loan.proofs.Names.{Pop, OneWord, submission_word, acquire_number, release_number, SendStage, ReleaseStage, TakeBackStage, ReclaimStage}
+use Rattle.laws_loan.proofs.Names.{◌≡◌, ◌≢◌, ℕ, ◌+◌, ◌-◌, ◌*◌, ◌≤◌, ◌⊎◌, inl, inr, ⊎_elim, Bool, true, false}
+use Rattle.laws_loan.proofs.Names.{Option, Some, None, List, [], ◌∷◌, ◌++◌, fold, refl, sym, ap, subst, ◌∙◌, Ask}
+use Rattle.laws_loan.proofs.Names.{After, GoOn, Answer, Event, Start, Flight, Registry, Book, LoanStart, LoanFlight}
+use Rattle.laws_loan.proofs.Names.{Send, GiveUp, TakeBack, Receive, GiveBack, Reclaim, Party, Coding, want_of}
+use Rattle.laws_loan.proofs.Names.{ask_of, step_of, beside_of, going_rows, first_row, want, after, book_after}
+use Rattle.laws_loan.proofs.Names.{ended_book, answer_in, has_died, receiver_of, party_put_same, party_put_other}
+use Rattle.laws_loan.proofs.Names.{old_of, step_count, change_of, party_after, events_of_step, ending_of, Trace}
+use Rattle.laws_loan.proofs.Names.{stands_there, StandsThere, acquire_asks, back_asks, as_call, Running, Part, Push}
+use Rattle.laws_loan.proofs.Names.{KnowsPush, push_number, one_word, completion_word, Pop, OneWord, submission_word}
 use Rattle.std.proofs.Common.{cond, arith}
 use Rattle.steps.specs.Loan.TakeBack.{take_back_asks}
 use Rattle.steps.specs.declared.ask.After.TheVariants.{Done}
@@ -20,7 +18,7 @@ use Rattle.model.specs.declared.families.loan.LoanStart.TheVariants as calls
 use Rattle.model.specs.declared.families.loan.calls.LoanFlight.TheVariants.{Loan}
 use Rattle.model.specs.declared.party.Doing.TheVariants.{Going}
 use Rattle.model.specs.Families.Loan.Calls as rows
-use Rattle.model.specs.Families.Loan.Steps.{step, wrote}
+use Rattle.model.specs.Families.Loan.Steps.{step}
 use Rattle.model.specs.LockFree.{ends}
 use Rattle.model.specs.Parties.{party_of}
 use Rattle.model.specs.Step.{Step}
@@ -33,17 +31,16 @@ use Rattle.model.proofs.LockFree.Weighed.{ended_more}
 use Rattle.laws_loan.proofs.Channel.{Channel, kept_is}
 use Rattle.laws_loan.proofs.Costs.{Sizes, Keeps, AllCosts, CallCosts, acquire_keeps, release_keeps, any_costs, send_costs_so, take_back_keeps, gives_below}
 use Rattle.laws_loan.proofs.GiveBacks.{give_at, push_on}
-use Rattle.laws_loan.proofs.Knows.{At, StageAt, TakeBackAt}
+use Rattle.laws_loan.proofs.Knows.{At}
 use Rattle.laws_loan.proofs.Knows as knows
 use Rattle.laws_loan.proofs.Lives.{lives}
 use Rattle.laws_loan.proofs.Receives.{receive_at}
 use Rattle.laws_loan.proofs.SendStep.{send_at}
-use Rattle.laws_loan.proofs.SetSteps.{TakesAt}
 use Rattle.laws_loan.proofs.StepLaw.{channel}
 use Rattle.laws_loan.proofs.Takes.{Fewer, TakesOne, receive_takes, give_back_takes}
 use Rattle.laws_loan.proofs.Weight.{allowance, sender_left, sender_doing, receiver_left, receiver_call, receiver_doing}
 use Rattle.laws_loan.proofs.Weight.{receivers_left, receiver_in, is_lost, read_at, weight, weight_most}
-use Rattle.laws_loan.proofs.Weight.{receiver_moved, most_sending, send_costs, allowance_most}
+use Rattle.laws_loan.proofs.Weight.{receiver_moved, most_sending, allowance_most}
 
 -- ---- what a step that goes on leaves of the book
 
@@ -68,30 +65,15 @@ module _ {T : Type 0} where
       → after {T = T} book.places flight old ≡ GoOn next
       → ((step {T = T} words push p start flight old book).kept.receiver ≡ book.receiver)
       × ((step {T = T} words push p start flight old book).kept.dead ≡ book.dead)
-  book_goes_on words push p start flight next old book after_is =
-      subst (λ o. ((ended_book {T = T} p start o (fold book_after book (wrote words push p flight old o))).receiver ≡ book.receiver)
-      × ((ended_book {T = T} p start o (fold book_after book (wrote words push p flight old o))).dead ≡ book.dead))
-      (sym (ap answer_in after_is)) stays
-    where
-      told : List (Event T)
-      told = wrote words push p flight old None
-
-      stays : ((ended_book {T = T} p start None (fold book_after book told)).receiver ≡ book.receiver)
-          × ((ended_book {T = T} p start None (fold book_after book told)).dead ≡ book.dead)
-      stays =
-          let same = not_ended T p start (fold book_after book told) in
-          let rest = fold_stays told book in
-          (ap (λ (b : Book). b.receiver) same ∙ rest.0, ap (λ (b : Book). b.dead) same ∙ rest.1)
+  book_goes_on = grind (arith, not_ended, fold_stays)
 
 -- ---- sums
 
 lost_or : (b : Bool) (new old more : ℕ) → new ≤ old + more → cond b 0 new ≤ cond b 0 old + more
-lost_or true new old more le = omega arith
-lost_or false new old more le = omega arith
+lost_or = grind arith
 
 lost_none : (b : Bool) (new old : ℕ) → b ≡ true → cond b 0 new ≤ cond b 0 old
-lost_none true new old e = omega arith
-lost_none false new old e = absurd (cc)
+lost_none = grind arith
 
 module _ {T : Type 0} (code : Coding T) (slots queue : ℕ) where
   abbrev pub P : Trace T → Type 0
@@ -296,35 +278,11 @@ module _ {T : Type 0} (code : Coding T) (slots queue : ℕ) where
       sender_few : (p backs : ℕ) (wrote : List (Event T)) (start : LoanStart) (flight : LoanFlight) → p ≡ 0
           → At slots queue s' p wrote start flight
           → knows.number_of slots wrote flight backs ≤ allowance {T = T} slots (flights.Loan flight)
-      sender_few p backs wrote calls.Loan (Loan run) mine at = acquire_few at.3
-        where
-          acquire_few : TakesAt slots s'.set run.call.stage → acquire_number slots run.call.stage 0 ≤ most_sending slots
-          acquire_few = grind arith
-      sender_few p backs wrote (calls.Send index) (Send run) mine at = send_few run.call.stage
-        where
-          send_few : (stage : SendStage) → knows.send_number stage ≤ 13 * slots + 5 + send_costs stage
-          send_few = grind arith
-      sender_few p backs wrote (calls.GiveUp index) (GiveUp run) mine at = release_few run.call.stage
-        where
-          release_few : (stage : ReleaseStage) → release_number stage 0 ≤ most_sending slots
-          release_few = grind arith
-      sender_few p backs wrote calls.TakeBack (TakeBack run) mine at = take_back_few run.call.stage at.4
-        where
-          take_back_few : (stage : TakeBackStage) → TakeBackAt slots queue s' stage → knows.take_back_number stage ≤ most_sending slots
-          take_back_few = grind arith
-      sender_few p backs wrote calls.Receive (Receive by run) mine at = absurd (at.0 mine)
-      sender_few p backs wrote (calls.GiveBack index) (GiveBack by run) mine at = absurd (at.0 mine)
-      sender_few p backs wrote calls.Reclaim (Reclaim call) mine at = reclaim_few call.stage at.3.stage_at
-        where
-          reclaim_few : (stage : ReclaimStage) → StageAt slots s'.submission s'.completion s'.book.places wrote stage
-              → knows.reclaim_number slots wrote stage ≤ most_sending slots
-          reclaim_few = grind arith
-      sender_few p backs wrote start flight mine at = absurd at
+      sender_few = grind arith
 
       few_any : (p backs : ℕ) (start : Start T) (flight : Flight T) → p ≡ 0 → (channel code slots queue).At s' p start flight
           → (channel code slots queue).number ((channel code slots queue).written s' p flight) flight backs ≤ allowance slots flight
-      few_any p backs (starts.Loan start) (flights.Loan flight) mine at = sender_few p backs _ start flight mine at
-      few_any p backs start flight mine at = absurd at
+      few_any = grind (arith, sender_few)
 
     module _ (p : ℕ) (x : Party T) (flight : Flight T) (since : ℕ) (found : party_of p t.world.latest ≡ Some x)
         (doing : x.doing ≡ Going flight since)

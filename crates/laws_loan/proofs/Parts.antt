@@ -1,5 +1,5 @@
 -- An operation of a call on one part of the channel does to the words of the whole what it does to that part.
-use Rattle.laws_loan.proofs.Names.{◌≡◌, ℕ, ◌+◌, ◌^◌, ◌<◌, List, [], ◌++◌, length, sym, ap, subst, ◌∙◌, append_assoc}
+use Rattle.laws_loan.proofs.Names.{◌≡◌, ℕ, ◌+◌, ◌^◌, ◌<◌, List, [], ◌++◌, length, sym, ap, ◌∙◌, append_assoc}
 use Rattle.laws_loan.proofs.Names.{append-nil, length-append, submission_word, completion_word, shifted, Want, ask_of}
 use Rattle.laws_loan.proofs.Names.{old_of, words_after, change_of, layout}
 use Rattle.std.proofs.Common.{arith}
@@ -61,11 +61,11 @@ module _ {T : Type 0} {slots queue : ℕ} {s : Channel T} {busy : ℕ} (holds : 
   submission_old want on =
       rw (← set_long) (shifted_old s.set submission completion few_before want on)
 
-  -- an operation on a word of the submission queue changes of the whole only the queue
-  pub submission_words : (want : Want (Unit {0})) → IsOn submission want
-      → words_after (words_in s) (ask_of (shifted (submission_word slots) want)) ≡ s.set ++ (words_after submission (ask_of want) ++ completion)
-  submission_words want on =
-      rw (← set_long) (shifted_words s.set submission completion few_before want on)
+  -- an operation on a word of the submission queue changes of the whole only the queue, whose words are then these
+  pub submission_words : (want : Want (Unit {0})) → IsOn submission want → {ws : List ℕ} → words_after submission (ask_of want) ≡ ws
+      → words_after (words_in s) (ask_of (shifted (submission_word slots) want)) ≡ s.set ++ (ws ++ completion)
+  submission_words want on words =
+      rw (← set_long) (shifted_words s.set submission completion few_before want on) ∙ ap (λ ws. s.set ++ (ws ++ completion)) words
 
   -- an operation on a word of the submission queue counts as many changes in the whole as in the queue
   pub submission_change : (want : Want (Unit {0})) → IsOn submission want
@@ -86,10 +86,10 @@ module _ {T : Type 0} {slots queue : ℕ} {s : Channel T} {busy : ℕ} (holds : 
       ap (λ ws. old_of ws (ask_of (shifted (completion_word slots queue) want))) (last completion)
       ∙ rw (← both_long) (shifted_old (s.set ++ submission) completion [] few_in_all want on)
 
-  -- an operation on a word of the completion queue changes of the whole only the queue
-  pub completion_words : (want : Want (Unit {0})) → IsOn completion want
-      → words_after (words_in s) (ask_of (shifted (completion_word slots queue) want)) ≡ s.set ++ (submission ++ words_after completion (ask_of want))
-  completion_words want on =
+  -- an operation on a word of the completion queue changes of the whole only the queue, whose words are then these
+  pub completion_words : (want : Want (Unit {0})) → IsOn completion want → {ws : List ℕ} → words_after completion (ask_of want) ≡ ws
+      → words_after (words_in s) (ask_of (shifted (completion_word slots queue) want)) ≡ s.set ++ (submission ++ ws)
+  completion_words want on words =
       ap (λ ws. words_after ws (ask_of (shifted (completion_word slots queue) want))) (last completion)
       ∙ (rw (← both_long) (shifted_words (s.set ++ submission) completion [] few_in_all want on)
-      ∙ sym (last (words_after completion (ask_of want))))
+      ∙ (sym (last (words_after completion (ask_of want))) ∙ ap (λ ws. s.set ++ (submission ++ ws)) words))

@@ -38,10 +38,7 @@ module _ {T : Type 0} {slots queue : ℕ} {s : Channel T} {busy : ℕ} (holds : 
       (ask_of (shifted (submission_word slots) (push_asks queue (pushes.StoresWrite s.submission.write read) index)))
   adds_write read index =
       let on_queue : 0 < length queued = (let two = within in omega arith) in
-      let words =
-      submission_words holds (push_asks queue (pushes.StoresWrite s.submission.write read) index) on_queue
-      ∙ ap (λ ws. s.set ++ (ws ++ behind)) (publish_words holds reached index)
-      in
+      let words = submission_words holds (push_asks queue (pushes.StoresWrite s.submission.write read) index) on_queue (publish_words holds reached index) in
       ap (λ ws. get_or ws (submission_word slots) 0) words
       ∙ (first _ ∙ ap (λ n. n + 1) (sym (first (queued ++ behind))))
 
@@ -53,7 +50,7 @@ module _ {T : Type 0} {slots queue : ℕ} {s : Channel T} {busy : ℕ} (holds : 
   -- a move of the submission queue's read position adds one to that word
   pub adds_read : AddsOne (read_word slots) (words_in s) (ask_of (shifted (submission_word slots) (move 1 s.submission.read)))
   adds_read =
-      let words = submission_words holds (move 1 s.submission.read) within ∙ ap (λ ws. s.set ++ (ws ++ behind)) moved_words in
+      let words = submission_words holds (move 1 s.submission.read) within moved_words in
       ap (λ ws. get_or ws (read_word slots) 0) words
       ∙ (there _ 1 ∙ ap (λ n. n + 1) (sym (there (queued ++ behind) 1)))
 

@@ -12,6 +12,7 @@ use Rattle.std.proofs.Common.{arith}
 use Rattle.steps.specs.declared.ask.After.TheVariants.{Done}
 use Rattle.steps.specs.declared.queues.overflow.PushStage.{PushStage}
 use Rattle.steps.specs.declared.queues.overflow.PushStage.TheVariants as pushes
+use Rattle.steps.specs.Queues.Overflow.{push_asks}
 use Rattle.model.specs.declared.event.Answer.TheVariants as answers
 use Rattle.model.specs.declared.event.Start.TheVariants as starts
 use Rattle.model.specs.declared.families.Flight.TheVariants as flights
@@ -23,10 +24,11 @@ use Rattle.laws_loan.proofs.Channel.{Channel, words_in}
 use Rattle.laws_loan.proofs.Invariant.{Hangs, sends_at, counted_for, hung, reclaims_in, family}
 use Rattle.laws_loan.proofs.Knows.{Passes, push_wrote}
 use Rattle.laws_loan.proofs.OneMove.{OneMove, calm_still, carried, last_still, of_still, passes_on, same_receiver, span_after}
+use Rattle.laws_loan.proofs.Parts.{submission_words, submission_change}
 use Rattle.laws_loan.proofs.Placed.{Placed}
 use Rattle.laws_loan.proofs.Scene.{Scene, SenderCalls}
 use Rattle.laws_loan.proofs.Sender.{party_then, Steps}
-use Rattle.laws_loan.proofs.Sends.{pushes_at, asked, queued, StepTo, StageKeeps, does_by, reached, long, words_are, change_is, read_is, none_carried}
+use Rattle.laws_loan.proofs.Sends.{pushes_at, asked, queued, StepTo, StageKeeps, does_by, reached, long, read_is, none_carried}
 use Rattle.laws_loan.proofs.Spots.{passing_same, waiting_passes}
 use Rattle.laws_loan.proofs.Still.{AreStill, placed_still}
 use Rattle.laws_loan.proofs.Submission as submission
@@ -121,7 +123,7 @@ module _ {T : Type 0} {scene : Scene T} (index : ℕ) (m : SenderCalls scene)
   -- the store of the write position changes one word
   one : change_of (words_in s) asked_now ≡ 1
   one =
-      change_is scene index m stage on
+      submission_change holds.parts (push_asks queue stage index) on
       ∙ submission.publish_changes holds.parts low_write index
 
   -- ---- whatever the send writes behind the event that publishes its index
@@ -188,7 +190,7 @@ module _ {T : Type 0} {scene : Scene T} (index : ℕ) (m : SenderCalls scene)
           let own = is.own in
           let stands = is.stands in
           let words =
-          words_are scene index m stage k on
+          submission_words holds.parts (push_asks queue stage index) on
           (submission.publish_words holds.parts low_write index) in
           let others =
           others_beside slots queue s (s_then tail) refl refl (publish_keeps_pop queue s.submission index) (λ i stage known. known)

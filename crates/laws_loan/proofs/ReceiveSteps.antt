@@ -22,7 +22,7 @@ use Rattle.laws_loan.proofs.Invariant.{sends_at, counted_for, hung}
 use Rattle.laws_loan.proofs.Parts.{submission_long, submission_old}
 use Rattle.laws_loan.proofs.Received.{book_told}
 use Rattle.laws_loan.proofs.Receives.{receive_at, received_after, pop_on}
-use Rattle.laws_loan.proofs.ReceiveTakes.{es, s_then, take_words, take_shows, take_owes}
+use Rattle.laws_loan.proofs.ReceiveTakes.{take_words, take_shows, take_owes}
 use Rattle.laws_loan.proofs.Rooms.{sent_below, index_is}
 use Rattle.laws_loan.proofs.Senders.{Stands, Comes, receive_looks}
 use Rattle.laws_loan.proofs.StepLaw.{holds_now, inv_now, comes, ComesBy}

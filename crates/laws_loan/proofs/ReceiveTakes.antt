@@ -85,9 +85,7 @@ module _ {T : Type 0} (scene : Scene T) (p value : ℕ) (rest : List ℕ) where
     -- the words after the exchange are those of the channel whose front is taken
     pub take_words : words_after (words_in s) asks ≡ words_in s_then
     take_words =
-        submission_words holds.parts (pop_asks queue (pops.MovesRead s.submission.read)) on
-        ∙ ap (λ ws. s.set ++ (ws ++ layout no_roles s.completion))
-        (submission.take_words holds.parts low_write value rest first)
+        submission_words holds.parts (pop_asks queue (pops.MovesRead s.submission.read)) on (submission.take_words holds.parts low_write value rest first)
 
     -- the exchange changes one word
     one : change_of (words_in s) asks ≡ 1

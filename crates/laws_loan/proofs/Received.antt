@@ -1,7 +1,7 @@
 -- The events of a receive that takes an index out: it moves the read position, and a send that waits for
 -- that acts in the same turn.
 use Rattle.laws_loan.proofs.Names.{◌≡◌, ◌≢◌, ℕ, ◌<◌, ◌≤◌, Bool, false, Option, Some, None, List, [], ◌∷◌, ◌++◌}
-use Rattle.laws_loan.proofs.Names.{length, map, take, drop, fold, refl, sym, ap, subst, ◌∙◌, append-nil, append_assoc}
+use Rattle.laws_loan.proofs.Names.{map, take, drop, fold, refl, sym, ap, ◌∙◌, append-nil, append_assoc}
 use Rattle.laws_loan.proofs.Names.{fold-append, Answer, Event, Published, HandedOut, Acted, Finished, Item, Index}
 use Rattle.laws_loan.proofs.Names.{Start, Book, MovesRight, BeginsRight, AnswersRight, promise, Passing, With}
 use Rattle.laws_loan.proofs.Names.{Waiting, spot_of, receiver_of, reclaims_after, book_after, answer_of_item, cut_off}

@@ -116,18 +116,6 @@ module _ {T : Type 0} (scene : Scene T) (p : ℕ) (beside : Option (ℕ × ℕ))
     pub long : length queued ≡ 5 + queue
     long = submission_long holds.parts
 
-    -- what an operation of the pop finds in the whole it finds in the queue
-    pub old_is : (stage : PopStage) → IsOn queued (pop_asks queue stage) → old stage ≡ old_of queued (ask_of (pop_asks queue stage))
-    old_is stage on = submission_old holds.parts (pop_asks queue stage) on
-
-    -- an operation on the submission queue that changes no word of it changes none of the whole
-    words_are : (stage : PopStage) → IsOn queued (pop_asks queue stage)
-        → words_after queued (ask_of (pop_asks queue stage)) ≡ queued
-        → words_after (words_in s) (asked stage) ≡ words_in s
-    words_are stage on layout_is =
-        submission_words holds.parts (pop_asks queue stage) on
-        ∙ ap (λ ws. s.set ++ (ws ++ layout no_roles s.completion)) layout_is
-
     -- ---- the receive goes on
 
     -- the step at the stage `now` changes no word and leads to the stage `after_it`, where `back` says whether the receive turns back
@@ -140,7 +128,7 @@ module _ {T : Type 0} (scene : Scene T) (p : ℕ) (beside : Option (ℕ × ℕ))
       goes_on : Looks now back (GoOn (receive_at slots queue p after_it room)) effects.Quiet
       goes_on = (
         gives_on r (asked now) back (nothing_stored holds) (receive_at slots queue p after_it room)
-            (words_are now on words) (omega arith) (other, refl, refl, refl, refl, λ lives. (receives, known))
+            (submission_words holds.parts (pop_asks queue now) on words) (omega arith) (other, refl, refl, refl, refl, λ lives. (receives, known))
             (paid (change_of (words_in s) (asked now))),
         refl,
       )
@@ -191,7 +179,7 @@ module _ {T : Type 0} (scene : Scene T) (p : ℕ) (beside : Option (ℕ × ℕ))
           → x.backs + since ≤ changes
           → Looks (pops.LoadsWrite read) false (Done answers.PoppedNone) effects.FindsNone
       finds_none on steps paid =
-          let words = words_are (pops.LoadsWrite read) on refl in
+          let words = submission_words holds.parts (pop_asks queue (pops.LoadsWrite read)) on {ws = queued} refl in
           let others =
           at_given slots queue s s.completion (s.events ++ told) p
           (record { receiver = receives; alive = alive; pop = λ room stage known. known; passes = λ q i ne e. spots_still i s.events told told_still ∙ e }) in
@@ -206,7 +194,7 @@ module _ {T : Type 0} (scene : Scene T) (p : ℕ) (beside : Option (ℕ × ℕ))
         let on_queue : 1 < length queued = (let wide = long in omega arith) in
         let is : goes pops.LoadsRead room (old pops.LoadsRead)
         ≡ GoOn (receive_at slots queue p (pops.LoadsWrite s.submission.read) room) =
-        ap (goes pops.LoadsRead room) (old_is pops.LoadsRead on_queue) in
+        ap (goes pops.LoadsRead room) (submission_old holds.parts (pop_asks queue pops.LoadsRead) on_queue) in
         rw is (goes_on pops.LoadsRead (pops.LoadsWrite s.submission.read) room false on_queue refl
         (omega arith, omega arith, λ less. absurd (omega arith)) (omega arith) (λ n. (omega arith, omega arith)))
 
@@ -229,8 +217,8 @@ module _ {T : Type 0} (scene : Scene T) (p : ℕ) (beside : Option (ℕ × ℕ))
             let same : s.submission.write ≡ read = grind (arith, nat_tests) in
             let none : length s.submission.waiting ≡ 0 = omega arith in
             looks_by (pops.LoadsWrite read) room false (Done answers.PoppedNone) effects.FindsNone refl
-            (ap (goes (pops.LoadsWrite read) room) (old_is (pops.LoadsWrite read) on) ∙ (rw t refl))
-            (ap (effect_at (pops.LoadsWrite read)) (old_is (pops.LoadsWrite read) on) ∙ (rw t refl))
+            (ap (goes (pops.LoadsWrite read) room) (submission_old holds.parts (pop_asks queue (pops.LoadsWrite read)) on) ∙ (rw t refl))
+            (ap (effect_at (pops.LoadsWrite read)) (submission_old holds.parts (pop_asks queue (pops.LoadsWrite read)) on) ∙ (rw t refl))
             (finds_none read (nil_from_length s.submission.waiting none) on steps (omega arith))
         -- an index waits: the receive goes on to load its cell
         go false t =
@@ -241,8 +229,8 @@ module _ {T : Type 0} (scene : Scene T) (p : ℕ) (beside : Option (ℕ × ℕ))
             let ahead : s.submission.read < s.submission.write =
             ⊎_elim known.2 (λ (still : s.submission.read ≤ read). omega arith) (cases_lt read s.submission.read) in
             looks_by (pops.LoadsWrite read) room false (GoOn (receive_at slots queue p (pops.LoadsCell read) room))
-            effects.Quiet refl (ap (goes (pops.LoadsWrite read) room) (old_is (pops.LoadsWrite read) on) ∙ (rw t refl))
-            (ap (effect_at (pops.LoadsWrite read)) (old_is (pops.LoadsWrite read) on) ∙ (rw t refl))
+            effects.Quiet refl (ap (goes (pops.LoadsWrite read) room) (submission_old holds.parts (pop_asks queue (pops.LoadsWrite read)) on) ∙ (rw t refl))
+            (ap (effect_at (pops.LoadsWrite read)) (submission_old holds.parts (pop_asks queue (pops.LoadsWrite read)) on) ∙ (rw t refl))
             (goes_on (pops.LoadsWrite read) (pops.LoadsCell read) room false on refl
             (omega arith, low, ahead) (omega arith) (λ n. (low, omega arith)))
 
@@ -258,7 +246,7 @@ module _ {T : Type 0} (scene : Scene T) (p : ℕ) (beside : Option (ℕ × ℕ))
         let first = oldest queue s.submission holds.parts.submission (omega arith) in
         let cell_within = submission.cell_on holds.parts reached read in
         let found : old (pops.LoadsCell read) ≡ get_or s.submission.cells (read % (queue + 1)) 0 =
-        old_is (pops.LoadsCell read) cell_within
+        submission_old holds.parts (pop_asks queue (pops.LoadsCell read)) cell_within
         ∙ submission.cell_is holds.parts reached read in
         let is : goes (pops.LoadsCell read) room (old (pops.LoadsCell read))
         ≡ GoOn (receive_at slots queue p (pops.MovesRead read) (word_of (get_or s.submission.cells (read % (queue + 1)) 0))) =
@@ -283,7 +271,7 @@ module _ {T : Type 0} (scene : Scene T) (p : ℕ) (beside : Option (ℕ × ℕ))
         let ahead = known.2 in
         let apart : s.submission.read ≢ read = grind (arith, nat_tests) in
         let on_queue : 1 < length queued = (let wide = long in omega arith) in
-        let found : old (pops.MovesRead read) ≡ s.submission.read = old_is (pops.MovesRead read) on_queue in
+        let found : old (pops.MovesRead read) ≡ s.submission.read = submission_old holds.parts (pop_asks queue (pops.MovesRead read)) on_queue in
         looks_by (pops.MovesRead read) room true (GoOn (receive_at slots queue p (pops.LoadsCell s.submission.read) room)) effects.Quiet
         (ap (goes_back (pops.MovesRead read)) found ∙ (rw moved refl)) (ap (goes (pops.MovesRead read) room) found ∙ (rw moved refl))
         (ap (effect_at (pops.MovesRead read)) found ∙ (rw moved refl)) (goes_on (pops.MovesRead read) (pops.LoadsCell s.submission.read) room true on_queue

@@ -175,17 +175,7 @@ module _ {T : Type 0} {scene : Scene T} {wrote : List (Event T)} {under : Reclai
     pub goes_still : Steps scene 0 s_still (Open (starts.Loan calls.Reclaim) wrote)
         calls.Reclaim (asked scene wrote now) false (GoOn (reclaim_at slots queue after_it)) []
     goes_still =
-        let set_step : SetStep T =
-        record {
-          scene = scene;
-          holds = holds;
-          straight = straight;
-          start = calls.Reclaim;
-          wrote = wrote;
-          from = from;
-          ask = asked scene wrote now;
-          set_then = s.set;
-        } in
+        let set_step : SetStep T = rests.set_step scene holds straight from (asked scene wrote now) s.set in
         rests.goes_on set_step (reclaim_at slots queue after_it)
         (subst (KeepsSet slots queue s latest (asked scene wrote now) s.set) (sym counted)
         (keeps_all holds words busy_none (ap (hung s.submission.read) here)))

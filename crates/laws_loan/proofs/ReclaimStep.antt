@@ -1,12 +1,11 @@
 -- Each step of a reclaim leaves a machine with the invariant. A reclaim pops the two queues, and then
 -- releases one after the other the indices that are sent.
-use Rattle.laws_loan.proofs.Names.{◌≡◌, ◌≢◌, ℕ, ◌+◌, ◌*◌, ◌%◌, ◌^◌, ◌<◌, ◌≤◌, false, Option, Some, None, List}
-use Rattle.laws_loan.proofs.Names.{[], ⊎_elim, refl, sym, ap, subst, ◌∙◌, AllByRecursion, cases_lt, Ask, After, GoOn}
+use Rattle.laws_loan.proofs.Names.{◌≡◌, ◌≢◌, ℕ, ◌+◌, ◌*◌, ◌%◌, ◌^◌, ◌<◌, ◌≤◌, false, Option, Some, None, List, []}
+use Rattle.laws_loan.proofs.Names.{⊎_elim, refl, sym, ap, subst, ◌∙◌, AllByRecursion, cases_lt, Ask, After, GoOn}
 use Rattle.laws_loan.proofs.Names.{ReleaseState, DefaultMode, Release, ReleaseStage, Place, ReclaimStage, Releases}
-use Rattle.laws_loan.proofs.Names.{back_asks, back_takes, place_at, next_sent, reclaim_releases}
-use Rattle.laws_loan.proofs.Names.{reclaim_comes_to, reclaim_released, Answer, Number, Event, LoanFlight, Reclaim}
-use Rattle.laws_loan.proofs.Names.{ask_of, freed, ended_book, Open, span_of, as_call, answer_in}
-use Rattle.laws_loan.proofs.Names.{old_of, words_after, release_counts, release_number}
+use Rattle.laws_loan.proofs.Names.{back_asks, back_takes, place_at, next_sent, reclaim_releases, reclaim_released}
+use Rattle.laws_loan.proofs.Names.{Answer, Number, Event, LoanFlight, Reclaim, ask_of, freed, ended_book, Open}
+use Rattle.laws_loan.proofs.Names.{span_of, as_call, answer_in, old_of, words_after, release_counts, release_number}
 use Rattle.std.proofs.Common.{arith}
 use Rattle.steps.specs.declared.ask.After.TheVariants.{Done}
 use Rattle.steps.specs.declared.indices.unique.ReleaseStage.TheVariants as releases
@@ -31,7 +30,7 @@ use Rattle.laws_loan.proofs.Scene.{Scene, Underway, scene_of}
 use Rattle.laws_loan.proofs.Senders.{Stands, Comes, from_step}
 use Rattle.laws_loan.proofs.SentIndices.{ComesTo, comes_to}
 use Rattle.laws_loan.proofs.SetSteps.{ReleaseLeads}
-use Rattle.laws_loan.proofs.StepLaw.{holds_now, ComesWith, ComesBy}
+use Rattle.laws_loan.proofs.StepLaw.{holds_now, ComesWith}
 
 -- how a reclaim goes on, or ends, where `release` is how its release has gone on or ended
 abbrev pub reclaimed_after : (T : Type 0) → reclaims.Reclaim → List Place → ℕ → ℕ → After (Release DefaultMode) ReleaseState → After LoanFlight (Answer T)

@@ -231,17 +231,7 @@ module _ {T : Type 0} {scene : Scene T} {index : ℕ} {r : Releasing T scene.slo
 
   -- the step of the release, with which the words of the indices change
   abbrev set_step : rests.SetStep T
-  set_step =
-      record {
-        scene = scene;
-        holds = holds;
-        straight = straight;
-        start = r.start;
-        wrote = wrote_now;
-        from = was_open;
-        ask = ask;
-        set_then = words_then;
-      }
+  set_step = rests.set_step scene holds straight was_open ask words_then
 
   -- ---- the call goes on
 

@@ -1,7 +1,7 @@
 -- A step of the sender's call that moves no index and leaves both queues. It changes at most the words of
 -- the indices, and writes nothing but, if the call ends, its end.
 use Rattle.laws_loan.proofs.Names.{◌≡◌, ◌≢◌, ℕ, ◌+◌, ◌≤◌, false, Option, Some, None, List, [], ◌∷◌, ◌++◌, fold, refl}
-use Rattle.laws_loan.proofs.Names.{sym, ap, subst, ◌∙◌, append-nil, Ask, After, GoOn, locked, Answer, Event, Finished}
+use Rattle.laws_loan.proofs.Names.{sym, ap, ◌∙◌, append-nil, Ask, After, GoOn, locked, Answer, Event, Finished}
 use Rattle.laws_loan.proofs.Names.{LoanStart, LoanFlight, Party, most_steps, MovesRight, BeginsRight}
 use Rattle.laws_loan.proofs.Names.{AnswersRight, promise, reclaims_after, Wrote, flight_of, Stands, Span, Open}
 use Rattle.laws_loan.proofs.Names.{own_after, span_of, words_after, change_of, step_count, AreRight, AreOwn}
@@ -10,7 +10,6 @@ use Rattle.std.proofs.Common.{arith}
 use Rattle.steps.specs.declared.ask.After.TheVariants.{Done}
 use Rattle.model.specs.declared.event.Start.TheVariants as starts
 use Rattle.model.specs.declared.families.Flight.TheVariants as flights
-use Rattle.model.specs.Families.Loan.Promises.{ComesFrom}
 use Rattle.model.proofs.Frame as frame
 use Rattle.laws_indices.proofs.Core as indices
 use Rattle.laws_loan.proofs.Carried.{span_then, carried_on}
@@ -52,6 +51,12 @@ pub record SetStep (T : Type 0) : Type 0 where
   -- what the step does
   pub ask : Option Ask
   pub set_then : List ℕ
+
+-- the step with this operation of the sender's call, which has this span, where it leaves these words of the indices
+abbrev pub set_step : {T : Type 0} → (scene : Scene T) → HoldsIn scene → scene.caller.backs ≡ 0 → {start : LoanStart} {wrote : List (Event T)}
+    → span_of 0 scene.state.events ≡ Open (starts.Loan start) wrote → Option Ask → List ℕ → SetStep T
+set_step scene holds straight {start} {wrote} from ask set_then =
+    record { scene = scene; holds = holds; straight = straight; start = start; wrote = wrote; from = from; ask = ask; set_then = set_then }
 
 module _ {T : Type 0} (step : SetStep T) where
   open step use {scene, holds, start, wrote, from, ask, set_then}

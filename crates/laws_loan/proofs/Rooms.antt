@@ -1,6 +1,6 @@
 -- How many indices wait in the two queues: no more than there are slots, so each is below them, and where one index is in
 -- passing there is room for it.
-use Rattle.laws_loan.proofs.Names.{◌≡◌, ℕ, ◌^◌, ◌<◌, ◌≤◌, ⊎_elim, Option, List, ◌∷◌, length, sym, ap, ◌∙◌, cases_lt}
+use Rattle.laws_loan.proofs.Names.{◌≡◌, ◌≢◌, ℕ, ◌^◌, ◌<◌, ◌≤◌, ⊎_elim, Option, List, ◌∷◌, length, sym, ap, ◌∙◌, cases_lt}
 use Rattle.laws_loan.proofs.Names.{index_in, Event, Book, Free, Passing, Waiting, Returning, spot_of}
 use Rattle.std.proofs.Common.{arith}
 use Rattle.laws_loan.proofs.Lists.{lists_few, lists_room, first_there}
@@ -23,24 +23,18 @@ module _ {T : Type 0} {slots : ℕ} {claims : List (Option ℕ)} {sent back : Li
   returns_room i p below from =
       lists_room is_returning back events slots i placed.returns (λ j beyond. ap is_returning (placed.past j beyond)) below (ap is_returning from)
 
+  -- an index that is not free is one of the slots
+  below_slots : (i : ℕ) → spot_of i events ≢ Free → i < slots
+  below_slots i away = ⊎_elim (λ (less : i < slots). less) (λ beyond. absurd (away (placed.past i beyond))) (cases_lt i slots)
+
   -- the oldest index that is sent is below the slots
   pub sent_below : (i : ℕ) (rest : List ℕ) → sent ≡ i ∷ rest → i < slots
-  sent_below i rest front = ⊎_elim (λ (less : i < slots). less) past (cases_lt i slots)
-    where
-      -- an index beyond the slots is free, so it does not wait
-      past : slots ≤ i → i < slots
-      past beyond =
-          let there : spot_of i events ≡ Waiting = waits_there (spot_of i events) (first_there is_waiting sent rest events i front placed.waits) in
-          let both : Waiting ≡ Free = sym there ∙ placed.past i beyond in
-          absurd (cc)
+  sent_below i rest front =
+      let there = waits_there (spot_of i events) (first_there is_waiting sent rest events i front placed.waits) in
+      below_slots i (λ free. (let both : Waiting ≡ Free = sym there ∙ free in absurd (cc)))
 
   -- the first index that was given back is below the slots
   pub back_below : (i : ℕ) (rest : List ℕ) → back ≡ i ∷ rest → i < slots
-  back_below i rest front = ⊎_elim (λ (less : i < slots). less) past (cases_lt i slots)
-    where
-      -- an index beyond the slots is free, so it is not on its way back
-      past : slots ≤ i → i < slots
-      past beyond =
-          let there : spot_of i events ≡ Returning = returns_there (spot_of i events) (first_there is_returning back rest events i front placed.returns) in
-          let both : Returning ≡ Free = sym there ∙ placed.past i beyond in
-          absurd (cc)
+  back_below i rest front =
+      let there = returns_there (spot_of i events) (first_there is_returning back rest events i front placed.returns) in
+      below_slots i (λ free. (let both : Returning ≡ Free = sym there ∙ free in absurd (cc)))

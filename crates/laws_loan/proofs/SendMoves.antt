@@ -13,7 +13,7 @@ use Rattle.steps.specs.declared.ask.After.TheVariants.{Done}
 use Rattle.steps.specs.declared.indices.unique.ReleaseStage.TheVariants as releases
 use Rattle.steps.specs.declared.queues.overflow.PushStage.{PushStage}
 use Rattle.steps.specs.declared.queues.overflow.PushStage.TheVariants as pushes
-use Rattle.steps.specs.Queues.Overflow.{cell_word}
+use Rattle.steps.specs.Queues.Overflow.{cell_word, push_asks}
 use Rattle.model.specs.declared.event.Answer.TheVariants as answers
 use Rattle.model.specs.declared.event.Start.TheVariants as starts
 use Rattle.model.specs.declared.families.loan.LoanStart.TheVariants as calls
@@ -23,7 +23,7 @@ use Rattle.laws_loan.proofs.Invariant.{sends_at, counted_for, hung, reclaims_in,
 use Rattle.laws_loan.proofs.Knows.{Passes, PushAt, push_wrote}
 use Rattle.laws_loan.proofs.Lists.{first_there}
 use Rattle.laws_loan.proofs.OneMove.{OneMove, carried, now_there, passes_on, same_receiver, span_after}
-use Rattle.laws_loan.proofs.Parts.{submission_old}
+use Rattle.laws_loan.proofs.Parts.{submission_old, submission_words, submission_change}
 use Rattle.laws_loan.proofs.Placed.{Placed}
 use Rattle.laws_loan.proofs.Publishes.{stores_write}
 use Rattle.laws_loan.proofs.Releases.{send_frees_at}
@@ -32,8 +32,7 @@ use Rattle.laws_loan.proofs.Rests as rests
 use Rattle.laws_loan.proofs.Rooms.{sent_below, index_is}
 use Rattle.laws_loan.proofs.Scene.{Scene, SenderCalls}
 use Rattle.laws_loan.proofs.Sender.{party_then}
-use Rattle.laws_loan.proofs.Sends.{pushes_at, asked, old, queued, goes, effect_at, StepTo, StageKeeps, does_by, SendIsAt, reached, long, old_is, words_are}
-use Rattle.laws_loan.proofs.Sends.{change_is}
+use Rattle.laws_loan.proofs.Sends.{pushes_at, asked, old, queued, goes, effect_at, StepTo, StageKeeps, does_by, SendIsAt, reached, long}
 use Rattle.laws_loan.proofs.Sends.{loads_write, loads_read, stores_cell}
 use Rattle.laws_loan.proofs.Spots.{waits_there, passing_same, waiting_passes}
 use Rattle.laws_loan.proofs.Still.{AreStill, placed_still}
@@ -102,17 +101,7 @@ module _ {T : Type 0} (scene : Scene T) (index : ℕ) (m : SenderCalls scene) wh
 
   -- the step at this stage of a send that has written `wrote`, with which the words of the indices stay
   abbrev set_step : PushStage → (wrote : List (Event T)) → span_of 0 s.events ≡ Open call wrote → rests.SetStep T
-  set_step stage wrote from =
-      record {
-        scene = scene;
-        holds = holds;
-        straight = straight;
-        start = calls.Send index;
-        wrote = wrote;
-        from = from;
-        ask = asks stage;
-        set_then = s.set;
-      }
+  set_step stage wrote from = rests.set_step scene holds straight from (asks stage) s.set
 
   -- once a send has published its index, it has none in passing until it takes one out
   none_carried : {A : Type 0} (i : ℕ) (wrote : List (Event T)) → handed_out wrote ≡ [] → Carries i (Open call (publishes ∷ wrote)) → A
@@ -227,10 +216,10 @@ module _ {T : Type 0} (scene : Scene T) (index : ℕ) (m : SenderCalls scene) wh
     takes_out =
         let some = holds.parts.some in
         let change : change_of (words_in s) (asks moves) ≡ 1 =
-        change_is scene index m moves on
+        submission_change holds.parts (push_asks queue moves index) on
         ∙ submission.take_changes holds.parts low_write u rest first in
         let words =
-        words_are scene index m moves k on
+        submission_words holds.parts (push_asks queue moves index) on
         (submission.take_words holds.parts low_write u rest first) in
         let there = now_there one_move in
         let others =
@@ -242,7 +231,7 @@ module _ {T : Type 0} (scene : Scene T) (index : ℕ) (m : SenderCalls scene) wh
     moves_read : StageKeepsAt moves
     moves_read =
         let is_same : (s.submission.read == s.submission.read) ≡ true = grind (arith, nat_tests) in
-        let found : value moves ≡ s.submission.read = old_is scene index m moves on in
+        let found : value moves ≡ s.submission.read = submission_old holds.parts (push_asks queue moves index) on in
         let place = sent_is s.submission.read in
         does_by scene index (effects.TakesOut index u) takes_out (rw is_same refl)
         (ap (then_of moves) found ∙ (rw is_same refl)) (ap (effect_of moves) found ∙ (rw (is_same, place) refl))
@@ -280,7 +269,7 @@ module _ {T : Type 0} (scene : Scene T) (index : ℕ) (m : SenderCalls scene) wh
     finds_room : KeepsTo s_end (publishes ∷ acted ∷ []) (late read) (Done answers.PoppedNone) effects.Quiet
     finds_room = (
       rests.ends (set_step (late read) (publishes ∷ acted ∷ []) from) answers.PoppedNone
-          (keeps_all holds (words_are scene index m (late read) s.submission on_late
+          (keeps_all holds (submission_words holds.parts (push_asks queue (late read) index) on_late
           (submission.stays_words holds.parts low_write read moved))
           (ap counted_for here) calm)
           (record { moves = refl; receiver = λ r. refl; dead = λ q b. refl }) refl tt
@@ -293,7 +282,7 @@ module _ {T : Type 0} (scene : Scene T) (index : ℕ) (m : SenderCalls scene) wh
     -- the step in which the send finds the read position moved keeps the invariant
     moves_late : StageKeepsAt (late read)
     moves_late =
-        let found : value (late read) ≡ s.submission.read = old_is scene index m (late read) on_late in
+        let found : value (late read) ≡ s.submission.read = submission_old holds.parts (push_asks queue (late read) index) on_late in
         does_by scene index effects.Quiet finds_room (rw apart refl) (ap (then_of (late read)) found ∙ (rw moved refl))
         (ap (effect_of (late read)) found ∙ (rw moved refl))
 
@@ -325,7 +314,7 @@ module _ {T : Type 0} (scene : Scene T) (index : ℕ) (m : SenderCalls scene) wh
     has_it : KeepsTo s_free (wrote_out read) stage (GoOn frees) effects.Quiet
     has_it = (
       rests.goes_on (set_step stage (wrote_out read) from) frees
-          (keeps_all holds (words_are scene index m stage s.submission on_cell
+          (keeps_all holds (submission_words holds.parts (push_asks queue stage index) on_cell
           (set-get_or (queued scene index) (cell_word queue read) 0)) (ap counted_for here) (ap (hung s.submission.read) here))
           refl (omega arith)
           (refl, refl, refl, refl, refl, (passes.0, ap (spot_of (oldest_at read)) (append-nil s.events) ∙ passes.1))
@@ -339,7 +328,7 @@ module _ {T : Type 0} (scene : Scene T) (index : ℕ) (m : SenderCalls scene) wh
         let few = holds.parts.set.few in
         let low : slots < 2 ^ 32 = omega arith in
         let found : value stage ≡ oldest_at read =
-        old_is scene index m stage on_cell
+        submission_old holds.parts (push_asks queue stage index) on_cell
         ∙ submission.cell_is holds.parts low_write read in
         does_by scene index effects.Quiet has_it refl
         (ap (then_of stage) found

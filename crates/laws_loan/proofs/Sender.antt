@@ -12,7 +12,6 @@ use Rattle.model.specs.declared.families.Registry.TheVariants as registries
 use Rattle.model.proofs.Frame as frame
 use Rattle.laws_loan.proofs.Channel.{Channel, words_in}
 use Rattle.laws_loan.proofs.Invariant.{family}
-use Rattle.laws_loan.proofs.Knows.{At}
 use Rattle.laws_loan.proofs.Scene.{Scene}
 use Rattle.laws_loan.proofs.SenderInterference.{Others, knows_keeps}
 use Rattle.laws_loan.proofs.Turns.{Shows}

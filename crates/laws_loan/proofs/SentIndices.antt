@@ -2,7 +2,7 @@
 -- events that the sender's table says is sent, while nothing waits in either queue; and where each index is
 -- once none is sent.
 use Rattle.laws_loan.proofs.Names.{◌≡◌, ◌≢◌, ℕ, zero, suc, ◌+◌, ◌-◌, ◌<◌, ◌≤◌, ◌⊎◌, inl, inr, ⊎_elim, Bool, true}
-use Rattle.laws_loan.proofs.Names.{false, true≢false, Option, Some, None, List, [], refl, sym, ap, subst, ◌∙◌, Place}
+use Rattle.laws_loan.proofs.Names.{false, true≢false, Option, Some, None, List, [], refl, sym, ap, ◌∙◌, Place}
 use Rattle.laws_loan.proofs.Names.{is_sent, place_at, sent_within, next_sent, by_test, Event, Book, has_died, IsIn}
 use Rattle.laws_loan.proofs.Names.{IsReclaiming, MayFree, Spot, Free, Passing, With, Waiting, Returning, spot_of}
 use Rattle.laws_loan.proofs.Names.{receiver_of, span_of, one_if}

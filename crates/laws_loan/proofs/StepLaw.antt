@@ -10,7 +10,7 @@ use Rattle.model.proofs.Frame as frame
 use Rattle.laws_loan.proofs.Channel.{Channel, words_in}
 use Rattle.laws_loan.proofs.Invariant.{HoldsNow, family}
 use Rattle.laws_loan.proofs.Scene.{Scene, Underway, scene_of}
-use Rattle.laws_loan.proofs.Sender.{any_call, party_then, told_by, StepBy, step_owes}
+use Rattle.laws_loan.proofs.Sender.{any_call, party_then, StepBy, step_owes}
 use Rattle.laws_loan.proofs.Turns.{Shows, now_more}
 
 module _ {T : Type 0} where

@@ -1,5 +1,5 @@
 -- Events that move no index, end no reclaim and are no death leave where each index is.
-use Rattle.laws_loan.proofs.Names.{◌≡◌, ℕ, ◌⊎◌, Bool, false, Option, None, List, [], ◌∷◌, ◌++◌, refl, sym, ap, subst}
+use Rattle.laws_loan.proofs.Names.{◌≡◌, ℕ, Bool, false, Option, None, List, [], ◌∷◌, ◌++◌, refl, sym, ap, subst}
 use Rattle.laws_loan.proofs.Names.{◌∙◌, append-nil, append_assoc, fold-append, Event, Book, Move, move_of, spot_of}
 use Rattle.laws_loan.proofs.Names.{receiver_after, receiver_of, died_after, has_died_by}
 use Rattle.laws_loan.proofs.Lists.{lists_stay}

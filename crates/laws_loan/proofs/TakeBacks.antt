@@ -1,7 +1,7 @@
 -- The steps of a take-back before it releases its index: the sender pops the completion queue. Each keeps
 -- the invariant: it has the fields of `Steps` (Sender).
 use Rattle.laws_loan.proofs.Names.{◌≡◌, ℕ, ◌+◌, ◌-◌, ◌^◌, ◌<◌, ◌≤◌, Bool, false, Option, Some, None, List, [], ◌∷◌}
-use Rattle.laws_loan.proofs.Names.{◌++◌, length, refl, sym, ap, subst, ◌∙◌, append-nil, ◌==◌, ◌||◌, true, nat_tests}
+use Rattle.laws_loan.proofs.Names.{◌++◌, length, refl, sym, ap, ◌∙◌, append-nil, ◌==◌, ◌||◌, true, nat_tests}
 use Rattle.laws_loan.proofs.Names.{set-get_or, Ask, After, GoOn, OneWord, completion_word, shifted, take_back_takes}
 use Rattle.laws_loan.proofs.Names.{went_on, Answer, Event, Finished, TakenBack, Start, LoanFlight, TakeBack, Effect}
 use Rattle.laws_loan.proofs.Names.{Party, one_word, ask_of, Passing, Returning, spot_of, taken_back}
@@ -23,7 +23,7 @@ use Rattle.laws_queues.proofs.Ring.Keeping.{take_keeps}
 use Rattle.laws_loan.proofs.Channel.{Channel, no_roles, words_in}
 use Rattle.laws_loan.proofs.Completion as completion
 use Rattle.laws_loan.proofs.Cuts.{IsOn}
-use Rattle.laws_loan.proofs.Invariant.{Hangs, sends_at, counted_for, Carries}
+use Rattle.laws_loan.proofs.Invariant.{Hangs, sends_at, counted_for, hung, Carries}
 use Rattle.laws_loan.proofs.Lists.{first_there}
 use Rattle.laws_loan.proofs.OneMove.{OneMove, carried, now_there, passes_on, same_receiver, span_after}
 use Rattle.laws_loan.proofs.Parts.{completion_long, completion_old, completion_words}
@@ -37,8 +37,7 @@ use Rattle.laws_loan.proofs.Sender.{party_then, StepBy}
 use Rattle.laws_loan.proofs.Spots.{returns_there, passing_same, returning_passes}
 use Rattle.laws_loan.proofs.Table.{takes_it_back}
 use Rattle.laws_loan.proofs.SenderInterference.{others_beside}
-use Rattle.laws_loan.proofs.QueueEvents.{Tells, silent_tells}
-use Rattle.laws_loan.proofs.QueueEvents.{is_reclaiming}
+use Rattle.laws_loan.proofs.QueueEvents.{Tells, silent_tells, is_reclaiming}
 use Rattle.laws_loan.proofs.Turns.{Shows, sends_now}
 
 -- the take-back at a stage of its pop, with this room
@@ -112,19 +111,6 @@ module _ {T : Type 0} (scene : Scene T) where
     long : length queued ≡ 4 + slots
     long = completion_long holds.parts
 
-    -- what an operation of the pop finds in the whole it finds in the queue
-    old_is : (stage : PopStage) → IsOn queued (pop_asks stage) → old stage ≡ old_of queued (ask_of (pop_asks stage))
-    old_is stage on = completion_old holds.parts (pop_asks stage) on
-
-    -- an operation on the completion queue changes that part of the words alone, to those of
-    -- the queue as it is then
-    words_are : (stage : PopStage) (k : Core ℕ) → IsOn queued (pop_asks stage)
-        → words_after queued (ask_of (pop_asks stage)) ≡ layout no_roles k
-        → words_after (words_in s) (asked stage) ≡ s.set ++ (layout no_roles s.submission ++ layout no_roles k)
-    words_are stage k on layout_is =
-        completion_words holds.parts (pop_asks stage) on
-        ∙ ap (λ ws. s.set ++ (layout no_roles s.submission ++ ws)) layout_is
-
     -- each step of the pop counts as one
     one_step : (stage : PopStage) → step_count (asked stage) ≡ 1
     one_step = grind arith
@@ -146,12 +132,11 @@ module _ {T : Type 0} (scene : Scene T) where
     -- an operation that changes no word of the completion queue keeps the set (`KeepsSet`)
     keeps : (now : PopStage) → IsOn queued (pop_asks now) → words_after queued (ask_of (pop_asks now)) ≡ queued
         → KeepsSet slots queue s latest (asked now) s.set 0
-    keeps = grind (arith, keeps_all, words_are, idle)
+    keeps now on words = keeps_all holds (completion_words holds.parts (pop_asks now) on words) idle (ap (hung s.submission.read) here)
 
     -- the step at this stage, with which the words of the indices stay
     abbrev set_step : PopStage → SetStep T
-    set_step now =
-        record { scene = scene; holds = holds; straight = straight; start = calls.TakeBack; wrote = []; from = from; ask = asked now; set_then = s.set }
+    set_step now = rests.set_step scene holds straight from (asked now) s.set
 
     -- a step that changes no word leads the take-back to the pop's next stage, and writes nothing
     goes_on : (now after_it : PopStage) (then_found : OneWord) → IsOn queued (pop_asks now)
@@ -248,7 +233,7 @@ module _ {T : Type 0} (scene : Scene T) where
       -- the store of the next read position leads the take-back on to release that index
       takes_it : IsOn queued (pop_asks store_of_read) → x.steps ≤ 3 → StepTo s_taken store_of_read (GoOn frees_at) (effects.TakesBack index)
       takes_it on steps =
-          let words = words_are store_of_read without on (completion.take_words holds.parts reached index rest first) in
+          let words = completion_words holds.parts (pop_asks store_of_read) on (completion.take_words holds.parts reached index rest first) in
           let there = now_there one_move in
           let others =
           others_beside slots queue s s_taken refl refl (λ room stage known. known) (take_keeps one_word slots s.completion index rest first)
@@ -261,7 +246,8 @@ module _ {T : Type 0} (scene : Scene T) where
     loads_read : (room : OneWord) → x.steps ≤ 0 → StageKeeps pops.LoadsRead room
     loads_read room steps =
         let on_queue : 1 < length queued = (let wide = long in omega arith) in
-        does_by still pops.LoadsRead room (GoOn (pops_at slots queue load_of_write room)) (ap (goes pops.LoadsRead room) (old_is pops.LoadsRead on_queue))
+        does_by still pops.LoadsRead room (GoOn (pops_at slots queue load_of_write room))
+        (ap (goes pops.LoadsRead room) (completion_old holds.parts (pop_asks pops.LoadsRead) on_queue))
         (goes_on pops.LoadsRead load_of_write room on_queue refl (omega arith, refl) (omega arith))
 
     abbrev load_of_cell : PopStage
@@ -285,7 +271,8 @@ module _ {T : Type 0} (scene : Scene T) where
         go true e =
             let zero = none in
             let both : (slots == 0 || s.completion.write == s.completion.read) ≡ true = rw (zero, e) refl in
-            does_by s_none load_of_write room (Done answers.PoppedNone) (ap (goes load_of_write room) (old_is load_of_write on) ∙ (rw both refl))
+            does_by s_none load_of_write room (Done answers.PoppedNone)
+            (ap (goes load_of_write room) (completion_old holds.parts (pop_asks load_of_write) on) ∙ (rw both refl))
             (finds_none (completion.finds_none holds.parts reached e) on steps)
         -- an index is to be taken back: the take-back goes on to load its cell
         go false e =
@@ -297,7 +284,7 @@ module _ {T : Type 0} (scene : Scene T) where
             let known : KnowsPop one_word slots s.completion (in_one room) load_of_cell =
             (omega arith, front.0, front.1, refl, front.2, refl, omega arith, λ i below. absurd (omega arith)) in
             does_by still load_of_write room (GoOn (pops_at slots queue load_of_cell room))
-            (ap (goes load_of_write room) (old_is load_of_write on) ∙ (rw both refl))
+            (ap (goes load_of_write room) (completion_old holds.parts (pop_asks load_of_write) on) ∙ (rw both refl))
             (goes_on load_of_write load_of_cell room on refl known (omega arith))
 
     -- the load of the cell finds the first index, and leads on to the store of the read position
@@ -305,7 +292,7 @@ module _ {T : Type 0} (scene : Scene T) where
     loads_cell room v rest first steps =
         let cell_within = completion.cell_on holds.parts reached s.completion.read in
         let value : old load_of_cell ≡ v =
-        old_is load_of_cell cell_within
+        completion_old holds.parts (pop_asks load_of_cell) cell_within
         ∙ completion.first_is holds.parts reached v rest first in
         does_by still load_of_cell room (GoOn (pops_at slots queue (pops.StoresRead s.completion.read) (word_of v)))
         (ap (goes load_of_cell room) value) (goes_on load_of_cell (pops.StoresRead s.completion.read) (word_of v) cell_within

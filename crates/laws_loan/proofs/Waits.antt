@@ -1,17 +1,17 @@
 -- The indices that wait in the two queues by the words are those that wait in them by the state, and these
 -- are the ones whose spot by the events is the queue.
-use Rattle.laws_loan.proofs.Names.{◌≡◌, ◌≢◌, ℕ, zero, suc, ◌+◌, ◌-◌, ◌*◌, ◌%◌, ◌<◌, ◌≤◌, ◌==◌, ⊎_elim, Bool, true}
-use Rattle.laws_loan.proofs.Names.{Some, Contains, AllPairs, List, [], ◌∷◌, ◌++◌, length, get_or, map, slice_get}
-use Rattle.laws_loan.proofs.Names.{refl, sym, ap, ◌∙◌, append_assoc, append-nil, drop_at, cases_eq}
-use Rattle.laws_loan.proofs.Names.{get_or_append_left, get_or-map, length-map, completion_word}
-use Rattle.laws_loan.proofs.Names.{Event, Item, Index, Coding, sent_in, given_back_in, AreThose, Spot, spot_of}
-use Rattle.laws_loan.proofs.Names.{words_of_index, cells_of, words_of_cell, one_if, Core, at_below, layout}
+use Rattle.laws_loan.proofs.Names.{◌≡◌, ◌≢◌, ℕ, zero, suc, ◌+◌, ◌*◌, ◌%◌, ◌<◌, ◌≤◌, ◌==◌, ⊎_elim, Bool, true}
+use Rattle.laws_loan.proofs.Names.{Contains, AllPairs, List, [], ◌∷◌, ◌++◌, length, get_or, map, refl, sym, ap, ◌∙◌}
+use Rattle.laws_loan.proofs.Names.{append_assoc, append-nil, drop_at, cases_eq, get_or-map, length-map}
+use Rattle.laws_loan.proofs.Names.{completion_word, Event, Item, Index, Coding, sent_in, given_back_in, AreThose}
+use Rattle.laws_loan.proofs.Names.{Spot, spot_of, one_if, layout, submission_word, one_word}
 use Rattle.std.proofs.Common.{arith}
 use Rattle.steps.specs.Queues.Ring.{cell_word}
-use Rattle.model.specs.declared.families.queues.QueueKind.{QueueKind}
+use Rattle.model.specs.declared.families.queues.QueueKind.TheVariants as kinds
 use Rattle.model.specs.declared.families.queues.QueueKind.TheVariants.{IndexQueue}
-use Rattle.model.specs.Families.Queues.Book.{item_at, cell_of, stored, waiting_in}
-use Rattle.laws_queues.proofs.Queues.Core.{Good, word_at}
+use Rattle.model.specs.Coding.{IsCoding}
+use Rattle.model.specs.Families.Queues.Book.{waiting_in}
+use Rattle.laws_queues.proofs.Queues.Sound.{stored_waiting}
 use Rattle.laws_loan.proofs.Channel.{Channel, Holds, no_roles, words_in}
 use Rattle.laws_loan.proofs.Lists.{times, same_one, other_none, one_at_most, true_if_one, Lists}
 use Rattle.laws_loan.proofs.Parts.{set_long, both_long}
@@ -22,50 +22,18 @@ use Rattle.laws_loan.proofs.Parts.{set_long, both_long}
 pub cell_place : (c position : ℕ) → 0 < c → cell_word c 1 position ≡ 4 + 1 * (position % c)
 cell_place = grind arith
 
-module _ {T : Type 0} (code : Coding T) (kd : QueueKind)
-    (reads : (words : List ℕ) (cell : ℕ) → item_at code kd words cell ≡ Index (get_or words cell 0))
-    (one : words_of_cell code.size kd ≡ 1) where
-  -- where each cell from a position on has the next index of a list, what is stored in
-  -- these cells is that list
-  stored_is : (c : ℕ) (words : List ℕ) (position : ℕ) (xs : List ℕ)
-      → ((i v : ℕ) → slice_get xs i ≡ Some v → get_or words (cell_of code kd c (position + i)) 0 ≡ v)
-      → stored code kd c words position (length xs) ≡ map Index xs
-  stored_is c words position [] held = refl
-  stored_is c words position (x ∷ xs) held =
-      let here : get_or words (cell_of code kd c position) 0 ≡ x = (let same : position + 0 ≡ position = omega arith in rw same at (held 0 x refl)) in
-      let first : item_at code kd words (cell_of code kd c position) ≡ Index x = reads words (cell_of code kd c position) ∙ ap (λ (n : ℕ). Index n) here in
-      let rest = stored_is c words (position + 1) xs (λ i v e. let same : position + 1 + i ≡ position + suc i = omega arith in rw same (held (suc i) v e)) in
-      rw (first, rest) refl
-
-  -- a queue whose words have others behind them holds the indices that wait in it
-  waits_in : (c : ℕ) (k : Core ℕ) (zs : List ℕ) → Good 1 words_of_index (cells_of kd c) k → waiting_in code kd c (layout no_roles k ++ zs) ≡ map Index k.waiting
-  waits_in c k zs good =
-      let write = good.write in
-      let many : k.write - k.read ≡ length k.waiting = omega arith in
-      rw many (stored_is c (layout no_roles k ++ zs) k.read k.waiting held)
-    where
-      n : ℕ
-      n = cells_of kd c
-
-      -- the cell of the read position plus `i` has the index that is the `i`th to wait
-      held : (i v : ℕ) → slice_get k.waiting i ≡ Some v → get_or (layout no_roles k ++ zs) (cell_of code kd c (k.read + i)) 0 ≡ v
-      held i v element_is =
-          let below = at_below 1 words_of_index n k.waiting i v element_is in
-          let few = good.few in
-          let some : 0 < n = omega arith in
-          let first : cell_of code kd c (k.read + i) ≡ 4 + 1 * ((k.read + i) % n) = ap (λ m. cell_word n m (k.read + i)) one ∙ cell_place n (k.read + i) some in
-          let low : (k.read + i) % n < n = omega arith in
-          let all = good.cells in
-          ap (λ m. get_or (layout no_roles k ++ zs) m 0) first
-          ∙ (get_or_append_left (layout no_roles k) zs 0 (4 + 1 * ((k.read + i) % n)) (omega arith)
-          ∙ (word_at k.write k.read 1 1 k.cells (4 + 1 * ((k.read + i) % n)) (1 * ((k.read + i) % n) + 0) (omega arith)
-          ∙ good.held i v element_is 0 (omega arith)))
+-- the words of an index are of a coding
+index_words : IsCoding one_word
+index_words = record { some = omega arith; few = omega arith; sized = λ v. refl; given_back = λ v. refl }
 
 -- the submission queue of the channel holds, by the words, the indices that wait in it
 module _ {T : Type 0} (code : Coding T) (slots queue : ℕ) (s : Channel T) (busy : ℕ) (holds : Holds slots queue s busy) where
   -- the words have the indices that wait in the submission queue
   pub sent_is : sent_in code slots queue (words_in s) ≡ map Index s.submission.waiting
-  sent_is = grind (arith, drop_at, layout, set_long, waits_in)
+  sent_is =
+      ap (waiting_in code kinds.Overflow queue)
+      (drop_at s.set (layout no_roles s.submission ++ layout no_roles s.completion) (submission_word slots) (set_long holds))
+      ∙ stored_waiting code kinds.Overflow index_words queue no_roles holds.submission (layout no_roles s.completion)
 
   -- what was given back by the words is what waits in the completion queue
   pub back_is : given_back_in code slots queue (words_in s) ≡ map Index s.completion.waiting
@@ -77,7 +45,7 @@ module _ {T : Type 0} (code : Coding T) (slots queue : ℕ) (s : Channel T) (bus
       (drop_at (s.set ++ layout no_roles s.submission) (layout no_roles s.completion) (completion_word slots queue)
       (both_long holds))
       ∙ (ap (waiting_in code IndexQueue slots) (sym (append-nil (layout no_roles s.completion)))
-      ∙ waits_in code IndexQueue (λ words cell. refl) refl slots s.completion [] holds.completion))
+      ∙ stored_waiting code IndexQueue index_words slots no_roles holds.completion []))
 
 -- ---- by the events
 

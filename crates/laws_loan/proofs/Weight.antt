@@ -1,5 +1,5 @@
 -- A weight of a loan channel's machine: how many steps its sender and its receiver can take before a call of theirs ends.
-use Rattle.laws_loan.proofs.Names.{ℕ, ◌+◌, ◌-◌, ◌*◌, ◌≤◌, ◌==◌, Bool, true, false, Option, Some, None, List, get_or}
+use Rattle.laws_loan.proofs.Names.{ℕ, ◌+◌, ◌-◌, ◌*◌, ◌≤◌, ◌==◌, Bool, true, Option, Some, None, List, get_or}
 use Rattle.laws_loan.proofs.Names.{submission_word, Flight, Registry, Doing, Party, SendStage}
 use Rattle.laws_loan.proofs.Names.{Send, Receive, GiveBack, has_died, overflow_pop_number}
 use Rattle.std.proofs.Common.{cond, arith}
@@ -132,15 +132,4 @@ module _ {T : Type 0} where
 
   -- the weight is at most 13 times the number of slots plus 11
   pub weight_most : (slots : ℕ) (w : World T) → weight slots w ≤ 13 * slots + 11
-  weight_most slots w =
-      let sender = sender_most slots (party_of 0 w.latest) in
-      let receiver = receiver_most (read_at slots w.words) (party_of (receiver_in w.kept) w.latest) in
-      go (is_lost w.kept) (omega arith) (omega arith)
-    where
-      -- the cases are whether the receiver is dead
-      go : (b : Bool) → sender_left slots (party_of 0 w.latest) ≤ 13 * slots + 7
-          → receiver_left (read_at slots w.words) (party_of (receiver_in w.kept) w.latest) ≤ 4
-          → sender_left slots (party_of 0 w.latest) + cond b 0 (receiver_left (read_at slots w.words) (party_of (receiver_in w.kept) w.latest))
-          ≤ 13 * slots + 11
-      go true a b = omega arith
-      go false a b = omega arith
+  weight_most = grind (arith, sender_most, receiver_most)

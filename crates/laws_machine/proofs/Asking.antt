@@ -1,6 +1,6 @@
 -- Where a recovery writes the event `Asked`, it does wait for an answer about that index and owner.
 use Rattle.std.proofs.Common.{arith}
-use Rattle.laws_machine.proofs.Names.{append_cancel_left, ap, ◌≡◌, ℕ, ◌==◌, Bool, true, false, Option, Some, None}
+use Rattle.laws_machine.proofs.Names.{append_cancel_left, ap, ◌≡◌, ℕ, ◌==◌, Bool, Option, Some, None}
 use Rattle.laws_machine.proofs.Names.{List, [], ◌∷◌, ◌++◌, refl, sym, subst, ◌∙◌, AllByRecursion, After, GoOn, Done}
 use Rattle.laws_machine.proofs.Names.{Ask, ReleaseMode, ReleaseState, Unlocked, AcquireStage, Lock, Raise, GiveBack}
 use Rattle.laws_machine.proofs.Names.{ReleaseStage, Running, empty, raise_after, Answer, Event, Asked, Start, Flight}

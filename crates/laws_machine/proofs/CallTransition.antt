@@ -3,7 +3,8 @@ use Rattle.std.proofs.Common.{arith}
 use Rattle.laws_machine.proofs.Names.{◌≡◌, ℕ, Bool, Option, Some, None, refl, ap, ◌∙◌, After, GoOn, Done}
 use Rattle.laws_machine.proofs.Names.{Answer, Flight, Doing, Going, Over, Party, Next, Decide, want_of, ask_of, goes_of}
 use Rattle.laws_machine.proofs.Names.{party_of, doing_of, flight_of, StandsAt, GoesOn, old_of, number_of, World, Trace}
-use Rattle.laws_machine.proofs.Names.{flight_in, StandsThere, stands_there}
+use Rattle.laws_machine.proofs.Names.{flight_in, StandsThere, stands_there, events_of, events_of_answer, events_of_next}
+use Rattle.laws_machine.proofs.Names.{events_of_decision, events_of_step, step_in, ask_of_doing}
 use Rattle.model.proofs.Frame.{Family, Sound}
 
 module _ {T : Type 0} where
@@ -61,3 +62,19 @@ module _ {T : Type 0} (F : Family T) (t : Trace T) (sound : Sound F t) (p : ℕ)
       go : (o : Option (Party T)) → party_of p t.world.latest ≡ o → flight_of (doing_of o) ≡ Some flight → IsUnderWay flight
       go None found flight_is = absurd (cc)
       go (Some x) found flight_is = by x found x.doing refl flight_is
+
+  -- what a turn of a call under way writes is what its step writes
+  module _ {flight : Flight T} (call : IsUnderWay flight) where
+    -- the step of the call that is handed the old value of its word
+    pub next_wrote : events_of t.world (Next p)
+        ≡ events_of_step p call.party.start
+        (step_in t.world p call.party flight (old_of t.world.words (ask_of (want_of t.world.coding flight))))
+    next_wrote =
+        ap (events_of_next t.world p) call.found
+        ∙ ap (λ d. events_of_answer t.world p call.party (old_of t.world.words (ask_of_doing t.world.coding d)) d) call.doing
+
+    -- the step of the call that is handed the decision
+    pub decision_wrote : (said : Bool)
+        → events_of t.world (Decide p said) ≡ events_of_step p call.party.start (step_in t.world p call.party flight (number_of said))
+    decision_wrote said =
+        ap (events_of_decision t.world p said) call.found ∙ ap (events_of_answer t.world p call.party (number_of said)) call.doing

@@ -14,7 +14,6 @@ use Rattle.steps.specs.declared.indices.robust.parts.Count.TheVariants as counts
 use Rattle.steps.specs.declared.indices.robust.parts.Lock.TheVariants as locks
 use Rattle.steps.specs.declared.indices.robust.parts.Raise.TheVariants as raises
 use Rattle.steps.specs.declared.indices.robust.release.ReleaseStage.TheVariants as releases
-use Rattle.model.specs.declared.families.container.ContainerStart.TheVariants as starts
 use Rattle.laws_machine.specs.Changes.{change_in}
 
 module _ {T : Type 0} where
@@ -69,30 +68,8 @@ module _ (c : ℕ) (ws : List ℕ) where
   release_calm given (releases.Raises raise) below = raise_calm raise
   release_calm given (releases.Locks lock) below = lock_calm lock
 
--- ---- calls whose end counts for no change
-
-module _ {T : Type 0} (p : ℕ) where
-  -- the end of a `find` counts for no change of the container
-  pub find_none : (owner : ℕ) (o : Option (Answer T)) → ends_count p (starts.Find owner) o ≡ 0
-  find_none owner None = refl
-  find_none owner (Some answer) = refl
-
-  -- the end of a `get_state` counts for no change of the container
-  pub get_none : (o : Option (Answer T)) → ends_count p starts.GetState o ≡ 0
-  get_none None = refl
-  get_none (Some answer) = refl
-
-  -- the end of an `update_state` counts for no change of the container
-  pub update_none : (o : Option (Answer T)) → ends_count p starts.UpdateState o ≡ 0
-  update_none None = refl
-  update_none (Some answer) = refl
-
-  -- the end of a `len` counts for no change of the container
-  pub len_none : (o : Option (Answer T)) → ends_count p starts.Len o ≡ 0
-  len_none None = refl
-  len_none (Some answer) = refl
-
-  -- the end of an `is_empty` counts for no change of the container
-  pub empty_none : (o : Option (Answer T)) → ends_count p starts.IsEmpty o ≡ 0
-  empty_none None = refl
-  empty_none (Some answer) = refl
+-- A call none of whose answers counts for a change of the container ends without one.
+pub silent : {T : Type 0} (p : ℕ) (start : ContainerStart T) → ((answer : Answer T) → change_in (Finished p (Container start) answer) ≡ 0)
+    → (o : Option (Answer T)) → ends_count p start o ≡ 0
+silent p start none None = refl
+silent p start none (Some answer) = none answer

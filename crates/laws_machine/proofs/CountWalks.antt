@@ -36,9 +36,8 @@ use Rattle.model.specs.Families.Container.Calls.{want, after}
 use Rattle.laws_container.proofs.CallProgress.{add_at, remove_at, replace_at, recover_at, AddAt, RemoveAt, RecoverAt, At}
 use Rattle.laws_container.proofs.CallProgress.{place_is}
 use Rattle.laws_container.proofs.Moves.{add_asks_none, remove_asks_none, replace_asks_none}
-use Rattle.laws_machine.proofs.CountSteps.{IsCalm, acquire_calm, calm_apart, calm_load, count_calm, empty_none}
-use Rattle.laws_machine.proofs.CountSteps.{find_none, get_none, len_none, lock_calm, raise_calm, release_calm}
-use Rattle.laws_machine.proofs.CountSteps.{update_none, ends_count}
+use Rattle.laws_machine.proofs.CountSteps.{IsCalm, acquire_calm, calm_apart, calm_load, count_calm, lock_calm, raise_calm}
+use Rattle.laws_machine.proofs.CountSteps.{release_calm, silent, ends_count}
 
 -- ---- steps
 module _ {T : Type 0} (code : Coding T) (c : ℕ) (ws : List ℕ) (state : Option (ContainerState T)) (p : ℕ) where
@@ -47,6 +46,14 @@ module _ {T : Type 0} (code : Coding T) (c : ℕ) (ws : List ℕ) (state : Optio
   abbrev pub StepCounts : ContainerStart T → ContainerFlight T → ℕ → Type 0
   StepCounts start flight old =
       change_at c (words_after ws (ask_of (want code flight))) ≡ change_at c ws + ends_count p start (answer_in (after code state flight old))
+
+  -- adding 1 to the word of changes raises the number of changes by 1
+  abbrev IsRaised : Type 0
+  IsRaised = change_at c (words_after ws (Some (adds_one (change_word c)))) ≡ change_at c ws + 1
+
+  -- where that is so, each step of this call counts as `StepCounts` says
+  abbrev pub CountsSo : ContainerStart T → ContainerFlight T → Type 0
+  CountsSo start flight = IsRaised → (old : ℕ) → StepCounts start flight old
 
   -- the step's end, if it ends the call, counts for no change
   abbrev EndsNone : ContainerStart T → ContainerFlight T → ℕ → Type 0
@@ -99,7 +106,7 @@ module _ {T : Type 0} (code : Coding T) (c : ℕ) (ws : List ℕ) (state : Optio
       add_calm (adds.AddsChange index) at other = absurd (other index refl)
 
       -- each step of an add raises the number of changes by what its end counts for
-      add_counts : (raised : change_at c (words_after ws (Some (adds_one (change_word c)))) ≡ change_at c ws + 1) (stage : AddStage)
+      add_counts : (raised : IsRaised) (stage : AddStage)
           → AddAt c code.size all done owner stage → (old : ℕ)
           → StepCounts (starts.Add value owner) (add_at c value owner stage) old
       add_counts = grind (arith, calmly, add_at, add_calm, add_ends)
@@ -139,7 +146,7 @@ module _ {T : Type 0} (code : Coding T) (c : ℕ) (ws : List ℕ) (state : Optio
 
     -- each step of a remove raises the number of changes by what its end counts for
     remove_counts : (all : List SetAct) (done : List (Act T))
-        (raised : change_at c (words_after ws (Some (adds_one (change_word c)))) ≡ change_at c ws + 1)
+        (raised : IsRaised)
         (stage : RemoveStage)
         → RemoveAt c code.size all done index owner mode stage → (old : ℕ)
         → StepCounts (starts.Remove index owner mode) (remove_at c place owner mode stage) old
@@ -200,7 +207,7 @@ module _ {T : Type 0} (code : Coding T) (c : ℕ) (ws : List ℕ) (state : Optio
     replace_refused false = refl
 
     -- each step of a replace raises the number of changes by what its end counts for
-    replace_counts : (raised : change_at c (words_after ws (Some (adds_one (change_word c)))) ≡ change_at c ws + 1)
+    replace_counts : (raised : IsRaised)
         (stage : ReplaceStage) (old : ℕ)
         → Replaces stage old
     replace_counts raised replaces.Refuses old =
@@ -266,7 +273,7 @@ module _ {T : Type 0} (code : Coding T) (c : ℕ) (ws : List ℕ) (state : Optio
 
     -- each step of a recovery raises the number of changes by what its end counts for
     recover_counts : (all : List SetAct) (done : List (Act T))
-        (raised : change_at c (words_after ws (Some (adds_one (change_word c)))) ≡ change_at c ws + 1)
+        (raised : IsRaised)
         (stage : RecoverStage)
         → RecoverAt c code.size all done owner mode stage → (old : ℕ)
         → StepCounts (starts.Recover owner mode) (recovers_at stage) old
@@ -322,48 +329,36 @@ module _ {T : Type 0} (code : Coding T) (c : ℕ) (ws : List ℕ) (state : Optio
     -- each step of any call raises the number of changes by what the call's end counts for, where the call
     -- stands at its stage
     pub step_counts : (start : ContainerStart T) (flight : ContainerFlight T) → At c code.size all done start flight
-        → change_at c (words_after ws (Some (adds_one (change_word c)))) ≡ change_at c ws + 1 → (old : ℕ)
-        → StepCounts start flight old
+        → CountsSo start flight
     step_counts (starts.Add value owner) (calls.Add run) at =
-        subst (λ f. change_at c (words_after ws (Some (adds_one (change_word c)))) ≡ change_at c ws + 1 → (old : ℕ)
-        → StepCounts (starts.Add value owner) f old)
+        subst (CountsSo (starts.Add value owner))
         (sym (ap (λ n. add_at n run.given.value run.given.owner run.call.stage) at.0 ∙ ap (λ (o : Owned T). add_at c o.value o.owner run.call.stage) at.1))
         (λ raised old. add_counts value owner all done raised run.call.stage at.3 old)
     step_counts (starts.Remove index owner mode) (calls.Remove run) at =
-        subst (λ f. change_at c (words_after ws (Some (adds_one (change_word c)))) ≡ change_at c ws + 1 → (old : ℕ)
-        → StepCounts (starts.Remove index owner mode) f old)
+        subst (CountsSo (starts.Remove index owner mode))
         (sym (ap (λ n. remove_at n run.given.index run.given.owner run.given.mode run.call.stage) at.0
         ∙ ap (λ (o : GiveBack). remove_at c o.index o.owner o.mode run.call.stage) at.1))
         (λ raised old. remove_counts index owner mode all done raised run.call.stage at.3 old)
     step_counts (starts.Replace index value owner) (calls.Replace run) at =
-        subst (λ f. change_at c (words_after ws (Some (adds_one (change_word c)))) ≡ change_at c ws + 1 → (old : ℕ)
-        → StepCounts (starts.Replace index value owner) f old)
+        subst (CountsSo (starts.Replace index value owner))
         (sym (ap (λ n. replace_at n run.given.index run.given.value run.given.owner run.call.stage) at.0
         ∙ ap (λ (o : Replacement T). replace_at c o.index o.value o.owner run.call.stage) at.1))
         (λ raised old. replace_counts index value owner raised run.call.stage old)
     step_counts (starts.Recover owner mode) (calls.Recover run) at =
-        subst (λ f. change_at c (words_after ws (Some (adds_one (change_word c)))) ≡ change_at c ws + 1 → (old : ℕ)
-        → StepCounts (starts.Recover owner mode) f old)
+        subst (CountsSo (starts.Recover owner mode))
         (sym (ap (λ n. recover_at n run.given.owner run.given.mode run.room run.call.stage) at.0
         ∙ ap (λ (o : DeadOwner). recover_at c o.owner o.mode run.room run.call.stage) at.1))
         (λ raised old. recover_counts owner mode run.room all done raised run.call.stage at.3 old)
     step_counts (starts.Find owner) (calls.Find run) at = λ raised old.
-        calmly (starts.Find owner) (calls.Find run) old
-        (rw at.0 (find_calm run.call.stage))
-        (find_none p owner _)
+        calmly (starts.Find owner) (calls.Find run) old (rw at.0 (find_calm run.call.stage)) (silent p (starts.Find owner) (λ answer. refl) _)
     step_counts starts.GetState (calls.Look which call) at = λ raised old.
-        calmly starts.GetState (calls.Look which call) old
-        (rw at.0 (look_calm call.stage))
-        (get_none p _)
+        calmly starts.GetState (calls.Look which call) old (rw at.0 (look_calm call.stage)) (silent p starts.GetState (λ answer. refl) _)
     step_counts starts.UpdateState (calls.Look which call) at = λ raised old.
-        calmly starts.UpdateState (calls.Look which call) old
-        (rw at.0 (look_calm call.stage))
-        (update_none p _)
+        calmly starts.UpdateState (calls.Look which call) old (rw at.0 (look_calm call.stage)) (silent p starts.UpdateState (λ answer. refl) _)
     step_counts starts.Len (calls.Count which run) at =
-        λ raised old. calmly starts.Len (calls.Count which run) old (count_calm c ws run.call.count) (len_none p _)
+        λ raised old. calmly starts.Len (calls.Count which run) old (count_calm c ws run.call.count) (silent p starts.Len (λ answer. refl) _)
     step_counts starts.IsEmpty (calls.Count which run) at =
-        λ raised old. calmly starts.IsEmpty (calls.Count which run) old
-        (count_calm c ws run.call.count) (empty_none p _)
+        λ raised old. calmly starts.IsEmpty (calls.Count which run) old (count_calm c ws run.call.count) (silent p starts.IsEmpty (λ answer. refl) _)
     step_counts starts.IsLocked (calls.IsLocked run) at =
         λ raised old. calmly starts.IsLocked (calls.IsLocked run) old (calm_load c ws 0) refl
     step_counts start flight at = absurd at
@@ -414,10 +409,10 @@ module _ {T : Type 0} (code : Coding T) (state : Option (ContainerState T)) (p a
       go (recovers.Locks index lock) due = both_ways (is_question (lock_want lock)) (lock_asks_none lock) due
       go recovers.LoadsCounterAgain due = absurd (cc)
       go (recovers.AddsChange lock) due = absurd (cc)
-  decision_counts (starts.Find owner) (calls.Find run) c z all done at due = find_none p owner _
-  decision_counts starts.GetState (calls.Look which call) c z all done at due = get_none p _
-  decision_counts starts.UpdateState (calls.Look which call) c z all done at due = update_none p _
-  decision_counts starts.Len (calls.Count which run) c z all done at due = len_none p _
-  decision_counts starts.IsEmpty (calls.Count which run) c z all done at due = empty_none p _
+  decision_counts (starts.Find owner) (calls.Find run) c z all done at due = silent p (starts.Find owner) (λ answer. refl) _
+  decision_counts starts.GetState (calls.Look which call) c z all done at due = silent p starts.GetState (λ answer. refl) _
+  decision_counts starts.UpdateState (calls.Look which call) c z all done at due = silent p starts.UpdateState (λ answer. refl) _
+  decision_counts starts.Len (calls.Count which run) c z all done at due = silent p starts.Len (λ answer. refl) _
+  decision_counts starts.IsEmpty (calls.Count which run) c z all done at due = silent p starts.IsEmpty (λ answer. refl) _
   decision_counts starts.IsLocked (calls.IsLocked run) c z all done at due = absurd (cc)
   decision_counts start flight c z all done at due = absurd at

@@ -7,8 +7,8 @@ use Rattle.laws_machine.proofs.Names.{Container, Flight, Registry, ContainerStar
 use Rattle.laws_machine.proofs.Names.{Next, Decide, Die, want_of, ask_of, is_question, beside_of, step_of, state_of}
 use Rattle.laws_machine.proofs.Names.{questions, party_of, IsParty, IsEffectOf, ask_in, ask_of_flight, refusal_of}
 use Rattle.laws_machine.proofs.Names.{answer_in, old_of, words_after, number_of, ending_of, events_of}
-use Rattle.laws_machine.proofs.Names.{events_of_answer, events_of_next, events_of_decision, events_of_step}
-use Rattle.laws_machine.proofs.Names.{ask_of_doing, step_in, after_turn, IsReached, Trace, capacity_error}
+use Rattle.laws_machine.proofs.Names.{events_of_step}
+use Rattle.laws_machine.proofs.Names.{after_turn, IsReached, Trace, capacity_error}
 use Rattle.laws_machine.proofs.Names.{kept_by_runs, reached_more, turn_making, passes, may_next}
 use Rattle.laws_machine.proofs.Names.{StandsThere, change_at, change_set, shown, adds_one}
 use Rattle.laws_machine.proofs.Names.{all_effects, dying, Coding}
@@ -30,7 +30,7 @@ use Rattle.laws_container.proofs.Terms.{Terms}
 use Rattle.laws_machine.specs.Changes.{change_in, changes_of, CountsChanges}
 use Rattle.laws_machine.proofs.CountSteps.{ends_count}
 use Rattle.laws_machine.proofs.CountWalks.{step_counts, decision_counts}
-use Rattle.laws_machine.proofs.CallTransition.{under_way}
+use Rattle.laws_machine.proofs.CallTransition.{under_way, next_wrote, decision_wrote}
 use Rattle.laws_machine.proofs.Taken.{decides}
 
 -- ---- what events count
@@ -155,12 +155,7 @@ module _ {T : Type 0} (terms : Terms) (t : Trace T) (s : frame.Sound (family_by 
         let flies = may_next t.world p free in
         let call = under_way fam t s p flies.flight flies.is in
         let caller = call.party in
-        let wrote : events_of t.world (Next p)
-        ≡ events_of_step p caller.start
-        (step_in t.world p caller flies.flight (old_of t.world.words (ask_of (want_of t.world.coding flies.flight)))) =
-        ap (events_of_next t.world p) call.found
-        ∙ ap (λ d. events_of_answer t.world p caller (old_of t.world.words (ask_of_doing t.world.coding d)) d) call.doing
-        in
+        let wrote = next_wrote fam t s p call in
         by_step {x = caller} {since = call.since} call.found {start = caller.start} {flight = flies.flight}
         call.there (ap (ask_of_flight t.world.coding) flies.is)
         (subst (λ kept. Wrote p (Next p) (old_of s.state.words (ask_of (want_of t.world.coding flies.flight))) kept caller.start flies.flight) same_kept
@@ -185,9 +180,7 @@ module _ {T : Type 0} (terms : Terms) (t : Trace T) (s : frame.Sound (family_by 
         let flies = decides {w = t.world} {p = p} free in
         let call = under_way fam t s p flies.flight flies.is in
         let caller = call.party in
-        let wrote : events_of t.world (Decide p said) ≡ events_of_step p caller.start (step_in t.world p caller flies.flight (number_of said)) =
-        ap (events_of_decision t.world p said) call.found ∙ ap (events_of_answer t.world p caller (number_of said)) call.doing
-        in
+        let wrote = decision_wrote fam t s p call said in
         by_decision {x = caller} {since = call.since} call.found {start = caller.start} {flight = flies.flight} call.there flies.due
         (subst (λ kept. Wrote p (Decide p said) (number_of said) kept caller.start flies.flight) same_kept wrote)
 

@@ -6,8 +6,8 @@ use Rattle.laws_machine.proofs.Names.{ap, subst, ◌∙◌, cases_eq, ReleaseMod
 use Rattle.laws_machine.proofs.Names.{Registry, RobustStart, RobustFlight, Party, Turn, Begin, Next, Decide, Die}
 use Rattle.laws_machine.proofs.Names.{want_of, ask_of, is_question, goes_of, beside_of, step_of, set_acts_of}
 use Rattle.laws_machine.proofs.Names.{set_acts, wrote_in, BeginsNone, party_of, IsParty, Each, refusal_of, is_due}
-use Rattle.laws_machine.proofs.Names.{old_of, number_of, events_of, events_of_answer, events_of_next}
-use Rattle.laws_machine.proofs.Names.{events_of_decision, events_of_step, step_in, world_after, ask_of_doing}
+use Rattle.laws_machine.proofs.Names.{old_of, number_of, events_of}
+use Rattle.laws_machine.proofs.Names.{events_of_step, world_after}
 use Rattle.laws_machine.proofs.Names.{after_turn, IsReached, Trace, flight_in, others_begin_none, kept_by_runs}
 use Rattle.laws_machine.proofs.Names.{reached_more, turn_making, AreOwn, AreRight, Each-append, Each-nil, no_more}
 use Rattle.laws_machine.proofs.Names.{span_of-own, span_of-other, span_of-death, passes, may_next, may_decide}
@@ -26,7 +26,7 @@ use Rattle.laws_machine.specs.Recoveries.{LocksRight}
 use Rattle.laws_machine.proofs.LockKnows.{StageKnows, CallKnows, FlightKnows, flight_later}
 use Rattle.laws_machine.proofs.LockCalls.{Caller, Leaves, all_own, effects_own, step_leaves, decision_leaves}
 use Rattle.laws_machine.proofs.Others.{others_stay}
-use Rattle.laws_machine.proofs.CallTransition.{left_by, next_left, decision_left, under_way}
+use Rattle.laws_machine.proofs.CallTransition.{left_by, next_left, decision_left, under_way, next_wrote, decision_wrote}
 
 -- what every turn keeps: each party knows what its call says of the indices that it has freed, and each end
 -- of a recovery is right
@@ -130,12 +130,7 @@ module _ {T : Type 0} (t : Trace T) (is : t.world.kind ≡ kinds.Robust) (reache
         let caller = call.party in
         let goes = (robust_keeps.turn t (Next p) is free reached).call in
         let left = next_left t.world (world_after t.world (Next p)) p flies.flight flies.is goes in
-        let wrote : events_of t.world (Next p)
-        ≡ events_of_step p caller.start
-        (step_in t.world p caller flies.flight (old_of t.world.words (ask_of (want_of t.world.coding flies.flight)))) =
-        ap (events_of_next t.world p) call.found
-        ∙ ap (λ d. events_of_answer t.world p caller (old_of t.world.words (ask_of_doing t.world.coding d)) d) call.doing
-        in
+        let wrote = next_wrote fam t s p call in
         let by_words =
         subst (λ ws. TurnIsStep (Next p) p (λ q its. its) (old_of ws (ask_of (want_of t.world.coding flies.flight)))
         t.world.kept caller.start flies.flight)
@@ -171,9 +166,7 @@ module _ {T : Type 0} (t : Trace T) (is : t.world.kind ≡ kinds.Robust) (reache
         let caller = call.party in
         let goes = (robust_keeps.turn t (Decide p said) is free reached).call in
         let left = decision_left t.world (world_after t.world (Decide p said)) p flies.flight flies.is said goes in
-        let wrote : events_of t.world (Decide p said) ≡ events_of_step p caller.start (step_in t.world p caller flies.flight (number_of said)) =
-        ap (events_of_decision t.world p said) call.found ∙ ap (events_of_answer t.world p caller (number_of said)) call.doing
-        in
+        let wrote = decision_wrote fam t s p call said in
         let due =
         subst (λ o. is_due t.world.coding o ≡ true) flies.is
         (frame.is_true (is_due t.world.coding (flight_in t.world p)) (must_be_due t.world p said allowed.on)) in

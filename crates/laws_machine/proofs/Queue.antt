@@ -1,13 +1,13 @@
 -- A turn leaves the capacity of a loan channel's submission queue, so it is the one that the
 -- channel was made with.
 use Rattle.std.proofs.Common.{arith}
-use Rattle.laws_machine.proofs.Names.{◌≡◌, ℕ, Bool, Option, Some, None, List, [], ◌∷◌, fold, refl, sym, subst, ◌∙◌}
+use Rattle.laws_machine.proofs.Names.{◌≡◌, ℕ, Bool, Option, Some, None, List, [], ◌∷◌, fold, refl, ◌∙◌}
 use Rattle.laws_machine.proofs.Names.{Ask, Answer, Event, Start, Flight, Registry, Doing}
 use Rattle.laws_machine.proofs.Names.{Party, Turn, Coding, first_of, step_of}
 use Rattle.laws_machine.proofs.Names.{kept_after_begin, kept_after_death}
 use Rattle.laws_machine.proofs.Names.{number_of, after_begin, after_answer, after_next, after_decision}
 use Rattle.laws_machine.proofs.Names.{world_after, IsReached, refusal_of}
-use Rattle.laws_machine.proofs.Names.{World, Trace, kept_opened}
+use Rattle.laws_machine.proofs.Names.{World, Trace}
 use Rattle.model.specs.declared.families.Registry.TheVariants as registries
 use Rattle.model.specs.declared.families.loan.Book.{Book}
 use Rattle.model.specs.declared.families.loan.LoanStart.{LoanStart}

@@ -1,6 +1,6 @@
 -- What a step of any call of a container leaves known of the number of changes, and that the end of an
 -- update has met the changes that it tells.
-use Rattle.laws_machine.proofs.Names.{◌≡◌, ℕ, ◌+◌, ◌<◌, ◌==◌, Bool, true, false, Option, Some, None, List, [], ◌∷◌}
+use Rattle.laws_machine.proofs.Names.{◌≡◌, ℕ, ◌+◌, ◌==◌, Bool, true, false, Option, Some, None, List, [], ◌∷◌}
 use Rattle.laws_machine.proofs.Names.{◌++◌, if◌then◌else◌, refl, sym, ap, subst, ◌∙◌, append_assoc, append-nil, arith}
 use Rattle.laws_machine.proofs.Names.{eq-eqb, AllByRecursion, After, GoOn, Done, Look, ContainerState, Running}
 use Rattle.laws_machine.proofs.Names.{add_after, find_kept, recover_after, recover_kept, remove_after, replace_after}

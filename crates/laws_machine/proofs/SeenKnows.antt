@@ -115,33 +115,18 @@ kept_by = grind (arith, ne_eqb)
 
 -- ---- what events change of it
 
+-- one of two that have counted the same changes has counted these, and none more
+either : (b : Bool) (s' s : Seen) → s'.changes ≡ s.changes → (if b then s' else s).changes ≡ s.changes + 0
+either true s' s same = omega arith
+either false s' s same = omega arith
+
 module _ {T : Type 0} where
   -- each event adds to the number of changes what it counts for
   one_change : (p : ℕ) (s : Seen) (e : Event T) → (seen_after p s e).changes ≡ s.changes + change_in e
-  one_change p s (Begun q (Container GetState)) = go (q == p)
-    where
-      -- the cases are whether the call is the party's own
-      go : (b : Bool) → (if b then record s { begun = s.changes } else s).changes ≡ s.changes + 0
-      go true = omega arith
-      go false = omega arith
-  one_change p s (Begun q (Container UpdateState)) = go (q == p)
-    where
-      -- the cases are whether the call is the party's own
-      go : (b : Bool) → (if b then record s { begun = s.changes } else s).changes ≡ s.changes + 0
-      go true = omega arith
-      go false = omega arith
-  one_change p s (Finished q (Container GetState) (Number number)) = go (q == p)
-    where
-      -- the cases are whether the call is the party's own
-      go : (b : Bool) → (if b then record s { least = s.begun; most = s.changes } else s).changes ≡ s.changes + 0
-      go true = omega arith
-      go false = omega arith
-  one_change p s (Finished q (Container UpdateState) (Truth true)) = go (q == p)
-    where
-      -- the cases are whether the call is the party's own
-      go : (b : Bool) → (if b then record s { least = s.begun; most = s.changes } else s).changes ≡ s.changes + 0
-      go true = omega arith
-      go false = omega arith
+  one_change p s (Begun q (Container GetState)) = either (q == p) _ s refl
+  one_change p s (Begun q (Container UpdateState)) = either (q == p) _ s refl
+  one_change p s (Finished q (Container GetState) (Number number)) = either (q == p) _ s refl
+  one_change p s (Finished q (Container UpdateState) (Truth true)) = either (q == p) _ s refl
   one_change p s e = refl
 
   -- the changes that a party has seen are counted as the events count them

@@ -9,7 +9,7 @@ use Rattle.laws_machine.proofs.Names.{Registry, ContainerStart, ContainerFlight,
 use Rattle.laws_machine.proofs.Names.{want_of, ask_of, is_question, goes_of, beside_of, step_of, look_shows, settled_if}
 use Rattle.laws_machine.proofs.Names.{writes_state, state_in, is_looking, state_of, party_of, IsParty, IsEffectOf, Each}
 use Rattle.laws_machine.proofs.Names.{whose, answer_in, old_of, number_of, ending_of, events_of}
-use Rattle.laws_machine.proofs.Names.{events_of_answer, events_of_next, events_of_decision, events_of_step}
+use Rattle.laws_machine.proofs.Names.{events_of_step}
 use Rattle.laws_machine.proofs.Names.{ask_of_doing, step_in, after_answer, after_next, after_decision, world_after}
 use Rattle.laws_machine.proofs.Names.{after_turn, Trace, flight_in, AreOwn, AreRight, Each-append}
 use Rattle.laws_machine.proofs.Names.{may_next, StandsThere, both_ways, shown}
@@ -35,7 +35,7 @@ use Rattle.laws_machine.proofs.Leaving.{next_leaves, decision_leaves}
 use Rattle.laws_machine.proofs.Others.{others_stay}
 use Rattle.laws_machine.proofs.SeenCalls.{PartyTurn, Leaves, wrote_by, others_leave, look_leaves, look_stays}
 use Rattle.laws_machine.proofs.SeenKnows.{Within, Grows, LookSees, CallSees, FlightSees, seen_number, changes_are, others_grow, sees_later, IsNoLook}
-use Rattle.laws_machine.proofs.CallTransition.{left_by, under_way}
+use Rattle.laws_machine.proofs.CallTransition.{left_by, under_way, next_wrote, decision_wrote}
 use Rattle.laws_machine.proofs.Taken.{decides}
 use Rattle.laws_container.proofs.Moves.{look_asks_none}
 
@@ -301,12 +301,7 @@ module _ {T : Type 0} {terms : Terms} {t : Trace T} (s : frame.Sound (family_by 
         let call = under_way fam t s p flies.flight flies.is in
         let caller = call.party in
         let left = next_leaves terms s p call in
-        let wrote : events_of t.world (Next p)
-        ≡ events_of_step p caller.start
-        (step_in t.world p caller flies.flight (old_of t.world.words (ask_of (want_of t.world.coding flies.flight)))) =
-        ap (events_of_next t.world p) call.found
-        ∙ ap (λ d. events_of_answer t.world p caller (old_of t.world.words (ask_of_doing t.world.coding d)) d) call.doing
-        in
+        let wrote = next_wrote fam t s p call in
         let kept : (world_after t.world (Next p)).kept
         ≡ (step_in t.world p caller flies.flight (old_of t.world.words (ask_of (want_of t.world.coding flies.flight)))).kept =
         ap (λ o. (after_next t.world p o).kept) call.found
@@ -364,9 +359,7 @@ module _ {T : Type 0} {terms : Terms} {t : Trace T} (s : frame.Sound (family_by 
         let call = under_way fam t s p flies.flight flies.is in
         let caller = call.party in
         let left = decision_leaves terms {t = t} s p said {flight = flies.flight} call in
-        let wrote : events_of t.world (Decide p said) ≡ events_of_step p caller.start (step_in t.world p caller flies.flight (number_of said)) =
-        ap (events_of_decision t.world p said) call.found ∙ ap (events_of_answer t.world p caller (number_of said)) call.doing
-        in
+        let wrote = decision_wrote fam t s p call said in
         let kept : (world_after t.world (Decide p said)).kept ≡ (step_in t.world p caller flies.flight (number_of said)).kept =
         ap (λ o. (after_decision t.world p said o).kept) call.found ∙ ap (λ d. (after_answer t.world p caller None (number_of said) d).kept) call.doing
         in

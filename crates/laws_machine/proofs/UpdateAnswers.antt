@@ -11,7 +11,7 @@ use Rattle.laws_machine.proofs.Names.{begins_own, Coding}
 use Rattle.model.specs.declared.families.container.ContainerStart.TheVariants as starts
 use Rattle.model.specs.declared.turn.Kind.TheVariants as kinds
 use Rattle.model.specs.Turns.{party_at_begin}
-use Rattle.model.specs.World.{opening, opened}
+use Rattle.model.specs.World.{opening}
 use Rattle.model.proofs.Frame as frame
 use Rattle.laws_container.proofs.Invariant.{family_by}
 use Rattle.laws_container.proofs.Sound.{MayGoOn, reached_sound}

@@ -1,6 +1,6 @@
 -- The definitions at worked runs, and at what a wrong machine would leave, which they refuse.
 use Rattle.laws_machine.proofs.Names.{◌≡◌, ℕ, ◌==◌, if◌then◌else◌, is_some, Bool, true, false, Option, Some, None, List}
-use Rattle.laws_machine.proofs.Names.{[], ◌∷◌, ◌++◌, slice_index, refl, sym, subst, arith, change_word, LockIfLastIndex}
+use Rattle.laws_machine.proofs.Names.{[], ◌∷◌, ◌++◌, slice_index, refl, arith, change_word, LockIfLastIndex}
 use Rattle.laws_machine.proofs.Names.{Default, State, Number, Truth, Event, Begun, Filled, FreedOf, Asked, Finished}
 use Rattle.laws_machine.proofs.Names.{Start, Robust, Container, Flight, Going, Turn, Begin, Next, Decide, Die, one_word}
 use Rattle.laws_machine.proofs.Names.{IsFilled, asked_of, owned_of, Frees, set_acts_of, IsOneOf, put, ask_in}
@@ -13,6 +13,7 @@ use Rattle.model.specs.declared.families.Flight.TheVariants as flights
 use Rattle.model.specs.declared.families.container.ContainerStart.TheVariants as containers
 use Rattle.model.specs.declared.families.indices.robust.RobustStart.TheVariants.{Acquire, Find, Recover}
 use Rattle.model.specs.declared.turn.Kind.TheVariants as kinds
+use Rattle.model.proofs.Moments.{so_by_events}
 use Rattle.model.proofs.Runs.{begins, ran}
 use Rattle.laws_robust.proofs.CallProgress.{recover_at}
 use Rattle.laws_machine.specs.Changes.{changes_of, CountsChanges, MeetsChanges}
@@ -112,30 +113,15 @@ none_filled other filled = go (0 == other) filled
     go true is_there = cc
     go false is_there = cc
 
--- no index is filled in a part of the events in which the index was freed
-none_since : (other : ℕ) (part rest : List (Event ℕ)) → last_freed ≡ part ++ rest → IsOneOf (Frees 0 1) (set_acts_of 1 part) → IsFilled other part → ⊥
-none_since other [] rest is frees filled = absurd (no_more frees.before (Frees 0 1) frees.after frees.is)
-none_since other (a ∷ []) rest is frees filled =
-    let same : Filled 0 0 1 ≡ a = cc in
-    let none = subst (λ x. IsOneOf (Frees 0 1) (set_acts_of 1 (x ∷ []))) (sym same) frees in
-    absurd (no_more none.before (Frees 0 1) none.after none.is)
-none_since other (a ∷ b ∷ []) rest is frees filled =
-    let same : Filled 0 0 1 ≡ a = cc in
-    let next : Begun 1 locking ≡ b = cc in
-    let none =
-    subst (λ x. IsOneOf (Frees 0 1) (set_acts_of 1 (x ∷ Begun 1 locking ∷ []))) (sym same)
-    (subst (λ y. IsOneOf (Frees 0 1) (set_acts_of 1 (a ∷ y ∷ []))) (sym next) frees) in
-    absurd (no_more none.before (Frees 0 1) none.after none.is)
-none_since other (a ∷ b ∷ c ∷ []) rest freed_is frees filled =
-    let same : last_freed ≡ a ∷ b ∷ c ∷ [] = cc in
-    none_filled other (subst (IsFilled other) (sym same) filled)
-none_since other (a ∷ b ∷ c ∷ d ∷ more) rest freed_is frees filled = absurd (cc)
+unfreed : IsOneOf (Frees 0 1) [] → ⊥
+unfreed one = no_more one.before (Frees 0 1) one.after one.is
 
 -- refused: a recovery that never locks
 pub no_open_end : LocksRight last_freed unlocked → ⊥
 no_open_end locks_right =
     let since = locks_right 0 1 (record { before = []; after = []; is = refl }) in
-    none_since since.other since.once.part since.once.rest since.once.is since.once.held.0 since.once.held.1
+    so_by_events 1 (λ part. IsOneOf (Frees 0 1) (set_acts_of 1 part) × IsFilled since.other part) last_freed
+    ((λ h. unfreed h.0), ((λ h. unfreed h.0), ((λ h. unfreed h.0), (λ h. none_filled since.other h.1)))) since.once
 
 -- right: a recovery that does not lock, where another index is filled, with owner 2
 pub right_where_one_is_left : LocksRight (Filled 0 1 2 ∷ last_freed) unlocked

@@ -1,29 +1,21 @@
 -- The index queue, the queue and the overflowing queue are lock-free: the measure of a call falls with each of its steps.
-use Rattle.std.proofs.Common.{◌≡◌, ℕ, ◌+◌, ◌-◌, ◌*◌, ◌<◌, ◌≤◌, ◌==◌, ◌||◌, ◌^◌, inl, inr, nat_lt, max, Bool, true, false, cond}
+use Rattle.std.proofs.Common.{◌≡◌, ℕ, ◌+◌, ◌-◌, ◌*◌, ◌<◌, ◌≤◌, ◌==◌, ◌^◌, max, Bool, true, false, cond}
 use Rattle.std.proofs.Common.{Option, Some, None, List, get_or, set, get_or-set_other, refl, arith}
 use Rattle.std.proofs.Math.Nat.{mul-le-mul_left}
 use Rattle.std.proofs.lemmas.Bool.Decides.{nat_tests}
-use Rattle.steps.specs.Queues.Ring.{distance, word_at, cell_word}
+use Rattle.steps.specs.Queues.Ring.{word_at, cell_word}
 use Rattle.steps.specs.Queues.Overflow as overflow
-use Rattle.steps.specs.declared.copied.OneWord.{OneWord}
-use Rattle.steps.specs.declared.copied.Buffer as buffers
-use Rattle.steps.specs.declared.queues.lengths.Len.{Len}
 use Rattle.steps.specs.declared.queues.lengths.LenStage.{LenStage}
 use Rattle.steps.specs.declared.queues.lengths.LenStage.TheVariants as lens
-use Rattle.steps.specs.declared.queues.overflow.Push as overflow_push
 use Rattle.steps.specs.declared.queues.overflow.PushStage.{PushStage}
 use Rattle.steps.specs.declared.queues.overflow.PushStage.TheVariants as overflow_pushes
-use Rattle.steps.specs.declared.queues.overflow.Pop as overflow_pop
 use Rattle.steps.specs.declared.queues.overflow.PopStage.{PopStage}
 use Rattle.steps.specs.declared.queues.overflow.PopStage.TheVariants as overflow_pops
 use Rattle.steps.specs.declared.queues.ring.Push.{Push}
 use Rattle.steps.specs.declared.queues.ring.PushStage as pushes
-use Rattle.steps.specs.declared.queues.ring.Pop.{Pop}
 use Rattle.steps.specs.declared.queues.ring.PopStage as pops
-use Rattle.steps.specs.declared.queues.peek.Peek.{Peek}
 use Rattle.steps.specs.declared.queues.peek.PeekStage.{PeekStage}
 use Rattle.steps.specs.declared.queues.peek.PeekStage.TheVariants as peeks
-use Rattle.steps.specs.declared.routine.Running.{Running}
 use Rattle.model.specs.declared.event.Start.{Start}
 use Rattle.model.specs.declared.event.Start.TheVariants as starts
 use Rattle.model.specs.declared.families.Flight.{Flight}
@@ -32,15 +24,12 @@ use Rattle.model.specs.declared.families.Registry.{Registry}
 use Rattle.model.specs.declared.families.Registry.TheVariants as registries
 use Rattle.model.specs.declared.families.queues.QueueKind.{QueueKind}
 use Rattle.model.specs.declared.families.queues.QueueKind.TheVariants as queue_kinds
-use Rattle.model.specs.declared.families.queues.calls.LengthOf.{LengthOf}
 use Rattle.model.specs.declared.families.queues.calls.OverflowCall.TheVariants as overflows
 use Rattle.model.specs.declared.families.queues.calls.QueueFlight.{QueueFlight}
 use Rattle.model.specs.declared.families.queues.calls.QueueFlight.TheVariants.{Role, Indices, Values, Overflow, Length}
 use Rattle.model.specs.declared.families.queues.calls.RingCall.TheVariants as rings
-use Rattle.model.specs.declared.families.queues.calls.RoleCall.TheVariants.{Acquire, Release, Look}
 use Rattle.model.specs.Coding.{Coding, IsCoding}
 use Rattle.model.specs.Families.{opening_of, first_of, want_of, after_of, goes_of, step_of, is_question, kept_after_begin, kept_after_death}
-use Rattle.model.specs.Families.Queues.Calls.{words_of_index}
 use Rattle.model.specs.LockFree.{KeepsEnding, stretch}
 use Rattle.model.specs.World.{capacity_error}
 use Rattle.model.proofs.LockFree.Falls.{same_is, load_leaves, LeavesAll, StepFalls}
@@ -203,221 +192,9 @@ module _ {T : Type 0} (alone changes : ℕ) (code : Coding T) (words : List ℕ)
       let most : size * capacity ≤ size * 2 ^ 32 = mul-le-mul_left size (omega arith) in
       rest_leaves (word_at cell at) new (omega arith)
 
-  -- a length call at a stage
-  abbrev measuring : LengthOf → Running Len (Unit {0}) (Unit {0}) → LenStage → QueueFlight T
-  measuring which run stage = Length which (record run { call = record run.call { stage = stage } })
-
-  -- the measure falls with each step of a call that tells a length
-  len_falls : (which : LengthOf) (run : Running Len (Unit {0}) (Unit {0})) (stage : LenStage) → StepLowers (measuring which run stage)
-  len_falls which run lens.LoadsWrite = let self = same_is write in inl (load_leaves words 0, rw self (omega arith), omega arith)
-  len_falls which run (lens.LoadsRead w) = go (write == w) refl
-    where
-      go : (t : Bool) → (write == w) ≡ t → StepLowers (measuring which run (lens.LoadsRead w))
-      go true write_same = let self = same_is read in inl (load_leaves words 1, rw (write_same, self) (omega arith), omega arith)
-      go false write_moved = inl (load_leaves words 1, rw write_moved (omega arith), omega arith)
-  len_falls which run (lens.LoadsWriteAgain w r) = go (write == w) refl (read == r) refl
-    where
-      go : (t : Bool) → (write == w) ≡ t → (u : Bool) → (read == r) ≡ u → StepLowers (measuring which run (lens.LoadsWriteAgain w r))
-      go true write_same true read_same = rw write_same (inl (load_leaves words 0, rw (write_same, read_same) (omega arith), omega arith))
-      go true write_same false read_moved = rw write_same (inl (load_leaves words 0, rw (write_same, read_moved) (omega arith), omega arith))
-      go false write_moved u read_test = rw write_moved (inl (load_leaves words 0, rw write_moved (omega arith), omega arith))
-  len_falls which run (lens.LoadsReadAgain w r) = go (read == r) refl
-    where
-      go : (t : Bool) → (read == r) ≡ t → StepLowers (measuring which run (lens.LoadsReadAgain w r))
-      go true read_same = rw read_same tt
-      go false read_moved = rw read_moved (inl (load_leaves words 1, rw read_moved (omega arith), omega arith))
-
-  -- a pop of the overflowing queue at a stage
-  abbrev over_popping : Running overflow_pop.Pop (Unit {0}) OneWord → PopStage → QueueFlight T
-  over_popping run stage = Overflow (overflows.Pop (record run { call = record run.call { stage = stage } }))
-
-  -- the measure falls with each step of a pop of the overflowing queue
-  over_pop_falls : (run : Running overflow_pop.Pop (Unit {0}) OneWord) (stage : PopStage) → StepLowers (over_popping run stage)
-  over_pop_falls run overflow_pops.FindsNone = tt
-  over_pop_falls run overflow_pops.LoadsRead = let self = same_is read in inl (load_leaves words 1, rw self (omega arith), omega arith)
-  over_pop_falls run (overflow_pops.LoadsWrite r) = go (write == r) refl (read == r) refl
-    where
-      go : (t : Bool) → (write == r) ≡ t → (u : Bool) → (read == r) ≡ u → StepLowers (over_popping run (overflow_pops.LoadsWrite r))
-      go true is_empty u read_test = rw is_empty tt
-      go false not_empty true read_same = rw not_empty (inl (load_leaves words 0, rw read_same (omega arith), omega arith))
-      go false not_empty false read_moved = rw not_empty (inl (load_leaves words 0, rw read_moved (omega arith), omega arith))
-  over_pop_falls run (overflow_pops.LoadsCell r) = go (read == r) refl
-    where
-      go : (u : Bool) → (read == r) ≡ u → StepLowers (over_popping run (overflow_pops.LoadsCell r))
-      go true read_same = inl (load_leaves words (overflow.cell_word run.call.capacity r), rw read_same (omega arith), omega arith)
-      go false read_moved = inl (load_leaves words (overflow.cell_word run.call.capacity r), rw read_moved (omega arith), omega arith)
-  over_pop_falls run (overflow_pops.MovesRead r) = go (read == r) refl
-    where
-      go : (u : Bool) → (read == r) ≡ u → StepLowers (over_popping run (overflow_pops.MovesRead r))
-      go true read_same = rw read_same tt
-      go false read_moved = let self = same_is read in rw read_moved (inl (load_leaves words 1, rw (self, read_moved) (omega arith), omega arith))
-
-  abbrev over_pushing : Running overflow_push.Push ℕ OneWord → PushStage → QueueFlight T
-  over_pushing run stage = Overflow (overflows.Push (record run { call = record run.call { stage = stage } }))
-
-  -- the measure falls with each step of a push of the overflowing queue
-  over_push_falls : (run : Running overflow_push.Push ℕ OneWord) (stage : PushStage) → StepLowers (over_pushing run stage)
-  over_push_falls run overflow_pushes.HandsBack = tt
-  over_push_falls run overflow_pushes.LoadsWrite = go (write == 2 ^ 64 - 1) refl
-    where
-      go : (t : Bool) → (write == 2 ^ 64 - 1) ≡ t → StepLowers (over_pushing run overflow_pushes.LoadsWrite)
-      go true write_greatest = rw write_greatest tt
-      go false write_below = rw write_below (inl (load_leaves words 0, omega arith, omega arith))
-  over_push_falls run (overflow_pushes.LoadsRead w) = inl (load_leaves words 1, omega arith, omega arith)
-  over_push_falls run (overflow_pushes.StoresCell w r) =
-      inr (omega arith, inl (rest_leaves (overflow.cell_word run.call.capacity w) run.given (omega arith), omega arith))
-  over_push_falls run (overflow_pushes.StoresWrite w r) = go (distance w r == run.call.capacity) refl
-    where
-      go : (t : Bool) → (distance w r == run.call.capacity) ≡ t → StepLowers (over_pushing run (overflow_pushes.StoresWrite w r))
-      go true is_full = rw is_full (inr (omega arith, inr (omega arith)))
-      go false not_full = rw not_full tt
-  over_push_falls run (overflow_pushes.MovesRead r) = go (read == r) refl
-    where
-      go : (t : Bool) → (read == r) ≡ t → StepLowers (over_pushing run (overflow_pushes.MovesRead r))
-      go true read_same = rw read_same (inr (omega arith, inr (omega arith)))
-      go false read_moved = rw read_moved tt
-  over_push_falls run (overflow_pushes.LoadsCell r) = tt
-
-  -- a push of the index queue at a stage
-  abbrev pushing : Running (Push ℕ) ℕ (Unit {0}) → pushes.PushStage → QueueFlight T
-  pushing run stage = Indices (rings.Push (record run { call = record run.call { stage = stage } }))
-
-  -- the measure falls with each step of a push of the index queue, where the push stands among its cells
-  push_falls : (run : Running (Push ℕ) ℕ (Unit {0})) (c : ℕ) (stage : pushes.PushStage) → c < 2 ^ 32 → PushStands 1 c stage → StepLowers (pushing run stage)
-  push_falls run c pushes.TheVariants.LoadsWrite fits at = go (write == 2 ^ 64 - 1) refl
-    where
-      go : (t : Bool) → (write == 2 ^ 64 - 1) ≡ t → StepLowers (pushing run pushes.TheVariants.LoadsWrite)
-      go true write_greatest = rw write_greatest tt
-      go false write_below = rw write_below (inl (load_leaves words 0, omega arith, omega arith))
-  push_falls run c (pushes.TheVariants.LoadsRead w) fits at = go (run.call.capacity == 0 || distance w read == run.call.capacity) refl
-    where
-      go : (t : Bool) → (run.call.capacity == 0 || distance w read == run.call.capacity) ≡ t → StepLowers (pushing run (pushes.TheVariants.LoadsRead w))
-      go true is_full = rw is_full tt
-      go false not_full = rw not_full (inl (load_leaves words 1, omega arith, omega arith))
-  push_falls run c (pushes.TheVariants.StoresCell w cell at) fits stands = go (nat_lt (at + 1) 1) refl
-    where
-      leaves : (new : ℕ) → LeavesAll M words (set words (word_at cell at) new)
-      leaves new = cell_leaves 1 c cell at new (omega arith) fits stands.0 stands.1 stands.2
-
-      go : (t : Bool) → nat_lt (at + 1) 1 ≡ t → StepLowers (pushing run (pushes.TheVariants.StoresCell w cell at))
-      go true more = let less : at + 1 < 1 = grind (arith, nat_tests) in absurd (omega arith)
-      go false last_word = rw last_word (inr (omega arith, inl (leaves (get_or (words_of_index run.given) at 0), omega arith)))
-  push_falls run c (pushes.TheVariants.StoresWrite w) fits at = tt
-
-  abbrev popping : Running (Pop ℕ OneWord) (Unit {0}) OneWord → pops.PopStage → QueueFlight T
-  popping run stage = Indices (rings.Pop (record run { call = record run.call { stage = stage } }))
-
-  -- the measure falls with each step of a pop of the index queue
-  pop_falls : (run : Running (Pop ℕ OneWord) (Unit {0}) OneWord) (stage : pops.PopStage) → StepLowers (popping run stage)
-  pop_falls run pops.TheVariants.LoadsRead = inl (load_leaves words 1, omega arith, omega arith)
-  pop_falls run (pops.TheVariants.LoadsWrite r) = go (run.call.capacity == 0 || write == r) refl
-    where
-      go : (t : Bool) → (run.call.capacity == 0 || write == r) ≡ t → StepLowers (popping run (pops.TheVariants.LoadsWrite r))
-      go true is_empty = rw is_empty tt
-      go false not_empty = rw not_empty (inl (load_leaves words 0, omega arith, omega arith))
-  pop_falls run (pops.TheVariants.LoadsCell r cell at) = go (nat_lt (at + 1) 1) refl
-    where
-      go : (t : Bool) → nat_lt (at + 1) 1 ≡ t → StepLowers (popping run (pops.TheVariants.LoadsCell r cell at))
-      go true more = let less : at + 1 < 1 = grind (arith, nat_tests) in absurd (omega arith)
-      go false last_word = rw last_word (inl (load_leaves words (word_at cell at), omega arith, omega arith))
-  pop_falls run (pops.TheVariants.StoresRead r) = tt
-
-  abbrev peeking : Running (Peek ℕ OneWord) (Unit {0}) OneWord → PeekStage → QueueFlight T
-  peeking run stage = Indices (rings.Peek (record run { call = record run.call { stage = stage } }))
-
-  -- the measure falls with each step of a peek of the index queue
-  peek_falls : (run : Running (Peek ℕ OneWord) (Unit {0}) OneWord) (stage : PeekStage) → StepLowers (peeking run stage)
-  peek_falls run peeks.LoadsRead = inl (load_leaves words 1, omega arith, omega arith)
-  peek_falls run (peeks.LoadsWrite r) = go (run.call.capacity == 0 || write == r) refl
-    where
-      go : (t : Bool) → (run.call.capacity == 0 || write == r) ≡ t → StepLowers (peeking run (peeks.LoadsWrite r))
-      go true is_empty = rw is_empty tt
-      go false not_empty = rw not_empty (inl (load_leaves words 0, omega arith, omega arith))
-  peek_falls run (peeks.LoadsCell cell at) = go (nat_lt (at + 1) 1) refl
-    where
-      go : (t : Bool) → nat_lt (at + 1) 1 ≡ t → StepLowers (peeking run (peeks.LoadsCell cell at))
-      go true more = let less : at + 1 < 1 = grind (arith, nat_tests) in absurd (omega arith)
-      go false last_word = rw last_word tt
-
-  -- a push of the queue of values at a stage
-  abbrev value_pushing : Running (Push T) T (Unit {0}) → pushes.PushStage → QueueFlight T
-  value_pushing run stage = Values (rings.Push (record run { call = record run.call { stage = stage } }))
-
-  -- the measure falls with each step of a push of the queue of values, where the push stands among its cells
-  value_push_falls : (run : Running (Push T) T (Unit {0})) (c : ℕ) (stage : pushes.PushStage) → code.size ≤ 128 → c < 2 ^ 32
-      → PushStands code.size c stage → StepLowers (value_pushing run stage)
-  value_push_falls run c pushes.TheVariants.LoadsWrite few fits at = go (write == 2 ^ 64 - 1) refl
-    where
-      go : (t : Bool) → (write == 2 ^ 64 - 1) ≡ t → StepLowers (value_pushing run pushes.TheVariants.LoadsWrite)
-      go true write_greatest = rw write_greatest tt
-      go false write_below = rw write_below (inl (load_leaves words 0, omega arith, omega arith))
-  value_push_falls run c (pushes.TheVariants.LoadsRead w) few fits at = go (run.call.capacity == 0 || distance w read == run.call.capacity) refl
-    where
-      go : (t : Bool) → (run.call.capacity == 0 || distance w read == run.call.capacity) ≡ t → StepLowers (value_pushing run (pushes.TheVariants.LoadsRead w))
-      go true is_full = rw is_full tt
-      go false not_full = rw not_full (inl (load_leaves words 1, omega arith, omega arith))
-  value_push_falls run c (pushes.TheVariants.StoresCell w cell at) few fits stands = go (nat_lt (at + 1) code.size) refl
-    where
-      leaves : (new : ℕ) → LeavesAll M words (set words (word_at cell at) new)
-      leaves new = cell_leaves code.size c cell at new few fits stands.0 stands.1 stands.2
-
-      go : (t : Bool) → nat_lt (at + 1) code.size ≡ t → StepLowers (value_pushing run (pushes.TheVariants.StoresCell w cell at))
-      go true more =
-          let less : at + 1 < code.size = grind (arith, nat_tests) in
-          rw more (inr (omega arith, inl (leaves (get_or (code.words_of run.given) at 0), omega arith)))
-      go false last_word = rw last_word (inr (omega arith, inl (leaves (get_or (code.words_of run.given) at 0), omega arith)))
-  value_push_falls run c (pushes.TheVariants.StoresWrite w) few fits at = tt
-
-  abbrev value_popping : Running (Pop T (buffers.Buffer 128)) (Unit {0}) (buffers.Buffer 128) → pops.PopStage → QueueFlight T
-  value_popping run stage = Values (rings.Pop (record run { call = record run.call { stage = stage } }))
-
-  -- the measure falls with each step of a pop of the queue of values
-  value_pop_falls : (run : Running (Pop T (buffers.Buffer 128)) (Unit {0}) (buffers.Buffer 128)) (stage : pops.PopStage) → StepLowers (value_popping run stage)
-  value_pop_falls run pops.TheVariants.LoadsRead = inl (load_leaves words 1, omega arith, omega arith)
-  value_pop_falls run (pops.TheVariants.LoadsWrite r) = go (run.call.capacity == 0 || write == r) refl
-    where
-      go : (t : Bool) → (run.call.capacity == 0 || write == r) ≡ t → StepLowers (value_popping run (pops.TheVariants.LoadsWrite r))
-      go true is_empty = rw is_empty tt
-      go false not_empty = rw not_empty (inl (load_leaves words 0, omega arith, omega arith))
-  value_pop_falls run (pops.TheVariants.LoadsCell r cell at) = go (nat_lt (at + 1) code.size) refl
-    where
-      go : (t : Bool) → nat_lt (at + 1) code.size ≡ t → StepLowers (value_popping run (pops.TheVariants.LoadsCell r cell at))
-      go true more = let less : at + 1 < code.size = grind (arith, nat_tests) in rw more (inl (load_leaves words (word_at cell at), omega arith, omega arith))
-      go false last_word = rw last_word (inl (load_leaves words (word_at cell at), omega arith, omega arith))
-  value_pop_falls run (pops.TheVariants.StoresRead r) = tt
-
-  abbrev value_peeking : Running (Peek T (buffers.Buffer 128)) (Unit {0}) (buffers.Buffer 128) → PeekStage → QueueFlight T
-  value_peeking run stage = Values (rings.Peek (record run { call = record run.call { stage = stage } }))
-
-  -- the measure falls with each step of a peek of the queue of values
-  value_peek_falls : (run : Running (Peek T (buffers.Buffer 128)) (Unit {0}) (buffers.Buffer 128)) (stage : PeekStage) → StepLowers (value_peeking run stage)
-  value_peek_falls run peeks.LoadsRead = inl (load_leaves words 1, omega arith, omega arith)
-  value_peek_falls run (peeks.LoadsWrite r) = go (run.call.capacity == 0 || write == r) refl
-    where
-      go : (t : Bool) → (run.call.capacity == 0 || write == r) ≡ t → StepLowers (value_peeking run (peeks.LoadsWrite r))
-      go true is_empty = rw is_empty tt
-      go false not_empty = rw not_empty (inl (load_leaves words 0, omega arith, omega arith))
-  value_peek_falls run (peeks.LoadsCell cell at) = go (nat_lt (at + 1) code.size) refl
-    where
-      go : (t : Bool) → nat_lt (at + 1) code.size ≡ t → StepLowers (value_peeking run (peeks.LoadsCell cell at))
-      go true more = let less : at + 1 < code.size = grind (arith, nat_tests) in rw more (inl (load_leaves words (word_at cell at), omega arith, omega arith))
-      go false last_word = rw last_word tt
-
   -- the measure falls with each step of a call that stands where its kind allows
   call_falls : (kd : QueueKind) (c : ℕ) → code.size ≤ 128 → c < 2 ^ 32 → (flight : QueueFlight T) → CallStands code.size kd c flight → StepLowers flight
-  call_falls kd c few fits (Role (Acquire run)) at = tt
-  call_falls kd c few fits (Role (Release run)) at = tt
-  call_falls kd c few fits (Role (Look run)) at = tt
-  call_falls kd c few fits (Length which run) at = len_falls which run run.call.stage
-  call_falls queue_kinds.IndexQueue c few fits (Indices (rings.Push run)) at = push_falls run c run.call.stage fits at.1
-  call_falls queue_kinds.IndexQueue c few fits (Indices (rings.Pop run)) at = pop_falls run run.call.stage
-  call_falls queue_kinds.IndexQueue c few fits (Indices (rings.Peek run)) at = peek_falls run run.call.stage
-  call_falls queue_kinds.Queue c few fits (Values (rings.Push run)) at = value_push_falls run c run.call.stage few fits at.1
-  call_falls queue_kinds.Queue c few fits (Values (rings.Pop run)) at = value_pop_falls run run.call.stage
-  call_falls queue_kinds.Queue c few fits (Values (rings.Peek run)) at = value_peek_falls run run.call.stage
-  call_falls queue_kinds.Overflow c few fits (Overflow (overflows.Push run)) at = over_push_falls run run.call.stage
-  call_falls queue_kinds.Overflow c few fits (Overflow (overflows.Pop run)) at = over_pop_falls run run.call.stage
-  call_falls kd c few fits flight at = absurd at
+  call_falls = grind (arith, rest_leaves, cell_leaves, load_leaves, same_is, nat_tests)
 
 -- ---- the laws that the measure of a kind has to have
 

@@ -2,11 +2,11 @@
 -- all owners stay alive.
 use Rattle.std.proofs.Common.{arith}
 use Rattle.laws_robust.proofs.Names.{◌≡◌, ℕ, Bool, false, Option, Some, None, List, [], ◌∷◌, fold, refl, ap, ◌∙◌}
-use Rattle.laws_robust.proofs.Names.{AllByRecursion, fold-append, Answer, Event, Start, Flight, Doing, Going, Over}
-use Rattle.laws_robust.proofs.Names.{Party, Turn, dead_after, is_dead, party_of, old_of}
-use Rattle.laws_robust.proofs.Names.{number_of, ask_of_doing, step_in, events_of_step, events_of_answer}
-use Rattle.laws_robust.proofs.Names.{events_of_next, events_of_decision, events_of, ending_of, after_turn, Trace}
+use Rattle.laws_robust.proofs.Names.{AllByRecursion, fold-append, Answer, Event, Start, Flight, Going, Party, Turn}
+use Rattle.laws_robust.proofs.Names.{dead_after, is_dead, party_of, old_of, number_of, step_in, events_of_step}
+use Rattle.laws_robust.proofs.Names.{events_of, ending_of, after_turn, Trace, Next, Decide, ask_of, want_of}
 use Rattle.laws_robust.specs.Open.{open_refusal}
+use Rattle.laws_robust.proofs.OneTurn.{by_next, by_decision}
 
 module _ {T : Type 0} where
   -- the event changes no owner from alive to dead or back
@@ -36,26 +36,16 @@ module _ {T : Type 0} (t : Trace T) where
 
   module _ (steps : StepsLeave) where
     -- what a step writes leaves the owners alive
-    next_leaves : (p : ℕ) (o : Option (Party T)) → party_of p t.world.latest ≡ o → AllByRecursion Leaves (events_of_next t.world p o)
-    next_leaves p None found = tt
-    next_leaves p (Some x) found = go x.doing refl
-      where
-        -- the cases are whether the party's call is over or under way
-        go : (doing : Doing T) → x.doing ≡ doing
-            → AllByRecursion Leaves (events_of_answer t.world p x (old_of t.world.words (ask_of_doing t.world.coding doing)) doing)
-        go (Over others) same_doing = tt
-        go (Going flight since) same_doing = steps p x since flight (old_of t.world.words (ask_of_doing t.world.coding (Going flight since))) found same_doing
+    next_leaves : (p : ℕ) → AllByRecursion Leaves (events_of t.world (Next p))
+    next_leaves p =
+        by_next t.world p (λ w es. AllByRecursion Leaves es) tt (λ x flight since has.
+        steps p x since flight (old_of t.world.words (ask_of (want_of t.world.coding flight))) has.found has.doing)
 
     -- what a decision writes leaves the owners alive
-    decision_leaves : (p : ℕ) (said : Bool) (o : Option (Party T)) → party_of p t.world.latest ≡ o
-        → AllByRecursion Leaves (events_of_decision t.world p said o)
-    decision_leaves p said None found = tt
-    decision_leaves p said (Some x) found = go x.doing refl
-      where
-        -- the cases are whether the party's call is over or under way
-        go : (doing : Doing T) → x.doing ≡ doing → AllByRecursion Leaves (events_of_answer t.world p x (number_of said) doing)
-        go (Over others) same_doing = tt
-        go (Going flight since) same_doing = steps p x since flight (number_of said) found same_doing
+    decision_leaves : (p : ℕ) (said : Bool) → AllByRecursion Leaves (events_of t.world (Decide p said))
+    decision_leaves p said =
+        by_decision t.world p (λ w es. AllByRecursion Leaves es) tt said (λ x flight since has.
+        steps p x since flight (number_of said) has.found has.doing)
 
     -- what any turn of an open run writes leaves the owners alive
     turn_leaves : (turn : Turn T) → open_refusal t.world turn ≡ None → AllByRecursion Leaves (events_of t.world turn)

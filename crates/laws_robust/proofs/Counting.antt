@@ -1,8 +1,8 @@
 -- Counts of indices, in a call that comes to the indices one after another.
 use Rattle.laws_robust.proofs.Names.{◌≡◌, ◌≢◌, ℕ, zero, suc, ◌+◌, ◌*◌, ◌<◌, ◌≤◌, ◌==◌, ⊎_elim, if◌then◌else◌, Bool}
-use Rattle.laws_robust.proofs.Names.{true, false, List, ◌++◌, refl, sym, ap, subst, ◌∙◌, arith, eq-eqb, ne_eqb}
-use Rattle.laws_robust.proofs.Names.{cases_eq, Event, count_below, HeldThroughout, IsCount, BeginsNone, HeldSometime}
-use Rattle.laws_robust.proofs.Names.{held_now, held_later}
+use Rattle.laws_robust.proofs.Names.{true, false, List, ◌++◌, refl, sym, ap, ◌∙◌, arith, eq-eqb, ne_eqb, cases_eq}
+use Rattle.laws_robust.proofs.Names.{Event, count_below, HeldThroughout, IsCount, BeginsNone, HeldSometime, held_now}
+use Rattle.laws_robust.proofs.Names.{held_later}
 use Rattle.laws_robust.proofs.Past.{through_less, through_now}
 
 -- where each index takes `each`, those before `index` and that one take no more than all `c` together

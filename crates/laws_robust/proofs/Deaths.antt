@@ -22,7 +22,7 @@ died_with q o dead = let now = died_now q dead in let before = died_before q o d
 -- ---- what a death does to the set and to all parties
 
 -- `c` is the capacity, and `o` the owner who dies
-module _ {T : Type 0} (by : GoneBy) (c : ℕ) (words dead : List ℕ) (events : List (Event T)) (turns o : ℕ)
+module _ {T : Type 0} {by : GoneBy} {c : ℕ} {words dead : List ℕ} {events : List (Event T)} {turns : ℕ} (o : ℕ)
     (good : Good by c words dead events turns) (alive : is_dead o events ≡ false) where
   -- the event of the turn: the owner `o` dies
   abbrev es : List (Event T)

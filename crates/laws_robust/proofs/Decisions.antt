@@ -1,16 +1,13 @@
 -- What a decision does: a no ends a find at the index that it asked about, and a yes tells a recovery to free
 -- the index that it asked about. No other turn tells a recovery to free an index.
-use Rattle.laws_robust.proofs.Names.{◌≡◌, ◌≢◌, ℕ, Bool, true, false, Option, Some, None, is_none, List, [], ◌∷◌, ◌++◌}
-use Rattle.laws_robust.proofs.Names.{refl, ap, ◌∙◌, arith, AllByRecursion, ReleaseMode}
-use Rattle.laws_robust.proofs.Names.{RecoverStage, Answer, Event, Start}
-use Rattle.laws_robust.proofs.Names.{Robust, Flight, Registry, RobustStart, RobustFlight, Doing, Going, Over, Party}
-use Rattle.laws_robust.proofs.Names.{Turn, Next, Decide, Coding, want_of, ask_of}
-use Rattle.laws_robust.proofs.Names.{is_question, beside_of, step_of, want, after, owned_by, IsIn}
-use Rattle.laws_robust.proofs.Names.{IsStopped, FindsUpTo, ToldRight, TellsOnce, IsTold, YesTells, effects, party_of}
-use Rattle.laws_robust.proofs.Names.{doing_of, flight_of, refusal_of, is_due, call_refusal, answer_in, old_of}
-use Rattle.laws_robust.proofs.Names.{number_of, ask_of_doing, events_of_step, events_of_answer, events_of_next}
-use Rattle.laws_robust.proofs.Names.{events_of_decision, events_of, ending_of, after_turn, Trace, flight_in}
-use Rattle.laws_robust.proofs.Names.{row_passed, passes, stands_there}
+use Rattle.laws_robust.proofs.Names.{◌≡◌, ◌≢◌, ℕ, Bool, true, false, Option, Some, None, is_none, List, ◌++◌, refl}
+use Rattle.laws_robust.proofs.Names.{arith, AllByRecursion, ReleaseMode, RecoverStage, Answer, Event, Start, Robust}
+use Rattle.laws_robust.proofs.Names.{Flight, Registry, RobustStart, RobustFlight, Going, Party, Turn, Next, Decide}
+use Rattle.laws_robust.proofs.Names.{Coding, want_of, ask_of, is_question, beside_of, step_of, want, after, owned_by}
+use Rattle.laws_robust.proofs.Names.{IsIn, IsStopped, FindsUpTo, ToldRight, TellsOnce, IsTold, YesTells, effects}
+use Rattle.laws_robust.proofs.Names.{party_of, refusal_of, is_due, call_refusal, answer_in, old_of, number_of}
+use Rattle.laws_robust.proofs.Names.{events_of_step, events_of, ending_of, after_turn, Trace, flight_in, row_passed}
+use Rattle.laws_robust.proofs.Names.{passes, stands_there}
 use Rattle.steps.specs.declared.ask.Want.{Want}
 use Rattle.model.specs.declared.families.Flight.TheVariants as flights
 use Rattle.model.specs.declared.families.Registry.TheVariants as registries
@@ -23,16 +20,12 @@ use Rattle.laws_robust.proofs.Sound.{scene_of, raise_asks_none, lock_asks_none}
 use Rattle.laws_robust.proofs.Stages.{all, now, any_call}
 use Rattle.laws_robust.proofs.CallProgress.{recover_at, At}
 use Rattle.laws_robust.proofs.Written.{effects_hold}
+use Rattle.laws_robust.proofs.OneTurn.{by_next, by_decision}
+use Rattle.laws_robust.proofs.Lists.{all_both}
 
 -- only a question asks about an index of an owner
 asks_owned : (w : Want (Unit {0})) (index owner : ℕ) → owned_by w ≡ Some (index, owner) → is_question w ≡ true
 asks_owned w index owner owned_is = grind arith
-
-module _ {T : Type 0} where
-  -- what holds of each event of two lists holds of each event of both together
-  pub joined : (P : Event T → Type 0) (xs ys : List (Event T)) → AllByRecursion P xs → AllByRecursion P ys → AllByRecursion P (xs ++ ys)
-  joined P [] ys all_hold rest_hold = rest_hold
-  joined P (x ∷ xs) ys all_hold rest_hold = (all_hold.0, joined P xs ys all_hold.1 rest_hold)
 
 -- `c` is the capacity, `t` the run so far, and `s` says that the invariant holds after it
 module _ {T : Type 0} (code : Coding T) (c : ℕ) {t : Trace T} (s : frame.Sound (family code c) t) where
@@ -134,7 +127,7 @@ module _ {T : Type 0} (code : Coding T) (c : ℕ) {t : Trace T} (s : frame.Sound
     -- what the step of a call that stands in the machine writes is right
     step_right : (start : Start T) (flight : Flight T) → (family code c).At s.state q start flight
         → flight_in t.world q ≡ Some flight → ByYes flight → Right (writes q answer own start flight)
-    step_right = grind (arith, joined, effects, effects_hold, asks_owned, want, end_right, after)
+    step_right = grind (arith, all_both, effects, effects_hold, asks_owned, want, end_right, after)
 
     -- what the step of the party's call writes is right
     flight_right : (x : Party T) (since : ℕ) (flight : Flight T) → party_of q t.world.latest ≡ Some x
@@ -142,36 +135,22 @@ module _ {T : Type 0} (code : Coding T) (c : ℕ) {t : Trace T} (s : frame.Sound
     flight_right = grind (arith, stands_there, family, same_kept, step_right)
 
   -- each `Told` that a step writes is right
-  next_right : (q : ℕ) → is_due t.world.coding (flight_in t.world q) ≡ false → (o : Option (Party T))
-      → party_of q t.world.latest ≡ o → AllByRecursion (ToldRight t (Next q)) (events_of_next t.world q o)
-  next_right q free None found = tt
-  next_right q free (Some x) found = go x.doing refl
-    where
-      -- the cases are whether the party's call is over or under way
-      go : (doing : Doing T) → x.doing ≡ doing
-          → AllByRecursion (ToldRight t (Next q))
-          (events_of_answer t.world q x (old_of t.world.words (ask_of_doing t.world.coding doing)) doing)
-      go (Over others) same_doing = tt
-      go (Going flight since) same_doing =
-          let here : flight_in t.world q ≡ Some flight = ap (λ o. flight_of (doing_of o)) found ∙ ap (λ d. flight_of (Some d)) same_doing in
-          let asks : is_question (want_of t.world.coding flight) ≡ false = rw here at free in
-          flight_right (Next q) q (old_of t.world.words (ask_of (want_of t.world.coding flight))) x since flight found same_doing (λ due some. absurd (cc))
+  next_right : (q : ℕ) → is_due t.world.coding (flight_in t.world q) ≡ false → AllByRecursion (ToldRight t (Next q)) (events_of t.world (Next q))
+  next_right q free =
+      by_next t.world q (λ w es. AllByRecursion (ToldRight t (Next q)) es) tt (λ x flight since has.
+      let asks : is_question (want_of t.world.coding flight) ≡ false = rw has.here at free in
+      flight_right (Next q) q (old_of t.world.words (ask_of (want_of t.world.coding flight))) x since flight has.found has.doing (λ due some. absurd (cc)))
 
   -- each `Told` that a decision writes is right
-  decision_right : (q : ℕ) (said : Bool) (o : Option (Party T)) → party_of q t.world.latest ≡ o
-      → AllByRecursion (ToldRight t (Decide q said)) (events_of_decision t.world q said o)
-  decision_right q said None found = tt
-  decision_right q said (Some x) found = go x.doing refl
+  decision_right : (q : ℕ) (said : Bool) → AllByRecursion (ToldRight t (Decide q said)) (events_of t.world (Decide q said))
+  decision_right q said =
+      by_decision t.world q (λ w es. AllByRecursion (ToldRight t (Decide q said)) es) tt said (λ x flight since has.
+      flight_right (Decide q said) q (number_of said) x since flight has.found has.doing (λ due some. by said some))
     where
       -- only a yes is a number other than 0
       by : (b : Bool) → number_of b ≢ 0 → ◌≡◌ {A = Turn T} (Decide q b) (Decide q true)
       by true some = refl
       by false some = absurd (some refl)
-
-      -- the cases are whether the party's call is over or under way
-      go : (doing : Doing T) → x.doing ≡ doing → AllByRecursion (ToldRight t (Decide q said)) (events_of_answer t.world q x (number_of said) doing)
-      go (Over others) same_doing = tt
-      go (Going flight since) same_doing = flight_right (Decide q said) q (number_of said) x since flight found same_doing (λ due some. by said some)
 
   -- no decision is due in a step
   not_due : (q : ℕ) → call_refusal t.world (Next q) ≡ None → is_due t.world.coding (flight_in t.world q) ≡ false

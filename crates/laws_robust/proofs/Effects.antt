@@ -307,7 +307,7 @@ module _ {T : Type 0} (scene : Scene T) where
     -- ---- an index is filled
 
     -- the step stores the owner into the empty cell of `i`, while the set was open at a moment of the call
-    module _ (words' : List ℕ) (i owner : ℕ) (below : i < c) (fits : owner < empty)
+    module _ {words' : List ℕ} {i owner : ℕ} (below : i < c) (fits : owner < empty)
         (none : filled_of i events ≡ None) (alive : is_dead owner events ≡ false)
         (was_open : HeldSometime p IsUnlocked events)
         (new : words' ≡ set ws (cell_word i) owner) where

@@ -2,15 +2,13 @@
 -- `IsCount` (a count over the whole set) holds of its number.
 use Rattle.laws_robust.proofs.Names.{◌≡◌, ◌≢◌, ℕ, ◌^◌, ◌-◌, ◌<◌, Bool, true, false, Option, Some, None, List, [], ◌∷◌}
 use Rattle.laws_robust.proofs.Names.{◌++◌, refl, sym, ap, subst, ◌∙◌, arith, append_cancel_left, AllByRecursion}
-use Rattle.laws_robust.proofs.Names.{After, GoOn, Done, FindStage, empty, went_on, Answer, Number, Event}
-use Rattle.laws_robust.proofs.Names.{Finished, Start, Robust, Flight, Registry, RobustStart, RobustFlight, Doing}
-use Rattle.laws_robust.proofs.Names.{Going, Over, Party, Turn, Begin, Next, Decide, Die, Coding, want_of, ask_of}
-use Rattle.laws_robust.proofs.Names.{is_question, beside_of, step_of, want, after, IsCount, IsFilledWith, FindsAll}
-use Rattle.laws_robust.proofs.Names.{effects, as_it_is, party_of, doing_of, flight_of, IsParty, IsEffectOf}
-use Rattle.laws_robust.proofs.Names.{refusal_of, is_due, call_refusal, as_call, answer_in, old_of, number_of}
-use Rattle.laws_robust.proofs.Names.{events_of_step, events_of_answer, events_of_next, events_of_decision, events_of}
-use Rattle.laws_robust.proofs.Names.{ask_of_doing, ending_of, after_turn, World, Trace, flight_in, passes}
-use Rattle.laws_robust.proofs.Names.{must_be_due, StandsThere, stands_there}
+use Rattle.laws_robust.proofs.Names.{After, GoOn, Done, FindStage, empty, went_on, Answer, Number, Event, Finished}
+use Rattle.laws_robust.proofs.Names.{Start, Robust, Flight, Registry, RobustStart, RobustFlight, Going, Party, Turn}
+use Rattle.laws_robust.proofs.Names.{Begin, Next, Decide, Die, Coding, want_of, ask_of, is_question, beside_of}
+use Rattle.laws_robust.proofs.Names.{step_of, want, after, IsCount, IsFilledWith, FindsAll, effects, as_it_is}
+use Rattle.laws_robust.proofs.Names.{party_of, IsParty, IsEffectOf, refusal_of, is_due, call_refusal, as_call}
+use Rattle.laws_robust.proofs.Names.{answer_in, old_of, number_of, events_of_step, events_of, ending_of, after_turn}
+use Rattle.laws_robust.proofs.Names.{World, Trace, flight_in, passes, must_be_due, StandsThere, stands_there}
 use Rattle.steps.specs.declared.indices.robust.find.Find as find_calls
 use Rattle.model.specs.declared.families.Flight.TheVariants as flights
 use Rattle.model.specs.declared.families.Registry.TheVariants as registries
@@ -25,6 +23,8 @@ use Rattle.laws_robust.specs.Gone.{Death}
 use Rattle.laws_robust.proofs.Sound.{scene_of, inv_of, is_there}
 use Rattle.laws_robust.proofs.Stages.{all, now, any_call}
 use Rattle.laws_robust.proofs.Written.{all_effects}
+use Rattle.laws_robust.proofs.OneTurn.{by_next, by_decision}
+use Rattle.laws_robust.proofs.Cases.{by_bool}
 
 -- A turn in which the call of the party `q` gets an answer; the question is whether it ended a find of the
 -- party `p` for this owner with this number.
@@ -212,47 +212,25 @@ module _ {T : Type 0} where
 
     -- where a step wrote only that the find has ended, the find has counted over the whole set
     next_tells : (q : ℕ) → t.world.turns < 2 ^ 64 - 2 → is_due t.world.coding (flight_in t.world q) ≡ false
-        → (o : Option (Party T)) → party_of q t.world.latest ≡ o → Ended (events_of_next t.world q o)
-        → IsCount p (IsFilledWith owner) c number t.events
-    next_tells q small free None found ended = absurd (cc)
-    next_tells q small free (Some x) found ended = go x.doing refl ended
-      where
-        -- the cases are whether the party's call is over or under way
-        go : (doing : Doing T) → x.doing ≡ doing
-            → Ended (events_of_answer t.world q x (old_of t.world.words (ask_of_doing t.world.coding doing)) doing)
-            → IsCount p (IsFilledWith owner) c number t.events
-        go (Over others) same_doing ended = absurd (cc)
-        go (Going flight since) same_doing ended =
-            let here : flight_in t.world q ≡ Some flight = ap (λ o. flight_of (doing_of o)) found ∙ ap (λ d. flight_of (Some d)) same_doing in
-            all_counted (handed q small found since (Next q) refl (old_of t.world.words (ask_of (want_of t.world.coding flight)))) same_doing ended false
-            (λ told. absurd (cc)) (rw here at free) (λ no. refl)
+        → Ended (events_of t.world (Next q)) → IsCount p (IsFilledWith owner) c number t.events
+    next_tells q small free =
+        by_next t.world q (λ w es. Ended es → IsCount p (IsFilledWith owner) c number t.events) (λ ended. absurd (cc)) (λ x flight since has ended.
+        all_counted (handed q small has.found since (Next q) refl (old_of t.world.words (ask_of (want_of t.world.coding flight))))
+        has.doing ended false (λ told. absurd (cc)) (rw has.here at free) (λ no. refl))
 
     -- where a decision other than a no to the find's party wrote only the end of the find, the find has
     -- counted over the whole set
     decision_tells : (q : ℕ) (said : Bool) → t.world.turns < 2 ^ 64 - 2
         → is_due t.world.coding (flight_in t.world q) ≡ true → ◌≢◌ {A = Turn T} (Decide q said) (Decide p false)
-        → (o : Option (Party T))
-        → party_of q t.world.latest ≡ o → Ended (events_of_decision t.world q said o) → IsCount p (IsFilledWith owner) c number t.events
-    decision_tells q said small due ne None found ended = absurd (cc)
-    decision_tells q said small due ne (Some x) found ended = go x.doing refl ended
-      where
-        -- the cases are whether the party's call is over or under way
-        go : (doing : Doing T) → x.doing ≡ doing → Ended (events_of_answer t.world q x (number_of said) doing)
-            → IsCount p (IsFilledWith owner) c number t.events
-        go (Over others) same_doing ended = absurd (cc)
-        go (Going flight since) same_doing ended = by said refl
-          where
-            -- the cases are whether the decision was yes
-            by : (b : Bool) → said ≡ b → IsCount p (IsFilledWith owner) c number t.events
-            by true said_is =
-                let here : flight_in t.world q ≡ Some flight =
-                ap (λ o. flight_of (doing_of o)) found ∙ ap (λ d. flight_of (Some d)) same_doing in
-                all_counted (handed q small found since (Decide q said) refl (number_of said)) same_doing ended true
-                (λ told zero. let one : number_of said ≡ 1 = ap number_of said_is in absurd (omega arith))
-                (rw here at due) (λ no. absurd (cc))
-            by false said_is =
-                let party = own_party (handed q small found since (Decide q said) refl (number_of said)) same_doing ended in
-                absurd (ne (ap (λ n. Decide n said) party ∙ ap (λ b. Decide p b) said_is))
+        → Ended (events_of t.world (Decide q said)) → IsCount p (IsFilledWith owner) c number t.events
+    decision_tells q said small due ne =
+        by_decision t.world q (λ w es. Ended es → IsCount p (IsFilledWith owner) c number t.events) (λ ended. absurd (cc)) said
+        (λ x flight since has ended.
+        let answered = handed q small has.found since (Decide q said) refl (number_of said) in
+        by_bool said
+        (λ said_is. all_counted answered has.doing ended true
+        (λ told zero. let one : number_of said ≡ 1 = ap number_of said_is in absurd (omega arith)) (rw has.here at due) (λ no. absurd (cc)))
+        (λ said_is. absurd (ne (ap (λ n. Decide n said) (own_party answered has.doing ended) ∙ ap (λ b. Decide p b) said_is))))
 
   -- no decision is due in a step
   not_due : (w : World T) (q : ℕ) → call_refusal w (Next q) ≡ None → is_due w.coding (flight_in w q) ≡ false
@@ -266,11 +244,11 @@ module _ {T : Type 0} where
   tells code c t (Begin q start) not_refused sound p owner number events_are ne = absurd (cc)
   tells code c t (Next q) not_refused sound p owner number events_are ne =
       next_tells code c t sound p owner number q (passes t.world (Next q) not_refused).turns
-      (not_due t.world q (passes t.world (Next q) not_refused).on) (party_of q t.world.latest) refl events_are
+      (not_due t.world q (passes t.world (Next q) not_refused).on) events_are
   tells code c t (Decide q said) not_refused sound p owner number events_are ne =
       decision_tells code c t sound p owner number q said (passes t.world (Decide q said) not_refused).turns
       (frame.is_true (is_due t.world.coding (flight_in t.world q)) (must_be_due t.world q said (passes t.world (Decide q said) not_refused).on))
-      ne (party_of q t.world.latest) refl events_are
+      ne events_are
   tells code c t (Die o) not_refused sound p owner number events_are ne = absurd (cc)
 
   -- each find that ends in a turn other than a no to its party has counted over the whole set

@@ -3,7 +3,7 @@ use Rattle.laws_robust.proofs.Names.{◌≡◌, ℕ, ◌<◌, ◌≤◌, nat_le,
 use Rattle.laws_robust.proofs.Names.{option_map, List, [], ◌∷◌, ◌++◌, refl, sym, ◌∙◌, arith, nat_tests, empty, Event}
 use Rattle.laws_robust.proofs.Names.{Begun, Start, Robust, Flight, Registry, RobustStart, RobustFlight, BadIndex}
 use Rattle.laws_robust.proofs.Names.{OwnerIsDead, first_of, first, has_died, is_owner, names_owner, call_rows}
-use Rattle.laws_robust.proofs.Names.{IsFilledWith, SetAct, Yes, settled_of, set_acts_of, IsOneOf, first_row, no_more}
+use Rattle.laws_robust.proofs.Names.{IsFilledWith, SetAct, settled_of, set_acts_of, IsOneOf, first_row, no_more}
 use Rattle.laws_robust.proofs.Names.{row_passed}
 use Rattle.model.specs.declared.families.Flight.TheVariants as flights
 use Rattle.model.specs.declared.families.indices.robust.RobustStart.TheVariants as starts

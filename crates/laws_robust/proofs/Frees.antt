@@ -30,7 +30,7 @@ module _ {T : Type 0} (scene : Scene T) (inv : Inv scene) where
 
   -- the step empties the cell of the index `i`, which is filled with the owner, and no other living owner's
   -- call may give it back
-  module _ (words' : List ℕ) (i owner : ℕ) (below : i < c) (filled : filled_of i events ≡ Some owner) (lives : LivesToRelease owner events (span_of p events))
+  module _ {words' : List ℕ} {i owner : ℕ} (below : i < c) (filled : filled_of i events ≡ Some owner) (lives : LivesToRelease owner events (span_of p events))
       (mine : IsCalm by (events ++ free i owner) → (q : ℕ) → q ≢ p → (o : ℕ) → is_gone by o events ≡ false → IsBy q i o events → ⊥)
       (unsettled : IsCalm by (events ++ free i owner) → (o : ℕ) → is_gone by o events ≡ false → settled_of i events ≡ Some o → ⊥)
       (new : words' ≡ set ws (cell_word i) empty) where

@@ -150,7 +150,7 @@ module _ {T : Type 0} (acquiring : Acquiring T) where
       fills_cell cell_empty =
           let free = filled_none scene inv i below cell_empty in
           let new : words_after ws exchange ≡ set ws (cell_word i) owner = exchange_sets ws (cell_word i) empty owner cell_empty in
-          caller.filled i exchange new (fills scene inv (words_after ws exchange) i owner below fits free alive knows.says.0 new) below none
+          caller.filled i exchange new (fills scene inv below fits free alive knows.says.0 new) below none
           (record {
             paid = omega arith;
             scanned = tt;

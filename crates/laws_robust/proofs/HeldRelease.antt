@@ -141,7 +141,7 @@ module _ {T : Type 0} (releasing : Releasing T) where
       empties cell_is =
           let new : words_after ws exchange ≡ set ws (cell_word index) empty = exchange_sets ws (cell_word index) owner empty cell_is in
           caller.freed exchange new
-          (frees scene inv (words_after ws exchange) index owner below
+          (frees scene inv below
           (filled_by scene inv index below owner fits cell_is) lives mine unsettled new)
           none
           (record { paid = let paid = knows.paid in omega arith; scanned = tt; owns = tt; says = tt; gone = tt }) (omega arith)

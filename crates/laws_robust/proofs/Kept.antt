@@ -1,9 +1,8 @@
 -- The invariant gives what a robust index set promises of its events; and how many steps and turns back a
 -- call has at most.
-use Rattle.laws_robust.proofs.Names.{◌≡◌, ℕ, ◌+◌, ◌-◌, ◌*◌, ◌≤◌, Option, List, sym, ap, subst}
-use Rattle.laws_robust.proofs.Names.{◌∙◌, arith, ReleaseMode, LockIfLastIndex, AcquireStage, FindStage}
-use Rattle.laws_robust.proofs.Names.{Count, Lock, RecoverStage, ReleaseStage, RobustStart, RobustFlight}
-use Rattle.laws_robust.proofs.Names.{Coding, most_steps, KeepsDead, IsRobustSet, SetAct}
+use Rattle.laws_robust.proofs.Names.{◌≡◌, ℕ, ◌+◌, ◌-◌, ◌*◌, ◌≤◌, Option, List, ap, ◌∙◌, arith, ReleaseMode}
+use Rattle.laws_robust.proofs.Names.{LockIfLastIndex, AcquireStage, FindStage, Count, Lock, RecoverStage}
+use Rattle.laws_robust.proofs.Names.{ReleaseStage, RobustStart, RobustFlight, Coding, most_steps, IsRobustSet, SetAct}
 use Rattle.laws_robust.proofs.Names.{Trace}
 use Rattle.model.specs.declared.families.indices.robust.RobustStart.TheVariants as starts
 use Rattle.model.proofs.Frame as frame

@@ -19,6 +19,7 @@ pub mod Held
 pub mod HeldRelease
 pub mod Invariant
 pub mod Justified
+pub mod Lists
 pub mod Kept
 pub mod Knows
 pub mod Living
@@ -28,11 +29,11 @@ pub mod Looks
 pub mod Measured
 pub mod Opening
 pub mod OpenRuns
+pub mod OneTurn
 pub mod Parts
 pub mod Past
 pub mod RecoverSteps
 pub mod Recovers
-pub mod RecoverFrees
 pub mod Releases
 pub mod Rights
 pub mod Room

@@ -11,7 +11,7 @@ use Rattle.model.proofs.Frame as frame
 use Rattle.laws_robust.specs.Gone.{Word}
 use Rattle.laws_robust.proofs.Alive.{Leaves, AllLive, StepsLeave, end_leaves}
 use Rattle.laws_robust.proofs.Invariant.{family_by}
-use Rattle.laws_robust.proofs.Decisions.{joined}
+use Rattle.laws_robust.proofs.Lists.{all_both}
 use Rattle.laws_robust.proofs.Written.{effects_hold}
 
 -- `c` is the capacity, `t` the run so far, and `s` says that the invariant holds after it
@@ -27,7 +27,7 @@ module _ {T : Type 0} (code : Coding T) (c : ℕ) (t : Trace T) (s : frame.Sound
     -- what the step of a call writes kills no owner
     step_leaves : (start : Start T) (flight : Flight T) → (family_by Word code c).At s.state p start flight
         → AllByRecursion Leaves (writes (registries.Owners s.state.dead) start flight)
-    step_leaves = grind (arith, joined, effects, effects_hold, end_leaves, after)
+    step_leaves = grind (arith, all_both, effects, effects_hold, end_leaves, after)
 
   -- the machine keeps the owners that died, as the set has them
   same_kept : t.world.kept ≡ registries.Owners s.state.dead

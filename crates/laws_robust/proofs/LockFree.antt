@@ -1,7 +1,7 @@
 -- A robust index set in which no call may lock is lock-free: each call has a measure that
 -- falls with its steps.
-use Rattle.std.proofs.Common.{◌≡◌, ℕ, ◌+◌, ◌-◌, ◌*◌, ◌≤◌, ◌==◌, Bool, true, false, cond}
-use Rattle.std.proofs.Common.{Option, Some, None, List, get_or, refl, arith}
+use Rattle.std.proofs.Common.{◌≡◌, ℕ, ◌+◌, ◌-◌, ◌*◌, ◌≤◌, ◌==◌, Bool, true, false, cond, Option, Some, None, List}
+use Rattle.std.proofs.Common.{get_or, refl, arith}
 use Rattle.steps.specs.declared.indices.robust.acquire.AcquireStage.{AcquireStage}
 use Rattle.steps.specs.declared.indices.robust.acquire.AcquireStage.TheVariants as acquires
 use Rattle.steps.specs.declared.indices.robust.find.FindStage.{FindStage}
@@ -25,7 +25,8 @@ use Rattle.model.specs.declared.turn.Kind.TheVariants as kinds
 use Rattle.model.specs.declared.turn.Refusal.{Refusal}
 use Rattle.model.specs.declared.turn.Turn.{Turn}
 use Rattle.model.specs.Coding.{Coding}
-use Rattle.model.specs.Families.{first_of, want_of, after_of, goes_of, step_of, is_question, kept_after_begin, kept_after_death}
+use Rattle.model.specs.Families.{first_of, want_of, after_of, goes_of, step_of, is_question, kept_after_begin}
+use Rattle.model.specs.Families.{kept_after_death}
 use Rattle.model.specs.LockFree.{KeepsEndingOf, IsDefault, default_bound}
 use Rattle.model.specs.Refusals.{call_refusal}
 use Rattle.model.specs.Turns.{number_of}
@@ -35,8 +36,9 @@ use Rattle.model.proofs.LockFree.Own.{TableLaws, by_table, OwnAfter, keeps_endin
 use Rattle.model.proofs.LockFree.Weighed.{KeepsEndingBy}
 use Rattle.model.proofs.Rows.{IsPossible, possible_on}
 use Rattle.laws_robust.proofs.Opening.{admitted_is}
-use Rattle.laws_robust.proofs.Measured.{raise_left, acquire_left, find_left, recover_left, count_left, release_left, recover_pays, left_at, pays, measure}
-use Rattle.laws_robust.proofs.Measured.{At, Kept, outline, call_falls, call_decides}
+use Rattle.laws_robust.proofs.Measured.{raise_left, acquire_left, find_left, recover_left, count_left, release_left}
+use Rattle.laws_robust.proofs.Measured.{recover_pays, left_at, pays, measure, At, Kept, outline, call_falls}
+use Rattle.laws_robust.proofs.Measured.{call_decides, AreOfSet, CallStands}
 
 -- ---- the laws that the measure has to have
 
@@ -102,6 +104,26 @@ module _ (c : ℕ) (some : 1 ≤ c) where
   most now (flights.Robust (calls.IsLocked run)) = (omega arith, omega arith)
   most now flight = (omega arith, omega arith)
 
+-- ---- what a step and a death leave
+
+-- the calls of the set stand as `Stands` says
+module _ {T : Type 0} (code : Coding T) (Stands : RobustFlight → Type 0) where
+  -- a step leaves the registry one of owners
+  pub stays : (words : List ℕ) (beside : Option (ℕ × ℕ)) (p : ℕ) (start : Start T) (flight : Flight T) (old : ℕ) (kept : Registry T)
+      → AreOfSet Stands start flight → Kept kept → Kept (step_of code words beside p start flight old kept).kept
+  stays = grind arith
+
+  -- what a step leaves of the call is what the call computes
+  pub told : (words : List ℕ) (beside : Option (ℕ × ℕ)) (p : ℕ) (start : Start T) (flight : Flight T) (old : ℕ) (kept : Registry T)
+      → AreOfSet Stands start flight → Kept kept
+      → ((step_of code words beside p start flight old kept).after ≡ after_of code flight old)
+      × (goes_of code p flight old kept ≡ after_of code flight old)
+  told = grind arith
+
+-- a death leaves the registry one of owners
+pub dies : {T : Type 0} (kept : Registry T) (owner : ℕ) → Kept kept → Kept (kept_after_death kept owner)
+dies = grind arith
+
 -- the measure falls with each step, and with each decision
 module _ {T : Type 0} (code : Coding T) (c : ℕ) where
   -- the measure falls with each step of a call that stands where it may
@@ -125,22 +147,6 @@ module _ {T : Type 0} (code : Coding T) (c : ℕ) where
       → At code c start flight × ((p : ℕ) → Kept (kept_after_begin code c start p kept))
   begins = grind arith
 
-  -- a step leaves the registry one of owners
-  stays : (words : List ℕ) (beside : Option (ℕ × ℕ)) (p : ℕ) (start : Start T) (flight : Flight T) (old : ℕ) (kept : Registry T)
-      → At code c start flight → Kept kept → Kept (step_of code words beside p start flight old kept).kept
-  stays = grind arith
-
-  -- what a step leaves of the call is what the call computes
-  told : (words : List ℕ) (beside : Option (ℕ × ℕ)) (p : ℕ) (start : Start T) (flight : Flight T) (old : ℕ) (kept : Registry T)
-      → At code c start flight → Kept kept
-      → ((step_of code words beside p start flight old kept).after ≡ after_of code flight old)
-      × (goes_of code p flight old kept ≡ after_of code flight old)
-  told = grind arith
-
-  -- a death leaves the registry one of owners
-  dies : (kept : Registry T) (owner : ℕ) → Kept kept → Kept (kept_after_death kept owner)
-  dies = grind arith
-
   -- the measure has the laws that are asked of one, for the calls that do not lock, at each
   -- capacity that is admitted
   laws : capacity_error kinds.Robust c ≡ None → TableLaws outline code c
@@ -149,9 +155,9 @@ module _ {T : Type 0} (code : Coding T) (c : ℕ) where
         opens = tt;
         known = λ p kept flight. tt;
         begins = begins;
-        stays = stays;
+        stays = stays code (CallStands c);
         goes = goes;
-        told = told;
+        told = told code (CallStands c);
         dies = dies;
         decides = decides;
         most = λ words start flight at. (let may = admitted_is c admitted in most c may.0 (get_or words 0 0) flight);

@@ -24,7 +24,7 @@ module _ {T : Type 0} (scene : Scene T) (inv : Inv scene) where
 
   -- the step sets the counter to locked, while nobody holds an index; `more` is the end of its call behind
   -- the lock, if any
-  module _ (words' : List ℕ) (more : List (Event T)) (quiet : Quiet more) (own : AreOwn p more) (right : AreRight (SetDoes c) (events ++ Locked p ∷ []) more)
+  module _ {words' : List ℕ} {more : List (Event T)} (quiet : Quiet more) (own : AreOwn p more) (right : AreRight (SetDoes c) (events ++ Locked p ∷ []) more)
       (answers : AreRight (AnswersBy by (IsWorn by words') c) (events ++ Locked p ∷ []) more)
       (none : IsCalm by events → (i : ℕ) → holder_of i events ≡ None) (less : counter_of ws < greatest)
       (new : words' ≡ set ws 0 locked) where

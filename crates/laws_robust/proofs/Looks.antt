@@ -29,7 +29,7 @@ module _ {T : Type 0} {scene : Scene T} (inv : Inv scene) where
 
   -- what the count says: none is counted before the first index, an empty cell adds none, and
   -- a filled cell adds one
-  said : IsSaid scene inv (Borrowed (now scene))
+  pub said : IsSaid scene inv (Borrowed (now scene))
   said =
       record {
         none = count_none p IsFilled events;

@@ -162,9 +162,13 @@ module _ {T : Type 0} where
   abbrev pub measure : ℕ → WordMeasure T
   measure c = record { left = λ words flight. left_at c (get_or words 0 0) flight; pays = pays c; alone = 4 * c + 1; changes = c }
 
+  -- the begin and the call are of a robust index set, and the call stands so
+  abbrev pub AreOfSet : (RobustFlight → Type 0) → Start T → Flight T → Type 0
+  AreOfSet Stands (starts.Robust start) (flights.Robust flight) = Stands flight
+  AreOfSet Stands start flight = ⊥
+
   abbrev pub At : Coding T → ℕ → Start T → Flight T → Type 0
-  At code c (starts.Robust start) (flights.Robust flight) = CallStands c flight
-  At code c start flight = ⊥
+  At code c start flight = AreOfSet (CallStands c) start flight
 
   abbrev pub Kept : Registry T → Type 0
   Kept (registries.Owners dead) = Unit {0}

@@ -16,7 +16,7 @@ pub use Rattle.model.proofs.Names.{kept_after_begin, kept_after_death, length, l
 pub use Rattle.model.proofs.Names.{lock_goes_back, lock_want, nat_lt, nat_tests, ne_eqb, not, number_of, old_of, one_if}
 pub use Rattle.model.proofs.Names.{one_more, opening, option_map, own_after, party_after, party_at_begin, party_of}
 pub use Rattle.model.proofs.Names.{raise_after, raise_want, refl, refusal_of, replicate, set, set-get_or, set_acts}
-pub use Rattle.model.proofs.Names.{set_acts_of, slice_index, span_of, step_count, step_in, step_of, subst, suc, sym}
+pub use Rattle.model.proofs.Names.{set_acts_of, span_of, step_count, step_in, step_of, subst, suc, sym}
 pub use Rattle.model.proofs.Names.{true, want_of, went_on, words_after, world_after, wrote_in, zero, ℕ, ⊎_elim, ◌&&◌}
 pub use Rattle.model.proofs.Names.{◌*◌, ◌++◌, ◌+◌, ◌-◌, ◌<◌, ◌==◌, ◌^◌, ◌||◌, ◌∙◌, ◌∷◌, ◌≡◌, ◌≢◌, ◌≤◌, ◌⊎◌}
 pub use Rattle.model.proofs.Readings.{AllFollow, AreOwn, AreRight, Each-append, Each-less, Each-nil, Earlier, Last, SplitAt}
@@ -42,7 +42,7 @@ pub use Rattle.model.specs.Families.Indices.Robust.Steps.{acquire_effects, effec
 pub use Rattle.model.specs.Families.Indices.Robust.Steps.{release_effects}
 pub use Rattle.model.specs.Parties.{put}
 pub use Rattle.model.specs.declared.event.Answer.{Answer}
-pub use Rattle.model.specs.declared.event.Answer.TheVariants.{Index, NoIndex, NotOwned, Number, State, Truth}
+pub use Rattle.model.specs.declared.event.Answer.TheVariants.{Index, NoIndex, NotOwned, Number, State}
 pub use Rattle.model.specs.declared.event.Event.{Event}
 pub use Rattle.model.specs.declared.event.Event.TheVariants.{Asked, Begun, Died, Filled, Finished, FreedOf, Granted}
 pub use Rattle.model.specs.declared.event.Event.TheVariants.{Locked, Told}

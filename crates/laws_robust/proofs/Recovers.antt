@@ -1,15 +1,15 @@
 -- The steps of a recovery of the robust set that load the counter or a cell, and its end. Each keeps the
 -- invariant, in the form that the frame asks of a turn (`Shows`, Invariant).
 use Rattle.laws_robust.proofs.Names.{◌≡◌, ◌≢◌, ℕ, ◌+◌, ◌*◌, ◌<◌, ◌≤◌, ◌==◌, ◌⊎◌, ⊎_elim, inl, inr, if◌then◌else◌}
-use Rattle.laws_robust.proofs.Names.{nat_lt, Bool, true, false, Option, Some, List, [], ◌∷◌, ◌++◌, refl, sym}
-use Rattle.laws_robust.proofs.Names.{subst, ◌∙◌, arith, AllByRecursion, cases_lt, nat_tests, fold-append, Ask}
-use Rattle.laws_robust.proofs.Names.{After, GoOn, Done, ReleaseMode, LockIfLastIndex, Default, ReleaseState, Lock}
-use Rattle.laws_robust.proofs.Names.{RecoverStage, cell_word, empty, locked, at_recover, recover_comes_to, by_test}
-use Rattle.laws_robust.proofs.Names.{went_on, State, Event, Asked, Finished, Robust, most_steps, promise, IsUnlocked}
-use Rattle.laws_robust.proofs.Names.{HeldThroughout, StillToFree, SetAct, Frees, Asks, Yes, set_acts, asked_in}
-use Rattle.laws_robust.proofs.Names.{filled_of, set_acts_of, IsOneOf, as_it_is, BeginsNone}
-use Rattle.laws_robust.proofs.Names.{HeldSometime, Stands, Open, as_call, words_after, step_count, held_now}
-use Rattle.laws_robust.proofs.Names.{held_later, no_more, AllFollow, AreRight}
+use Rattle.laws_robust.proofs.Names.{nat_lt, Bool, true, false, Option, Some, List, [], ◌∷◌, ◌++◌, refl, sym, subst}
+use Rattle.laws_robust.proofs.Names.{◌∙◌, arith, AllByRecursion, cases_lt, nat_tests, fold-append, Ask, After, GoOn}
+use Rattle.laws_robust.proofs.Names.{Done, ReleaseMode, LockIfLastIndex, Default, ReleaseState, Lock, RecoverStage}
+use Rattle.laws_robust.proofs.Names.{cell_word, empty, locked, at_recover, recover_comes_to, by_test, went_on, State}
+use Rattle.laws_robust.proofs.Names.{Event, Asked, Finished, Robust, most_steps, promise, IsUnlocked, HeldThroughout}
+use Rattle.laws_robust.proofs.Names.{StillToFree, SetAct, Frees, Asks, Yes, set_acts, asked_in, filled_of}
+use Rattle.laws_robust.proofs.Names.{set_acts_of, IsOneOf, as_it_is, BeginsNone, HeldSometime, Stands, Open, as_call}
+use Rattle.laws_robust.proofs.Names.{words_after, step_count, held_now, held_later, no_more, AllFollow, AreRight, ap}
+use Rattle.laws_robust.proofs.Names.{append-nil, index_asked}
 use Rattle.steps.specs.declared.indices.enums.ReleaseState.TheVariants as states
 use Rattle.steps.specs.declared.indices.robust.recover.Recover as calls
 use Rattle.steps.specs.declared.indices.robust.recover.RecoverStage.TheVariants as recovers
@@ -17,19 +17,19 @@ use Rattle.model.specs.declared.families.indices.robust.RobustStart.TheVariants.
 use Rattle.model.specs.declared.families.indices.robust.calls.RobustFlight.TheVariants as flights
 use Rattle.laws_robust.specs.Gone.{is_gone, IsHonestBy, AsksBy, AnswersBy}
 use Rattle.laws_robust.proofs.Core.{counter_of, cell}
-use Rattle.laws_robust.proofs.SetActs.{still_one, last_one, was_one, all_so, asks_more, FreedWereAsked, freed_more}
-use Rattle.laws_robust.proofs.Effects.{Stays, some_none, one_owner, quiet_asked}
-use Rattle.laws_robust.proofs.Effects.{quietly, unlocked, is_shut, stays_same, filled_none}
-use Rattle.laws_robust.proofs.Effects.{filled_some}
+use Rattle.laws_robust.proofs.SetActs.{asks_more, freed_more}
+use Rattle.laws_robust.proofs.Effects.{Stays, some_none, one_owner, quiet_asked, quietly, unlocked, is_shut}
+use Rattle.laws_robust.proofs.Effects.{stays_same, filled_none, filled_some, quiet_none}
 use Rattle.laws_robust.proofs.Gone.{gone_more, honest_less, stays_lost}
 use Rattle.laws_robust.proofs.Invariant.{IsWorn, Scene, Inv, Good, Does, wrote_of}
 use Rattle.laws_robust.proofs.Knows.{Knows, IsPaid, WasOpen, AskedBelow, GoneBut, LockSays}
 use Rattle.laws_robust.proofs.CallProgress.{at_least_four, recover_at, for_back, for_index, IsInCourse}
 use Rattle.laws_robust.proofs.Past.{through_less, through_now}
-use Rattle.laws_robust.proofs.Stages.{IsHere, Lengthens, now, sees, then_sees, backs_then, loads}
-use Rattle.laws_robust.proofs.Stages.{loads_same, set_acts_more, StepOf, Leads}
-use Rattle.laws_robust.proofs.Stages.{goes_on, goes_quietly, ends_quietly}
+use Rattle.laws_robust.proofs.Stages.{IsHere, Lengthens, now, sees, then_sees, backs_then, loads, loads_same}
+use Rattle.laws_robust.proofs.Stages.{set_acts_more, StepOf, Leads, goes_on, goes_quietly, ends_quietly}
+use Rattle.laws_robust.proofs.Stages.{none_lengthens}
 use Rattle.laws_robust.proofs.Cases.{on_bool}
+use Rattle.laws_robust.proofs.Lists.{all_so, still_one, last_one, was_one}
 
 -- the bound on the steps of a recovery, in either mode
 most_is : (c backs : ℕ) (mode : ReleaseMode) → most_steps c (Recover mode) backs ≡ 2 + c * for_index c mode + backs * for_back c mode
@@ -49,6 +49,13 @@ pub record DoesOneMore {T : Type 0} (scene : Scene T) (d : SetAct) (es : List (E
   pub more : set_acts_of scene.party (scene.events ++ es) ≡ set_acts_of scene.party scene.events ++ d ∷ []
   pub does : Does scene words' es
 
+-- a recovery that does `d` at its index is still in its course, if `d` asks about no later index and frees only what was asked about
+pub course_more : {c index : ℕ} (d : SetAct) {done : List SetAct} → IsInCourse c index (index + 1) done
+    → AllByRecursion (λ i. i < index + 1) (index_asked d) → ((i owner : ℕ) → d ≡ Frees i owner → IsOneOf (Asks i owner) done)
+    → IsInCourse c index (index + 1) (done ++ d ∷ [])
+course_more {index = index} d {done = done} course asks frees =
+    record { within = course.within; asked = asks_more (index + 1) d done course.asked asks; freed = freed_more d done course.freed frees }
+
 module _ {T : Type 0} {scene : Scene T} {d : SetAct} {es : List (Event T)} {words' : List ℕ} (step : DoesOneMore scene d es words') where
   open scene use {by as by_terms, party as p, events as events}
   open step use {begins, more, does}
@@ -59,7 +66,7 @@ module _ {T : Type 0} {scene : Scene T} {d : SetAct} {es : List (Event T)} {word
 
   -- an act of the recovery is one after the step
   still_one_then : {one : SetAct} → IsOneOf one (set_acts_of p events) → IsOneOf one (set_acts_of p (events ++ es))
-  still_one_then {one = one} is_one = subst (IsOneOf one) (sym more) (still_one one d (set_acts_of p events) is_one)
+  still_one_then {one = one} is_one = subst (IsOneOf one) (sym more) (still_one one (set_acts_of p events) (d ∷ []) is_one)
 
   -- each index below `k` that was to be freed throughout the call has still been asked about after the step
   pub asked_then : (k : ℕ) → AskedBelow k (now scene) → (i owner : ℕ) → i < k
@@ -114,6 +121,12 @@ module _ {T : Type 0} (scene : Scene T) (inv : Inv scene) (mode : ReleaseMode) (
   abbrev Few : Option Ask → Bool → ℕ → ℕ → Type 0
   Few ask back n index = steps + step_count ask ≤ n + index * for_index c mode + backs_then scene back * for_back c mode
 
+  -- a step whose events do `d` to the set, and neither begin nor end a call, does one thing more
+  pub does_one_more : {d : SetAct} {es : List (Event T)} {words' : List ℕ} → BeginsNone p es → Lengthens es → set_acts es ≡ d ∷ []
+      → Does scene words' es → DoesOneMore scene d es words'
+  does_one_more {es = es} begins longer is does =
+      record { begins = begins; more = set_acts_more scene (Recover mode) here es does.own longer ∙ ap (λ ds. done ++ ds) is; does = does }
+
   -- ---- the end
 
   -- a recovery ends with a state that is right, in a step that leaves all words but the counter, and within
@@ -141,50 +154,16 @@ module _ {T : Type 0} (scene : Scene T) (inv : Inv scene) (mode : ReleaseMode) (
       → steps + step_count ask ≤ 1 + c * for_index c mode + backs_then scene back * for_back c mode
   few_last ask back few below last = grind arith
 
-  -- What has to be shown of the last step at `index`, which writes nothing and leaves all words but the counter: it is within the bound, and
-  -- what the recovery has asked, freed and knows as far as this index.
-  pub record ComesQuietly (index : ℕ) (ask : Option Ask) (back : Bool) : Type 0 where
-    pub below : index < c
-    pub few : Few ask back 1 (index + 1)
-    pub stays : Stays scene (words_after ws ask)
-    pub paid : IsPaid (sees scene ask back)
-    pub asked : AllByRecursion (λ i. i < index + 1) (asked_in done)
-    pub freed : FreedWereAsked done
-    pub open_once : WasOpen (now scene)
-    pub says : AskedBelow (index + 1) (now scene)
-    pub gone : GoneBut (λ i o. ⊥) (now scene)
-
-  -- such a step leads a recovery to the next index, or to the second look at the counter
-  pub comes_quietly : {index : ℕ} (stage : RecoverStage) (ask : Option Ask) (back : Bool) → ComesQuietly index ask back
-      → Lead ask back [] (recover_comes_to (call_at stage) (index + 1))
-  comes_quietly {index} stage ask back comes =
-      by_test (λ s. Lead ask back [] (GoOn (at_recover (call_at stage) s))) (nat_lt (index + 1) c)
-      (recovers.LoadsCell (index + 1)) recovers.LoadsCounterAgain
-      (λ t.
-      let more : index + 1 < c = grind (arith, nat_tests) in
-      goes_quietly scene inv ask back here comes.stays comes.few
-      (refl, refl, record { within = more; asked = comes.asked; freed = comes.freed })
-      (record { paid = comes.paid; scanned = tt; owns = tt; says = (comes.open_once, comes.says); gone = comes.gone }))
-      (λ t.
-      let last : c ≤ index + 1 = grind (arith, nat_tests) in
-      let below = comes.below in
-      let end : index + 1 ≡ c = omega arith in
-      let said = comes.says in
-      goes_quietly scene inv ask back here comes.stays (few_last ask back comes.few below last) (refl, refl, comes.freed)
-      (record { paid = comes.paid; scanned = tt; owns = tt; says = rw (← end) said; gone = comes.gone }))
-
   -- What has to be shown of the last step at `index`, which writes the events `did`: they do not end the call and may stand in it, the step
   -- does to the set what a turn may do, it is within the bound, and what the recovery has asked, freed and knows with these events.
   pub record ComesLoudly (index : ℕ) (ask : Option Ask) (back : Bool) (did : List (Event T)) : Type 0 where
-    pub below : index < c
     pub few : Few ask back 1 (index + 1)
     pub longer : Lengthens (did ++ [])
     pub does : Does scene (words_after ws ask) (did ++ [])
     pub follows : AllFollow (Stands promise c) (Open (Robust (Recover mode)) (wrote_of p events)) (did ++ [])
     pub asks : AreRight (AsksBy by) events (did ++ [])
-    pub paid : IsPaid (sees scene ask back)
-    pub asked : AllByRecursion (λ i. i < index + 1) (asked_in (done ++ set_acts (did ++ [])))
-    pub freed : FreedWereAsked (done ++ set_acts (did ++ []))
+    pub paid : IsPaid (then_sees scene ask back (did ++ []))
+    pub course : IsInCourse c index (index + 1) (done ++ set_acts (did ++ []))
     pub open_once : WasOpen (then_sees scene ask back (did ++ []))
     pub says : AskedBelow (index + 1) (then_sees scene ask back (did ++ []))
     pub gone : GoneBut (λ i o. ⊥) (then_sees scene ask back (did ++ []))
@@ -193,7 +172,7 @@ module _ {T : Type 0} (scene : Scene T) (inv : Inv scene) (mode : ReleaseMode) (
   pub comes_loudly : {index : ℕ} (stage : RecoverStage) (ask : Option Ask) (back : Bool) (did : List (Event T)) → ComesLoudly index ask back did
       → Lead ask back did (recover_comes_to (call_at stage) (index + 1))
   comes_loudly {index} stage ask back did comes =
-      let paid_for = comes.paid in
+      let course = comes.course in
       by_test (λ s. Lead ask back did (GoOn (at_recover (call_at stage) s))) (nat_lt (index + 1) c)
       (recovers.LoadsCell (index + 1)) recovers.LoadsCounterAgain
       (λ t.
@@ -204,12 +183,12 @@ module _ {T : Type 0} (scene : Scene T) (inv : Inv scene) (mode : ReleaseMode) (
         follows = comes.follows;
         asks = comes.asks;
         few = comes.few;
-        stands = (refl, refl, record { within = more; asked = comes.asked; freed = comes.freed });
-        known = record { paid = omega arith; scanned = tt; owns = tt; says = (comes.open_once, comes.says); gone = comes.gone };
+        stands = (refl, refl, record { within = more; asked = course.asked; freed = course.freed });
+        known = record { paid = comes.paid; scanned = tt; owns = tt; says = (comes.open_once, comes.says); gone = comes.gone };
       }))
       (λ t.
       let last : c ≤ index + 1 = grind (arith, nat_tests) in
-      let below = comes.below in
+      let below = course.within in
       let end : index + 1 ≡ c = omega arith in
       let said = comes.says in
       goes_on scene ask back did here (record {
@@ -218,9 +197,37 @@ module _ {T : Type 0} (scene : Scene T) (inv : Inv scene) (mode : ReleaseMode) (
         follows = comes.follows;
         asks = comes.asks;
         few = few_last ask back comes.few below last;
-        stands = (refl, refl, comes.freed);
-        known = record { paid = omega arith; scanned = tt; owns = tt; says = rw (← end) said; gone = comes.gone };
+        stands = (refl, refl, course.freed);
+        known = record { paid = comes.paid; scanned = tt; owns = tt; says = rw (← end) said; gone = comes.gone };
       }))
+
+  -- What has to be shown of the last step at `index`, which writes nothing and leaves all words but the counter: it is within the bound, and
+  -- what the recovery has asked, freed and knows as far as this index.
+  pub record ComesQuietly (index : ℕ) (ask : Option Ask) (back : Bool) : Type 0 where
+    pub few : Few ask back 1 (index + 1)
+    pub stays : Stays scene (words_after ws ask)
+    pub paid : IsPaid (sees scene ask back)
+    pub course : IsInCourse c index (index + 1) done
+    pub open_once : WasOpen (now scene)
+    pub says : AskedBelow (index + 1) (now scene)
+    pub gone : GoneBut (λ i o. ⊥) (now scene)
+
+  -- such a step leads a recovery to the next index, or to the second look at the counter
+  pub comes_quietly : {index : ℕ} (stage : RecoverStage) (ask : Option Ask) (back : Bool) → ComesQuietly index ask back
+      → Lead ask back [] (recover_comes_to (call_at stage) (index + 1))
+  comes_quietly stage ask back comes =
+      comes_loudly stage ask back [] (record {
+        few = comes.few;
+        longer = none_lengthens;
+        does = quietly scene inv (words_after ws ask) [] comes.stays.leaves quiet_none tt tt tt;
+        follows = tt;
+        asks = tt;
+        paid = comes.paid;
+        course = rw (append-nil done) comes.course;
+        open_once = rw (append-nil events) comes.open_once;
+        says = rw (append-nil events) comes.says;
+        gone = rw (append-nil events) comes.gone;
+      })
 
   -- ---- the load of the counter
 
@@ -277,8 +284,13 @@ module _ {T : Type 0} (scene : Scene T) (inv : Inv scene) (mode : ReleaseMode) (
     load = Some (loads (cell_word index))
 
     -- the indices asked about are below the next one
-    asked_next : AllByRecursion (λ i. i < index + 1) (asked_in done)
-    asked_next = grind (arith, all_so)
+    course_next : IsInCourse c index (index + 1) done
+    course_next =
+        record {
+          within = course.within;
+          asked = all_so (λ i. i < index) (λ i. i < index + 1) (asked_in done) (λ i less. omega arith) course.asked;
+          freed = course.freed;
+        }
 
     -- where the cell is empty nothing is to be freed at the index, so the recovery has
     -- asked about all up to it
@@ -291,12 +303,10 @@ module _ {T : Type 0} (scene : Scene T) (inv : Inv scene) (mode : ReleaseMode) (
         let four = at_least_four c mode in
         let paid = knows.paid in
         comes_quietly (recovers.LoadsCell index) load false (record {
-          below = course.within;
           few = omega arith;
           stays = stays_same scene inv _ (loads_same ws (cell_word index));
           paid = omega arith;
-          asked = asked_next;
-          freed = course.freed;
+          course = course_next;
           open_once = knows.says.0;
           says = passed_says cell_empty;
           gone = knows.gone;
@@ -320,15 +330,12 @@ module _ {T : Type 0} (scene : Scene T) (inv : Inv scene) (mode : ReleaseMode) (
           (refl, tt) (tt, tt) (tt, tt)
 
       -- the question is one more act of the recovery
-      asks_set_acts : set_acts_of p (events ++ asking) ≡ done ++ Asks index (cell ws index) ∷ []
-      asks_set_acts = set_acts_more scene (Recover mode) here asking asks_does.own (λ start w. refl)
-
       asks_one : DoesOneMore scene (Asks index (cell ws index)) asking (words_after ws load)
-      asks_one = record { begins = tt; more = asks_set_acts; does = asks_does }
+      asks_one = does_one_more tt (λ start w. refl) refl asks_does
 
-      -- a recovery that asks about one more index has asked about each that it freed
-      asks_freed : FreedWereAsked (done ++ Asks index (cell ws index) ∷ [])
-      asks_freed = freed_more (Asks index (cell ws index)) done course.freed (λ i owner e. absurd (cc))
+      -- a recovery that asks about one more index is in its course, and has asked about each that it freed
+      course_then : IsInCourse c index (index + 1) (done ++ Asks index (cell ws index) ∷ [])
+      course_then = course_more (Asks index (cell ws index)) course_next (omega arith, tt) (λ i owner e. absurd (cc))
 
       -- once it has asked about the owner in the cell, the recovery has asked about all up to the index
       asks_says : AskedBelow (index + 1) (then_sees scene load false asking)
@@ -337,8 +344,8 @@ module _ {T : Type 0} (scene : Scene T) (inv : Inv scene) (mode : ReleaseMode) (
           (λ last.
           let same : i ≡ index = omega arith in
           ⊎_elim (λ filled. filled_here i owner same filled)
-          (λ freed. subst (IsOneOf (Asks i owner)) (sym asks_set_acts)
-          (asks_freed i owner (subst (IsOneOf (Frees i owner)) asks_set_acts freed)))
+          (λ freed. subst (IsOneOf (Asks i owner)) (sym asks_one.more)
+          (course_then.freed i owner (subst (IsOneOf (Frees i owner)) asks_one.more freed)))
           (through_now p (StillToFree p owner i) (events ++ asking) through))
           (cases_lt i index)
         where
@@ -346,7 +353,7 @@ module _ {T : Type 0} (scene : Scene T) (inv : Inv scene) (mode : ReleaseMode) (
           filled_here : (i owner : ℕ) → i ≡ index
               → filled_of i (events ++ Asked p index (cell ws index) ∷ []) ≡ Some owner
               → IsOneOf (Asks i owner) (set_acts_of p (events ++ Asked p index (cell ws index) ∷ []))
-          filled_here = grind (arith, fold-append, cell, one_owner, asks_set_acts, last_one)
+          filled_here = grind (arith, fold-append, cell, one_owner, asks_one.more, last_one)
 
       -- where the cell has an owner, the recovery asks about that owner
       asks_about : Lead load false asking (GoOn (at_recover (call_at (recovers.LoadsCell index)) (recovers.Asks index (cell ws index))))
@@ -358,19 +365,7 @@ module _ {T : Type 0} (scene : Scene T) (inv : Inv scene) (mode : ReleaseMode) (
             follows = (course.asked, tt);
             asks = ((is_filled.1, knows.says.0), tt);
             few = omega arith;
-            stands = (
-              refl,
-              refl,
-              (
-                record {
-                  within = course.within;
-                  asked = asks_more (index + 1) (Asks index (cell ws index)) done asked_next (omega arith, tt);
-                  freed = asks_freed;
-                },
-                is_filled.0,
-                record { before = done; is = refl },
-              ),
-            );
+            stands = (refl, refl, (course_then, is_filled.0, record { before = done; is = refl }));
             known = record {
               paid = omega arith;
               scanned = tt;

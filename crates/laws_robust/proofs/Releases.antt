@@ -4,10 +4,9 @@ use Rattle.laws_robust.proofs.Names.{List, [], ◌∷◌, ◌++◌, set, refl, a
 use Rattle.laws_robust.proofs.Names.{fold-append, Ask, After, Done, ReleaseMode, LockIfLastIndex, Default}
 use Rattle.laws_robust.proofs.Names.{ReleaseState, IndexIsNotOwnedByProvidedOwner, ReleaseStage, empty, locked}
 use Rattle.laws_robust.proofs.Names.{greatest, Released, went_on, State, NotOwned, Event, FreedOf, Locked, Finished}
-use Rattle.laws_robust.proofs.Names.{Robust, locked_after, is_locked, most_steps, release_answer}
-use Rattle.laws_robust.proofs.Names.{LivesToRelease, SetAct, Frees, Locks, set_acts, filled_of, holder_of}
-use Rattle.laws_robust.proofs.Names.{settled_of, is_dead, HasDone, as_it_is, SinceBegin, span_of, as_call}
-use Rattle.laws_robust.proofs.Names.{words_after, step_count}
+use Rattle.laws_robust.proofs.Names.{Robust, locked_after, is_locked, most_steps, release_answer, LivesToRelease}
+use Rattle.laws_robust.proofs.Names.{SetAct, Frees, Locks, set_acts, filled_of, holder_of, settled_of, is_dead}
+use Rattle.laws_robust.proofs.Names.{HasDone, as_it_is, SinceBegin, span_of, as_call, words_after, step_count}
 use Rattle.steps.specs.declared.indices.enums.ReleaseState.TheVariants as states
 use Rattle.steps.specs.declared.indices.enums.RobustUniqueIndexSetReleaseError.{RobustUniqueIndexSetReleaseError}
 use Rattle.steps.specs.declared.indices.robust.release.Release as calls
@@ -23,7 +22,8 @@ use Rattle.laws_robust.proofs.Invariant.{IsWorn, Scene, Inv, wrote_of}
 use Rattle.laws_robust.proofs.Knows.{Knows, IsPaid}
 use Rattle.laws_robust.proofs.CallProgress.{release_at, release_number, ReleaseAt}
 use Rattle.laws_robust.proofs.Locks.{locks}
-use Rattle.laws_robust.proofs.Stages.{IsHere, all, now, sees, backs_then, StepOf, Leads, goes_on, ends, goes_quietly, ends_quietly}
+use Rattle.laws_robust.proofs.Stages.{IsHere, all, now, sees, backs_then, StepOf, Leads, goes_on, ends, goes_quietly}
+use Rattle.laws_robust.proofs.Stages.{ends_quietly}
 
 -- a release that is refused since the owner does not hold the index has freed nothing
 not_owned_done : (T : Type 0) (index owner : ℕ) (mode : ReleaseMode) (failure : RobustUniqueIndexSetReleaseError) (done : List SetAct)
@@ -39,7 +39,7 @@ not_owned_right = grind arith
 
 -- The party `p` releases the index for the owner, who is alive. `c` is the capacity, `ws` the
 -- words before the step.
-module _ {T : Type 0} {scene : Scene T} (inv : Inv scene) (index owner : ℕ) (fits : owner < empty)
+module _ {T : Type 0} {scene : Scene T} (inv : Inv scene) {index owner : ℕ} (fits : owner < empty)
     (below : index < scene.capacity) (alive : is_dead owner scene.events ≡ false) where
   open scene use {by as by, capacity as c, party as p, steps as steps, backs as backs, events as events}
 
@@ -54,7 +54,7 @@ module _ {T : Type 0} {scene : Scene T} (inv : Inv scene) (index owner : ℕ) (f
       (as_call flights.Release release_answer
       (went_on as_it_is (record { index = index; owner = owner; mode = mode }) tt a))
 
-  module _ (mode : ReleaseMode) (here : IsHere scene (Release index owner mode)) where
+  module _ {mode : ReleaseMode} (here : IsHere scene (Release index owner mode)) where
     -- the owner for whom the release acts lives
     lives : LivesToRelease owner events (span_of p events)
     lives = subst (LivesToRelease owner events) (sym here) alive
@@ -89,6 +89,24 @@ module _ {T : Type 0} {scene : Scene T} (inv : Inv scene) (index owner : ℕ) (f
     abbrev EndShows : List ℕ → ReleaseMode → ReleaseState → Type 0
     EndShows words' m state = Ends releasing words' m state
 
+    -- a step that ends the release with this state keeps the invariant (`Shows`), where that answer is right and as the release has done
+    ends_rightly : (m : ReleaseMode) → IsHere scene (Release index owner m)
+        → (state : ReleaseState) (ask : Option Ask) (back : Bool) → Stays scene (words_after ws ask)
+        → AnswersBy by (IsWorn by (words_after ws ask)) c events (Finished p (Robust (Release index owner m)) (State state))
+        → HasDone {T = T} (Release index owner m) (State state) (all scene) → IsPaid (sees scene ask back)
+        → steps + step_count ask ≤ 0 + most_steps c (Release index owner m) (backs_then scene back)
+        → Lead m ask back [] (Done (Ok state))
+    ends_rightly m is_here state ask back stays right done paid few =
+        ends_quietly scene inv ask back is_here (record {
+          stays = stays;
+          settles = λ i o. refl;
+          rights = λ i r. refl;
+          right = right;
+          done = done;
+          few = omega arith;
+          paid = paid;
+        })
+
     -- a step that ends the release with this state keeps the invariant (`Shows`)
     ends_with : (m : ReleaseMode) → IsHere scene (Release index owner m)
         → (state : ReleaseState) (ask : Option Ask) (back : Bool) → Stays scene (words_after ws ask)
@@ -97,36 +115,11 @@ module _ {T : Type 0} {scene : Scene T} (inv : Inv scene) (index owner : ℕ) (f
         → steps + step_count ask ≤ 0 + most_steps c (Release index owner m) (backs_then scene back)
         → Lead m ask back [] (Done (Ok state))
     ends_with Default is_here states.Locked ask back stays why done paid few = absurd why
-    ends_with Default is_here states.Unlocked ask back stays why done paid few =
-        ends_quietly scene inv ask back is_here (record {
-          stays = stays;
-          settles = λ i o. refl;
-          rights = λ i r. refl;
-          right = tt;
-          done = done;
-          few = omega arith;
-          paid = paid;
-        })
+    ends_with Default is_here states.Unlocked ask back stays why done paid few = ends_rightly Default is_here states.Unlocked ask back stays tt done paid few
     ends_with LockIfLastIndex is_here states.Locked ask back stays why done paid few =
-        ends_quietly scene inv ask back is_here (record {
-          stays = stays;
-          settles = λ i o. refl;
-          rights = λ i r. refl;
-          right = why;
-          done = inl done;
-          few = omega arith;
-          paid = paid;
-        })
+        ends_rightly LockIfLastIndex is_here states.Locked ask back stays why (inl done) paid few
     ends_with LockIfLastIndex is_here states.Unlocked ask back stays why done paid few =
-        ends_quietly scene inv ask back is_here (record {
-          stays = stays;
-          settles = λ i o. refl;
-          rights = λ i r. refl;
-          right = why;
-          done = done;
-          few = omega arith;
-          paid = paid;
-        })
+        ends_rightly LockIfLastIndex is_here states.Unlocked ask back stays why done paid few
 
     -- the acts of a release that locks are the free and the lock
     all_done : all scene ≡ Frees index owner ∷ [] → set_acts (wrote_of p events ++ Locked p ∷ []) ≡ Frees index owner ∷ Locks ∷ []
@@ -148,7 +141,7 @@ module _ {T : Type 0} {scene : Scene T} (inv : Inv scene) (index owner : ℕ) (f
         ends scene (State states.Locked) ask false (Locked p ∷ []) is_here (record {
           longer = λ start w. refl;
           does =
-              locks scene inv (words_after ws ask) (Finished p (Robust (Release index owner LockIfLastIndex)) (State states.Locked) ∷ [])
+              locks scene inv
               (quiet_end p (Robust (Release index owner LockIfLastIndex)) (State states.Locked) (λ j o. refl) (λ j r. refl))
               (refl, tt) (tt, tt) (now_locked, tt) none less new;
           follows = (done, ((refl, inr (all_done done)), tt));

@@ -1,7 +1,7 @@
 -- The measure of `Room` falls with each step of each call of a robust index set, in either mode. So calls
 -- keep ending in every run.
 use Rattle.std.proofs.Common.{◌≡◌, ℕ, ◌+◌, ◌-◌, ◌*◌, ◌^◌, ◌≤◌, ◌<◌, ◌==◌, inl, inr, Bool, true, Option, Some, None}
-use Rattle.std.proofs.Common.{List, length, get_or, refl, sym, subst, arith}
+use Rattle.std.proofs.Common.{List, length, get_or, refl, subst, arith}
 use Rattle.steps.specs.Indices.Robust.Acquire.{Acquired, acquire_takes}
 use Rattle.steps.specs.Indices.Robust.Find.{find_takes}
 use Rattle.steps.specs.Indices.Robust.Looks.{borrowed_counted}
@@ -40,28 +40,27 @@ use Rattle.model.specs.declared.event.Start.TheVariants as starts
 use Rattle.model.specs.declared.families.Flight.{Flight}
 use Rattle.model.specs.declared.families.Flight.TheVariants as flights
 use Rattle.model.specs.declared.families.Registry.{Registry}
-use Rattle.model.specs.declared.families.Registry.TheVariants as registries
 use Rattle.model.specs.declared.families.indices.robust.RobustStart.{RobustStart}
 use Rattle.model.specs.declared.families.indices.robust.calls.RobustFlight.{RobustFlight}
 use Rattle.model.specs.declared.families.indices.robust.calls.RobustFlight.TheVariants as calls
 use Rattle.model.specs.declared.turn.Kind.TheVariants as kinds
 use Rattle.model.specs.Coding.{Coding}
-use Rattle.model.specs.Families.{first_of, want_of, after_of, goes_of, step_of, ask_of, is_question, kept_after_begin, kept_after_death}
+use Rattle.model.specs.Families.{first_of, want_of, after_of, ask_of, is_question, kept_after_begin}
 use Rattle.model.specs.Families.Indices.Robust.Calls.{want, after, acquire_answer, release_answer}
 use Rattle.model.specs.Families.Queues.Calls.{as_it_is}
 use Rattle.model.specs.LockFree.{KeepsEnding, room_bound}
 use Rattle.model.specs.Step.{as_call}
 use Rattle.model.specs.Turns.{number_of, step_count, words_after, old_of}
-use Rattle.model.specs.World.{capacity_error}
+use Rattle.model.specs.World.{capacity_error, World}
 use Rattle.model.proofs.LockFree.Falls.{LeavesAll, FallsIn, StepFalls}
 use Rattle.model.proofs.LockFree.Measure.{WordMeasure, worth}
-use Rattle.laws_robust.proofs.LockFree.{one_of}
-use Rattle.laws_robust.proofs.Measured.{raise_left, acquire_left, find_left, count_left}
+use Rattle.laws_robust.proofs.LockFree.{one_of, stays, told, dies}
+use Rattle.laws_robust.proofs.Measured.{raise_left, acquire_left, find_left, count_left, AreOfSet, Kept}
 use Rattle.laws_robust.proofs.Opening.{admitted_is}
 use Rattle.model.proofs.LockFree.Own.{Outline, TableLaws, by_table, OwnAfter, keeps_ending, keeps_ending_by}
-use Rattle.laws_robust.proofs.Room.{room, room_most, lock_left, release_left, rest, recover_left, Less}
-use Rattle.laws_robust.proofs.Room.{AcquireTo, acquire_to, ReleaseTo, release_to, RecoverTo, recover_steps, recover_to}
-use Rattle.laws_robust.proofs.Room.{FindTo, find_steps, find_to, BorrowedTo, borrowed_to}
+use Rattle.laws_robust.proofs.Room.{room, room_most, lock_left, release_left, rest, recover_left, Less, AcquireTo}
+use Rattle.laws_robust.proofs.Room.{acquire_to, ReleaseTo, release_to, RecoverTo, recover_steps, recover_to, FindTo}
+use Rattle.laws_robust.proofs.Room.{find_steps, find_to, BorrowedTo, borrowed_to}
 use Rattle.laws_robust.proofs.Counter.{acquire_old, release_old, recover_old, count_old, counter_of, robust_then}
 use Rattle.laws_robust.proofs.Counter.{robust_old, robust_finds, robust_leaves, robust_asks}
 use Rattle.laws_robust.proofs.RoomStands.{own, robust_steps, CallAt, steps_one, steps_are, AcquireThen}
@@ -69,7 +68,6 @@ use Rattle.laws_robust.proofs.RoomStands.{acquire_then_at, ReleaseThen, release_
 use Rattle.laws_robust.proofs.RoomStands.{FindThen, find_then_at, BorrowThen, borrow_then_at}
 use Rattle.model.specs.declared.turn.Refusal.{Refusal}
 use Rattle.model.specs.declared.turn.Turn.{Turn}
-use Rattle.model.specs.World.{World}
 use Rattle.model.proofs.LockFree.Weighed.{KeepsEndingBy}
 use Rattle.model.proofs.Rows.{IsPossible}
 
@@ -238,8 +236,7 @@ module _ {T : Type 0} where
 
   -- where a call of a machine stands, if it is one of a set of owners
   abbrev AtAny : Coding T → ℕ → Start T → Flight T → Type 0
-  AtAny code c (starts.Robust start) (flights.Robust flight) = CallAt c flight
-  AtAny code c start flight = ⊥
+  AtAny code c start flight = AreOfSet (CallAt c) start flight
 
   -- a call has at most `c * (c + 7)` steps of its own left
   own_most : (c now : ℕ) → 1 ≤ c → (flight : Flight T) → own_at c now flight ≤ c * (c + 7)
@@ -257,8 +254,8 @@ module _ {T : Type 0} (code : Coding T) (c : ℕ) (some : 1 ≤ c) where
     n' = get_or new 0 0
 
     -- words with the same counter raise no call's measure
-    stays : n' ≡ n → LeavesAll (measure {T = T} c) old new
-    stays same other = rw same (omega arith)
+    leaves_all : n' ≡ n → LeavesAll (measure {T = T} c) old new
+    leaves_all same other = rw same (omega arith)
 
     -- where the counter's room falls, the measure falls, whatever the call is now
     moves : room n' + 1 ≤ room n → (other next : Flight T) → left c new next + 1 ≤ left c old other
@@ -275,7 +272,7 @@ module _ {T : Type 0} (code : Coding T) (c : ℕ) (some : 1 ≤ c) where
         → CallTo T c n n' steps (own c n flight) a
         → FallsIn (measure c) old new s (flights.Robust flight) (as_call flights.Robust (λ answer. answer) a)
     to_falls steps s flight (GoOn next) low one (inl h) =
-        inr (rw h.0 (keep (room n * (c * (c + 7) + 1)) (own c n next) s steps (own c n flight) h.1 low), inl (stays h.0, omega arith))
+        inr (rw h.0 (keep (room n * (c * (c + 7) + 1)) (own c n next) s steps (own c n flight) h.1 low), inl (leaves_all h.0, omega arith))
     to_falls steps s flight (GoOn next) low one (inr h) =
         let less = moves h (flights.Robust flight) (flights.Robust next) in
         inr (omega (arith, low, one), inl (moved_by h, omega arith))
@@ -322,17 +319,13 @@ module _ {T : Type 0} (code : Coding T) (c : ℕ) (some : 1 ≤ c) where
       (top_most (room (get_or words 0 0)) (2 ^ 64) (c * (c + 7) + 1) (own_at c (get_or words 0 0) flight) all (omega arith), omega arith)
 
 module _ {T : Type 0} where
-  abbrev HasOwners : Registry T → Type 0
-  HasOwners (registries.Owners dead) = Unit {0}
-  HasOwners kept = ⊥
-
   -- all calls of the set, with this measure, as the proof of lock-freedom asks for them
   abbrev outline : Outline T
   outline =
       record {
         kind = kinds.Robust;
         Such = λ start. Unit {0};
-        Kept = HasOwners;
+        Kept = Kept;
         At = AtAny;
         Known = λ p kept flight. Unit {0};
         measure = λ code c. measure c;
@@ -394,26 +387,10 @@ module _ {T : Type 0} (code : Coding T) (c : ℕ) where
   goes start flight old at = absurd at
 
   -- a call that begins stands at its first stage
-  begins : (start : Start T) (kept : Registry T) (flight : Flight T) → Unit {0} → HasOwners kept
+  begins : (start : Start T) (kept : Registry T) (flight : Flight T) → Unit {0} → Kept kept
       → first_of kinds.Robust c start kept ≡ Some flight
-      → AtAny code c start flight × ((p : ℕ) → HasOwners (kept_after_begin code c start p kept))
+      → AtAny code c start flight × ((p : ℕ) → Kept (kept_after_begin code c start p kept))
   begins = grind arith
-
-  -- a step leaves the registry one of owners
-  keeps : (words : List ℕ) (beside : Option (ℕ × ℕ)) (p : ℕ) (start : Start T) (flight : Flight T) (old : ℕ) (kept : Registry T)
-      → AtAny code c start flight → HasOwners kept → HasOwners (step_of code words beside p start flight old kept).kept
-  keeps = grind arith
-
-  -- what a step leaves of the call is what the call computes
-  told : (words : List ℕ) (beside : Option (ℕ × ℕ)) (p : ℕ) (start : Start T) (flight : Flight T) (old : ℕ) (kept : Registry T)
-      → AtAny code c start flight → HasOwners kept
-      → ((step_of code words beside p start flight old kept).after ≡ after_of code flight old)
-      × (goes_of code p flight old kept ≡ after_of code flight old)
-  told = grind arith
-
-  -- a death leaves the registry one of owners
-  dies : (kept : Registry T) (owner : ℕ) → HasOwners kept → HasOwners (kept_after_death kept owner)
-  dies = grind arith
 
   -- the measure has the laws that are asked of one, at each capacity that is admitted
   laws : capacity_error kinds.Robust c ≡ None → TableLaws outline code c
@@ -423,9 +400,9 @@ module _ {T : Type 0} (code : Coding T) (c : ℕ) where
         opens = tt;
         known = λ p kept flight. tt;
         begins = begins;
-        stays = keeps;
+        stays = stays code (CallAt c);
         goes = goes;
-        told = told;
+        told = told code (CallAt c);
         dies = dies;
         decides = decides code c may.0;
         most = most code c may.0;

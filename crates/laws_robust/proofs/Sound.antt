@@ -96,7 +96,7 @@ module _ {T : Type 0} {scene : Scene T} (inv : Inv scene) where
       at.0
       ∙ ap
       (λ (o : GiveBack). calls.Release (record { call = record { capacity = c; stage = run.call.stage }; given = o; room = tt })) at.1))
-      (λ alive s k. release_step inv index owner at.2 at.3 (lives owner alive) mode here run.call.stage at.4 k s)
+      (λ alive s k. release_step inv at.2 at.3 (lives owner alive) here run.call.stage at.4 k s)
   step_moves (starts.Find owner) (calls.Find run) here at =
       subst (Moves (starts.Find owner)) (sym (ap (λ n. find_at n run.given run.call.stage) at.0 ∙ ap (λ o. find_at c o run.call.stage) at.1))
       (λ alive s k. find_step scene inv owner at.2 here run.call.stage at.3 k s)
@@ -351,7 +351,7 @@ module _ {T : Type 0} (by : GoneBy) (code : Coding T) (c : ℕ) (t : Trace T) (s
             record {
               same = refl;
               begun = λ p x found. omega arith;
-              good = death_good by c s.state.words s.state.dead t.events t.world.turns o set_good alive;
+              good = death_good o set_good alive;
               asks = Each-append (AsksBy by) t.events (Died o ∷ []) s.holds.asks (tt, tt);
             };
         calls = λ q start flight at.
@@ -359,8 +359,7 @@ module _ {T : Type 0} (by : GoneBy) (code : Coding T) (c : ℕ) (t : Trace T) (s
             ap wrote_in (span_of-death q t.events o) ∙ sym (ap (wrote_of q) s.holds.same) in
             (at_written c (wrote_of q s.state.events) (wrote_of q (t.events ++ Died o ∷ [])) start flight wrote at, wrote);
         calls_know =
-            λ q since backs flight h. death_known by c s.state.words s.state.dead t.events t.world.turns o set_good alive q
-            since t.world.changes backs flight h;
+            λ q since backs flight h. death_known o set_good alive q since t.world.changes backs flight h;
       }
 
 module _ {T : Type 0} (by : GoneBy) where
@@ -372,7 +371,7 @@ module _ {T : Type 0} (by : GoneBy) where
   turns : (code : Coding T) (c : ℕ) → Turns (outline by) code c May
   turns code c =
       record {
-        begin = λ t s p start flight may named rows. begin_comes by code c t s p start flight may named rows;
+        begin = begin_comes by code c;
         step = λ t s p x since room found start flight rows here. comes by code c t s p x since found room rows here;
         decision = λ t s p x since said room found start flight rows asks here. decides by code c t s p x since found room said
             (passes_in by code c t s p x since found flight said rows) asks here;

@@ -1,10 +1,9 @@
 -- No turn changes how many words a machine has, so a robust set has one word for its counter
 -- and one for each cell.
-use Rattle.laws_robust.proofs.Names.{◌≡◌, ℕ, ◌+◌, Bool, Option, Some, None, length, refl, sym, subst, ◌∙◌}
-use Rattle.laws_robust.proofs.Names.{arith, length-replicate, empty, Ask, Start, Flight, Doing}
-use Rattle.laws_robust.proofs.Names.{Party, Turn, first_of, opening_words}
-use Rattle.laws_robust.proofs.Names.{number_of, after_begin, after_answer}
-use Rattle.laws_robust.proofs.Names.{after_next, after_decision, world_after, World, Trace, opening}
+use Rattle.laws_robust.proofs.Names.{◌≡◌, ℕ, ◌+◌, Bool, Option, Some, None, length, refl, ◌∙◌, arith}
+use Rattle.laws_robust.proofs.Names.{length-replicate, empty, Ask, Start, Flight, Doing, Party, Turn, first_of}
+use Rattle.laws_robust.proofs.Names.{opening_words, number_of, after_begin, after_answer, after_next, after_decision}
+use Rattle.laws_robust.proofs.Names.{world_after, World, Trace}
 use Rattle.model.specs.declared.turn.Kind.TheVariants as kinds
 use Rattle.laws_robust.specs.Open.{open_refusal, IsReachedOpen}
 use Rattle.model.proofs.Counts.{as_long}

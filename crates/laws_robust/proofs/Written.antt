@@ -1,8 +1,9 @@
 -- What a step of a call writes apart from an end: events of its party, and `Told` where the call gets a yes
 -- to its question.
-use Rattle.laws_robust.proofs.Names.{◌≡◌, ◌≢◌, ℕ, ◌==◌, if◌then◌else◌, Bool, true, false, Option, Some, List, []}
-use Rattle.laws_robust.proofs.Names.{arith, AllByRecursion, Event, Filled, Granted, FreedOf, Asked, Told, Locked}
-use Rattle.laws_robust.proofs.Names.{RobustFlight, Turn, want, owned_by, freed, effects, IsParty, IsEffectOf}
+use Rattle.laws_robust.proofs.Names.{◌≡◌, ◌≢◌, ℕ, ◌==◌, Option, Some, List, [], arith, AllByRecursion, Event, Filled}
+use Rattle.laws_robust.proofs.Names.{Granted, FreedOf, Asked, Told, Locked, RobustFlight, Turn, want, owned_by, freed}
+use Rattle.laws_robust.proofs.Names.{effects, IsParty, IsEffectOf}
+use Rattle.laws_robust.proofs.Lists.{all_either}
 
 -- `P` holds of each event that a call of the party `p` may write of the set, except `Told`
 pub record HoldsOf {T : Type 0} (P : Event T → Type 0) (p : ℕ) : Type 0 where
@@ -17,14 +18,9 @@ module _ {T : Type 0} (P : Event T → Type 0) (p : ℕ) (holds_of : HoldsOf P p
   abbrev All : List (Event T) → Type 0
   All es = AllByRecursion P es
 
-  -- where `P` holds of each event of two lists, it holds of those of whichever list the test chooses
-  either : (b : Bool) (xs ys : List (Event T)) → All xs → All ys → All (if b then xs else ys)
-  either true xs ys left right = left
-  either false xs ys left right = right
-
   -- `P` holds of what an exchange of a cell writes
   pub all_freed : (index owner old : ℕ) → All (freed p index owner old)
-  all_freed index owner old = either (old == owner) _ [] (holds_of.freed_of index owner, tt) tt
+  all_freed index owner old = all_either P (old == owner) _ [] (holds_of.freed_of index owner, tt) tt
 
   -- `P` holds of the event `Told` that the call writes if its answer is a yes
   abbrev MayTell : Option (ℕ × ℕ) → ℕ → Type 0

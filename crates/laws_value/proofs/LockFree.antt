@@ -1,25 +1,20 @@
 -- The single value is lock-free: a measure of its calls, by the version, falls with each step of a call and
 -- is at most a bound. `FallsIn` says that the call ends, or has as many steps less as it takes and gives no
 -- other call more, unless it pays for that.
-use Rattle.std.proofs.Common.{◌≡◌, ℕ, ◌+◌, ◌-◌, ◌*◌, ◌%◌, ◌<◌, ◌≤◌, ◌==◌, ◌^◌, inl, inr, nat_lt, Bool, true, false, cond, Option, Some}
+use Rattle.std.proofs.Common.{◌≡◌, ℕ, ◌+◌, ◌-◌, ◌*◌, ◌%◌, ◌<◌, ◌≤◌, ◌==◌, false, cond, Option, Some}
 use Rattle.std.proofs.Common.{List, get_or, set, get_or-set_other, refl, arith}
 use Rattle.std.proofs.lemmas.Bool.Decides.{nat_tests}
 use Rattle.steps.specs.Queues.Ring.{word_at}
-use Rattle.steps.specs.declared.atomic.Load.{Load}
 use Rattle.steps.specs.declared.atomic.LoadStage.{LoadStage}
 use Rattle.steps.specs.declared.atomic.LoadStage.TheVariants as loads
-use Rattle.steps.specs.declared.atomic.Store.{Store}
 use Rattle.steps.specs.declared.atomic.StoreStage.{StoreStage}
 use Rattle.steps.specs.declared.atomic.StoreStage.TheVariants as stores
-use Rattle.steps.specs.declared.copied.Buffer as buffers
-use Rattle.steps.specs.declared.routine.Running.{Running}
 use Rattle.model.specs.declared.event.Start.{Start}
 use Rattle.model.specs.declared.event.Start.TheVariants as starts
 use Rattle.model.specs.declared.families.Flight.{Flight}
 use Rattle.model.specs.declared.families.Flight.TheVariants as flights
 use Rattle.model.specs.declared.families.Registry.{Registry}
 use Rattle.model.specs.declared.families.Registry.TheVariants as registries
-use Rattle.model.specs.declared.families.atomic.AtomicStart.{AtomicStart}
 use Rattle.model.specs.declared.families.atomic.calls.AtomicFlight.{AtomicFlight}
 use Rattle.model.specs.declared.families.atomic.calls.AtomicFlight.TheVariants as calls
 use Rattle.model.specs.declared.turn.Kind.TheVariants as kinds
@@ -107,10 +102,6 @@ module _ {T : Type 0} where
         measure = λ code c. measure code.size;
       }
 
-  -- a store at a stage
-  abbrev storing : Running (Store T) T (Unit {0}) → StoreStage → AtomicFlight T
-  storing run stage = calls.Store (record run { call = record run.call { stage = stage } })
-
   -- ---- the measure falls with each step
 
   -- the step of a call of the value, from the words `words`
@@ -131,62 +122,9 @@ module _ {T : Type 0} where
         get_or-set_other words (word_at cell at) 0 new 0 (λ e. absurd (omega arith)) in
         rw same (omega arith)
 
-    -- the measure falls with each step of a store
-    store_falls : (run : Running (Store T) T (Unit {0})) (stage : StoreStage) → StoreStands code.size stage → CallStepFalls (storing run stage)
-    store_falls run stores.LoadsVersion stands = go (now == 2 ^ 64 - 1) refl
-      where
-        -- the cases are whether the version is at its end
-        go : (t : Bool) → (now == 2 ^ 64 - 1) ≡ t → CallStepFalls (storing run stores.LoadsVersion)
-        go true version_test = rw version_test tt
-        go false version_test = rw version_test (inl (load_leaves words 0, omega arith, omega arith))
-    store_falls run (stores.StoresCell cell at) stands = go (nat_lt (at + 1) code.size) refl
-      where
-        -- a store to a word of the store's cell gives no call more steps
-        leaves : (new : ℕ) → LeavesAll (measure code.size) words (set words (word_at cell at) new)
-        leaves new = cell_leaves cell at new stands.0 stands.1 stands.2
-
-        -- the cases are whether a further word of the value follows
-        go : (t : Bool) → nat_lt (at + 1) code.size ≡ t → CallStepFalls (storing run (stores.StoresCell cell at))
-        go true word_test =
-            let less : at + 1 < code.size = grind (arith, nat_tests) in
-            rw word_test (inr (omega arith, inl (leaves (get_or (code.words_of run.given) at 0), omega arith)))
-        go false word_test = rw word_test (inr (omega arith, inl (leaves (get_or (code.words_of run.given) at 0), omega arith)))
-    store_falls run stores.AddsVersion stands = tt
-
-    -- a load at a stage
-    abbrev loading : Running (Load T (buffers.Buffer 128)) (Unit {0}) (buffers.Buffer 128) → LoadStage → AtomicFlight T
-    loading run stage = calls.Load (record run { call = record run.call { stage = stage } })
-
-    -- the measure falls with each step of a load
-    load_falls : (run : Running (Load T (buffers.Buffer 128)) (Unit {0}) (buffers.Buffer 128)) (stage : LoadStage) → CallStepFalls (loading run stage)
-    load_falls run loads.LoadsVersion = let self = same_is now in inl (load_leaves words 0, rw self (omega arith), omega arith)
-    load_falls run (loads.LoadsCell version cell at) = go (nat_lt (at + 1) code.size) refl (now == version) refl
-      where
-        -- the cases are whether a further word of the value follows and whether the version is still what was read
-        go : (t : Bool) → nat_lt (at + 1) code.size ≡ t → (u : Bool) → (now == version) ≡ u → CallStepFalls (loading run (loads.LoadsCell version cell at))
-        go true word_test true version_test =
-            let less : at + 1 < code.size = grind (arith, nat_tests) in
-            rw word_test (inl (load_leaves words (word_at cell at), rw version_test (omega arith), omega arith))
-        go true word_test false version_test =
-            let less : at + 1 < code.size = grind (arith, nat_tests) in
-            rw word_test (inl (load_leaves words (word_at cell at), rw version_test (omega arith), omega arith))
-        go false word_test true version_test = rw word_test (inl (load_leaves words (word_at cell at), rw version_test (omega arith), omega arith))
-        go false word_test false version_test = rw word_test (inl (load_leaves words (word_at cell at), rw version_test (omega arith), omega arith))
-    load_falls run (loads.ChecksVersion version) = go (now == version) refl
-      where
-        -- the cases are whether the version is still what was read
-        go : (u : Bool) → (now == version) ≡ u → CallStepFalls (loading run (loads.ChecksVersion version))
-        go true version_test = rw version_test tt
-        go false version_test = let self = same_is now in rw version_test (inl (load_leaves words 0, rw (self, version_test) (omega arith), omega arith))
-
     -- the measure falls with each step of a call of the value
     call_falls : (flight : AtomicFlight T) → CallStands code.size flight → CallStepFalls flight
-    call_falls (calls.Acquire run) stands = tt
-    call_falls (calls.Release run) stands = tt
-    call_falls (calls.Store run) stands = store_falls run run.call.stage stands
-    call_falls (calls.Load run) stands = load_falls run run.call.stage
-    call_falls (calls.Look run) stands = tt
-    call_falls (calls.Version run) stands = tt
+    call_falls = grind (arith, cell_leaves, load_leaves, same_is, nat_tests)
 
   -- the measure falls with each step of a call that the machine has under way
   falls : (code : Coding T) → code.size ≤ 128 → (c : ℕ) (words : List ℕ) (start : Start T) (flight : Flight T) → At code c start flight
@@ -196,50 +134,10 @@ module _ {T : Type 0} where
 
   -- ---- a call that goes on stands where the measure needs it
 
-  -- the call, if it goes on, is one of the value and stands where the measure needs it
-  abbrev GoesOnStanding : Coding T → ℕ → Start T → AtomicFlight T → ℕ → Type 0
-  GoesOnStanding code c start flight old = OwnAfter outline code c start (after_of code (flights.Atomic flight) old)
-
-  -- a store that goes on stands where the measure needs it
-  store_goes : (code : Coding T) (c : ℕ) → IsCoding code → (start : AtomicStart T) (run : Running (Store T) T (Unit {0})) (stage : StoreStage)
-      (old : ℕ) → StoreStands code.size stage → GoesOnStanding code c (starts.Atomic start) (storing run stage) old
-  store_goes code c coded start run stores.LoadsVersion old stands = go (old == 2 ^ 64 - 1) refl
-    where
-      -- the cases are whether the version is at its end
-      go : (t : Bool) → (old == 2 ^ 64 - 1) ≡ t → GoesOnStanding code c (starts.Atomic start) (storing run stores.LoadsVersion) old
-      go true version_test = rw version_test tt
-      go false version_test =
-          let some = coded.some in
-          let cell = version_cell code.size old in
-          rw version_test (omega arith, omega arith, omega arith)
-  store_goes code c coded start run (stores.StoresCell cell at) old stands = go (nat_lt (at + 1) code.size) refl
-    where
-      -- the cases are whether a further word of the value follows
-      go : (t : Bool) → nat_lt (at + 1) code.size ≡ t → GoesOnStanding code c (starts.Atomic start) (storing run (stores.StoresCell cell at)) old
-      go true word_test = let less : at + 1 < code.size = grind (arith, nat_tests) in rw word_test (stands.0, stands.1, less)
-      go false word_test = rw word_test tt
-  store_goes code c coded start run stores.AddsVersion old stands = tt
-
-  -- a load that goes on stands where the measure needs it
-  load_goes : (code : Coding T) (c : ℕ) (start : AtomicStart T) (run : Running (Load T (buffers.Buffer 128)) (Unit {0}) (buffers.Buffer 128)) (old : ℕ)
-      → GoesOnStanding code c (starts.Atomic start) (calls.Load run) old
-  load_goes = grind arith
-
-  -- any call of the value that goes on stands where the measure needs it
-  call_goes : (code : Coding T) (c : ℕ) → IsCoding code → (start : AtomicStart T) (flight : AtomicFlight T) (old : ℕ) → CallStands code.size flight
-      → GoesOnStanding code c (starts.Atomic start) flight old
-  call_goes code c coded start (calls.Acquire run) old stands = tt
-  call_goes code c coded start (calls.Release run) old stands = tt
-  call_goes code c coded start (calls.Store run) old stands = store_goes code c coded start run run.call.stage old stands
-  call_goes code c coded start (calls.Load run) old stands = load_goes code c start run old
-  call_goes code c coded start (calls.Look run) old stands = tt
-  call_goes code c coded start (calls.Version run) old stands = tt
-
-  -- any call that the machine has under way goes on as a call of the value
+  -- a call that goes on is one of the value, and stands where the measure needs it
   goes : (code : Coding T) (c : ℕ) → IsCoding code → (start : Start T) (flight : Flight T) (old : ℕ) → At code c start flight
       → OwnAfter outline code c start (after_of code flight old)
-  goes code c coded (starts.Atomic start) (flights.Atomic flight) old stands = call_goes code c coded start flight old stands
-  goes code c coded start flight old stands = absurd stands
+  goes = grind (arith, version_cell, nat_tests)
 
   -- a call that begins on a value stands where the measure needs it, and the registry stays a value's
   begins : (code : Coding T) (c : ℕ) (start : Start T) (kept : Registry T) (flight : Flight T) → Kept kept

@@ -6,7 +6,7 @@ use Rattle.std.proofs.lemmas.List.{length-replicate, get_or-drop, length-drop}
 use Rattle.std.proofs.Math.Nat.{mul-le-mul_left}
 use Rattle.std.specs.List.{AllByRecursion}
 use Rattle.laws_value.proofs.Names.{cell_word, Ask, Next, Answer, Event, Start, Atomic, Flight, AtomicStart}
-use Rattle.laws_value.proofs.Names.{AtomicFlight, Party, Coding, IsCoding, old_of, ask_of, want, after, scene_of}
+use Rattle.laws_value.proofs.Names.{AtomicFlight, Party, Coding, IsCoding, old_of, ask_of, want, after}
 use Rattle.laws_value.proofs.Names.{inv_of}
 use Rattle.model.specs.declared.families.Registry.TheVariants as registries
 use Rattle.model.specs.declared.turn.Kind.TheVariants as kinds

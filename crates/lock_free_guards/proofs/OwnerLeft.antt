@@ -1,6 +1,6 @@
 -- What a recovery of one owner's indices leaves to him: none of those that he had through the call.
 use Rattle.std.proofs.Common.{◌≡◌, ◌≢◌, ◌⊎◌, inl, inr, ⊎_elim, ℕ, ◌==◌, true, Some, List, [], ◌∷◌, ◌++◌, fold}
-use Rattle.std.proofs.Common.{refl, sym, ap, ap₂, subst, ◌∙◌, arith, append-nil, append_assoc, true≢false}
+use Rattle.std.proofs.Common.{sym, ap, ap₂, subst, ◌∙◌, arith, append-nil, append_assoc, true≢false}
 use Rattle.std.specs.List.{All}
 use Rattle.std.proofs.lemmas.Bool.Decides.{nat_tests}
 use Rattle.std.proofs.lemmas.List.{same_from_push}
@@ -12,7 +12,7 @@ use Rattle.steps.specs.declared.indices.enums.ReleaseState.{ReleaseState}
 use Rattle.steps.specs.declared.indices.enums.ReleaseState.TheVariants as states
 use Rattle.model.specs.declared.event.Answer.TheVariants.{State}
 use Rattle.model.specs.declared.event.Event.{Event}
-use Rattle.model.specs.declared.event.Event.TheVariants.{Begun, FreedOf, Asked, Told, Locked, Finished}
+use Rattle.model.specs.declared.event.Event.TheVariants.{Begun, Locked, Finished}
 use Rattle.model.specs.declared.event.Start.{Start}
 use Rattle.model.specs.declared.event.Start.TheVariants.{Robust}
 use Rattle.model.specs.declared.families.indices.robust.RobustStart.TheVariants.{Recover}
@@ -155,27 +155,11 @@ module _ (p index owner : ℕ) where
 
 -- ---- what stands before its end
 
--- Two, three or four elements added one at a time make the same list as all of them at once.
-module _ {A : Type 0} (xs : List A) (a b c d : A) where
-  two_more : (xs ++ a ∷ []) ++ b ∷ [] ≡ xs ++ a ∷ b ∷ []
-  two_more = append_assoc xs (a ∷ []) (b ∷ [])
-
-  three_more : ((xs ++ a ∷ []) ++ b ∷ []) ++ c ∷ [] ≡ xs ++ a ∷ b ∷ c ∷ []
-  three_more = ap (λ (ys : List A). ys ++ c ∷ []) two_more ∙ append_assoc xs (a ∷ b ∷ []) (c ∷ [])
-
-  four_more : (((xs ++ a ∷ []) ++ b ∷ []) ++ c ∷ []) ++ d ∷ [] ≡ xs ++ a ∷ b ∷ c ∷ d ∷ []
-  four_more = ap (λ (ys : List A). ys ++ d ∷ []) three_more ∙ append_assoc xs (a ∷ b ∷ c ∷ []) (d ∷ [])
-
 module _ (p : ℕ) (start : Start ℕ) where
   -- what a visit wrote belongs to the call that is under way
   grows_one : (es : List (Event ℕ)) (index owner : ℕ) (came : Came)
       → fold own_after (Open start es) (wrote_to p index owner came) ≡ Open start (es ++ wrote_to p index owner came)
-  grows_one es index owner HasAsked = refl
-  grows_one es index owner WasTold = ap (Open start) (two_more es (Asked p index owner) (Told p index owner) (Locked p) (Locked p))
-  grows_one es index owner HasFreed =
-      ap (Open start) (three_more es (Asked p index owner) (Told p index owner) (FreedOf p index owner) (Locked p))
-  grows_one es index owner HasLocked =
-      ap (Open start) (four_more es (Asked p index owner) (Told p index owner) (FreedOf p index owner) (Locked p))
+  grows_one es index owner came = grind (arith, append_assoc)
 
   -- what all visits wrote belongs to the call that is under way
   grows : (es : List (Event ℕ)) (visits : List Visit) → fold own_after (Open start es) (wrote_by p visits) ≡ Open start (es ++ wrote_by p visits)

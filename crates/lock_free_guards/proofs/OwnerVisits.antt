@@ -1,7 +1,7 @@
 -- The visits of a recovery that is told to free the indices of one owner alone: what its closures said and counted, and what
 -- it freed.
 use Rattle.std.proofs.Common.{◌≡◌, ◌≢◌, ℕ, ◌+◌, ◌==◌, Bool, true, false, List, [], ◌∷◌, length, sum_by, if◌then◌else◌}
-use Rattle.std.proofs.Common.{refl, sym, ap, ◌∙◌, arith}
+use Rattle.std.proofs.Common.{refl, ap, ◌∙◌, arith}
 use Rattle.std.specs.List.{All, FoldsTo}
 use Rattle.std.proofs.lemmas.Bool.Decides.{nat_tests}
 use Rattle.std.proofs.lemmas.List.Elements.{All-nil, All-cons, All-head, All-tail}
@@ -11,7 +11,7 @@ use Rattle.steps.specs.declared.indices.enums.ReleaseState.{ReleaseState}
 use Rattle.model.specs.declared.event.Answer.TheVariants.{State}
 use Rattle.model.specs.declared.event.Start.TheVariants.{Robust}
 use Rattle.model.specs.declared.families.indices.robust.RobustStart.TheVariants.{Recover}
-use Rattle.history.specs.Robust.{Came, HasAsked, WasTold, HasFreed, HasLocked, Visit, visit, wrote_to, wrote_of, wrote_by}
+use Rattle.history.specs.Robust.{Came, Visit, visit, wrote_to, wrote_of, wrote_by}
 use Rattle.history.specs.declared.view.View.{View}
 use Rattle.lock_free_owners.specs.Robust.Callable.{asks, freed_of, questions_of, was_freed, was_told}
 use Rattle.lock_free_owners.specs.Robust.Contracts.{HasRecovered}
@@ -51,19 +51,13 @@ module _ {F : Type 0} {step : F → ℕ → ℕ → Bool → F → Type 0} (name
 -- with a visit more, one index more was freed if this visit freed it
 freed_more : (index owner : ℕ) (came : Came) (visits : List Visit)
     → length (freed_of (visit index owner came ∷ visits)) ≡ (if was_freed came then 1 else 0) + length (freed_of visits)
-freed_more index owner HasAsked visits = omega arith
-freed_more index owner WasTold visits = omega arith
-freed_more index owner HasFreed visits = omega arith
-freed_more index owner HasLocked visits = omega arith
+freed_more index owner came visits = grind arith
 
 module _ (owner p : ℕ) where
   -- a visit that was told yes just if the owner has the index frees an index of this owner just if it freed any
   one_of_owner : (index o : ℕ) (came : Came) → was_told came ≡ (o == owner)
       → sum_by (frees_of owner) (wrote_to p index o came) ≡ (if was_freed came then 1 else 0)
-  one_of_owner index o HasAsked told = refl
-  one_of_owner index o WasTold told = refl
-  one_of_owner index o HasFreed told = (let it : (o == owner) ≡ true = sym told in rw it refl)
-  one_of_owner index o HasLocked told = (let it : (o == owner) ≡ true = sym told in rw it refl)
+  one_of_owner index o came told = grind arith
 
   -- the visits freed as many indices of this owner as they freed in all
   all_of_owner : (visits : List Visit) → All (IsToldFor owner) visits → sum_by (frees_of owner) (wrote_by p visits) ≡ length (freed_of visits)
@@ -84,10 +78,7 @@ module _ (owner p : ℕ) where
 
     -- A visit that was told of this owner alone freed no index of another owner.
     none_of_other : (index o : ℕ) (came : Came) → was_told came ≡ (o == owner) → sum_by (frees_of other) (wrote_to p index o came) ≡ 0
-    none_of_other index o HasAsked told = refl
-    none_of_other index o WasTold told = refl
-    none_of_other index o HasFreed told = (let it = is_another o told in rw it refl)
-    none_of_other index o HasLocked told = (let it = is_another o told in rw it refl)
+    none_of_other index o came told = grind (arith, is_another)
 
     -- the visits freed no index of another owner
     none_of_others : (visits : List Visit) → All (IsToldFor owner) visits → sum_by (frees_of other) (wrote_by p visits) ≡ 0

@@ -1,15 +1,17 @@
 -- Acquires of a unique index set that are tried again: what each try adds, and how the last one ends them.
-use Rattle.std.proofs.Common.{◌≡◌, ℕ, ◌+◌, ◌-◌, true, false, Result, Ok, Err, IfOk, IfErr, [], ◌∷◌, refl, subst, arith}
+use Rattle.std.proofs.Common.{◌≡◌, ℕ, ◌+◌, ◌-◌, true, false, Result, Ok, Err, IfOk, IfErr, List, [], ◌∷◌, refl, subst, arith}
 use Rattle.steps.specs.declared.indices.enums.UniqueIndexSetAcquireFailure.{UniqueIndexSetAcquireFailure}
 use Rattle.steps.specs.declared.indices.enums.UniqueIndexSetAcquireFailure.TheVariants.{IsLocked, OutOfIndices}
+use Rattle.model.specs.declared.event.Answer.{Answer}
 use Rattle.model.specs.declared.event.Answer.TheVariants.{NoIndex}
+use Rattle.model.specs.declared.event.Event.{Event}
 use Rattle.model.specs.declared.event.Event.TheVariants.{Finished}
 use Rattle.model.specs.declared.event.Start.{Start}
 use Rattle.model.specs.declared.event.Start.TheVariants.{Indices}
 use Rattle.model.specs.declared.families.indices.IndexStart.TheVariants.{Acquire}
 use Rattle.model.specs.Families.Indices.Reading.{is_locked}
 use Rattle.history.specs.Held.{claims, frees}
-use Rattle.history.specs.History.{IsBeginning}
+use Rattle.history.specs.History.{Called, IsBeginning}
 use Rattle.history.specs.Passes.{Goes}
 use Rattle.history.specs.declared.view.View.{View}
 use Rattle.history.proofs.Locks.{lock_stays}
@@ -47,28 +49,24 @@ module _ (n : ℕ) (u v : View ℕ) (tried : HasTried n start u v) where
 
 -- from first to v the pass has tried n times; it goes on from v to w
 module _ (n : ℕ) (first v w : Pass) (tried : HasTried n start (view first) (view v)) (same : SamePass v w) where
-  module _ (i : ℕ) (h : HasAcquired i (view v) (view w)) where
-    -- What the pass knows goes on over the last try.
-    acquired_goes : Goes (view v) (view w)
-    acquired_goes = record { share = same.share; since = seen_begins _ _ _ _ (view v) (view w) h.taken.called; first = same.first; all = same.all }
+  -- What the pass knows goes on over one more try.
+  goes : {p : ℕ} {answer : Answer ℕ} {wrote : List (Event ℕ)} → Called p start answer wrote (view v) (view w) → Goes (view v) (view w)
+  goes called = record { share = same.share; since = seen_begins _ _ _ _ (view v) (view w) called; first = same.first; all = same.all }
 
+  module _ (i : ℕ) (h : HasAcquired i (view v) (view w)) where
     -- A last try that took an index ends the tries.
     pub acquired : EndsTries n start (HasAcquired i) (view first) (view w)
-    acquired = last_try start n (view first) (view v) (view w) tried acquired_goes (HasAcquired i) h
+    acquired = last_try start n (view first) (view v) (view w) tried (goes h.taken.called) (HasAcquired i) h
 
   module _ (failure : UniqueIndexSetAcquireFailure) (h : WasRefused failure (view v) (view w)) where
-    -- What the pass knows goes on over a last try that was refused.
-    pub refused_goes : Goes (view v) (view w)
-    refused_goes = record { share = same.share; since = seen_begins _ _ _ _ (view v) (view w) h.taken.called; first = same.first; all = same.all }
-
     -- A last try that was refused ends the tries.
     pub refused : EndsTries n start (WasRefused failure) (view first) (view w)
-    refused = last_try start n (view first) (view v) (view w) tried refused_goes (WasRefused failure) h
+    refused = last_try start n (view first) (view v) (view w) tried (goes h.taken.called) (WasRefused failure) h
 
   -- One more try to which no index was left makes n + 1 tries.
   pub one_next : WasRefused OutOfIndices (view v) (view w) → HasTried (n + 1) start (view first) (view w)
   one_next was_refused =
-      one_more start n (view first) (view v) (view w) tried (refused_goes OutOfIndices was_refused) was_refused.taken.by
+      one_more start n (view first) (view v) (view w) tried (goes was_refused.taken.called) was_refused.taken.by
       was_refused.taken.called
 
 -- ---- ---- the last one of several tries, by its answer

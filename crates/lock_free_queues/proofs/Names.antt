@@ -1,7 +1,7 @@
 -- The names of the standard library and of the crates below that proofs here use.
 pub use Rattle.atomic_table.specs.Seated.{TableId}
 pub use Rattle.atomic_table.specs.Table.{Allows, Me, opening}
-pub use Rattle.history.proofs.Alone.{OneMachine, Here, begins, ends, maker, same_seat, sums}
+pub use Rattle.history.proofs.Alone.{OneMachine, Here, begins_any, ends_at}
 pub use Rattle.history.proofs.AnyRoles.{acquire_first_on, len_first_on, look_first_on, release_first_on}
 pub use Rattle.history.proofs.Calls.{get_left, set_left}
 pub use Rattle.history.proofs.Drives.{called}
@@ -15,7 +15,7 @@ pub use Rattle.history.proofs.Passes.{joins, one_more, set_same, splits}
 pub use Rattle.history.proofs.PeekHolders.{peeker}
 pub use Rattle.history.proofs.Peeks.{peek_first, peek_keep_all, value_peek_first, value_peek_keeps}
 pub use Rattle.history.proofs.QueueCalls.{holds_it, pop_first, pop_keep_all, push_first, push_keeps}
-pub use Rattle.history.proofs.Queues.{index_owes, plain_starts, queue_effects, queue_goes_on, ring_owes, role_starts}
+pub use Rattle.history.proofs.Queues.{index_owes, plain_begins, queue_effects, queue_goes_on, ring_owes, role_begins}
 pub use Rattle.history.proofs.Queues.{sound_of, values_owe}
 pub use Rattle.history.proofs.Roles.{granted, role_by}
 pub use Rattle.history.proofs.Turns.{MachineLaws, machine_laws}

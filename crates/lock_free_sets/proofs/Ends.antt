@@ -10,43 +10,32 @@ pub aside_most : {n m : ℕ} → (m ≡ n) ⊎ (m ≡ n + 1) → m ≤ n + 1
 aside_most (inl same) = omega arith
 aside_most (inr more) = omega arith
 
--- Of a call that has ended: base and w are what the pass knew before the call and after it, e is its
--- end and m its room; by `own`, a pass that was a party makes the call as this party.
-module _ {C M E : Type 0} (kind : Kind) (call : Calling ℕ C M E)
-    (own : (o : Option ℕ) (p : ℕ) → call.by o p → IfSome o (λ q. q ≡ p)) (base w : View ℕ) (e : E) (m : M)
-    (ends : Ends one_word kind call base e m w) where
-  -- a call of a pass's own party that has ended leaves of the pass what each whole call on a set
-  -- leaves
-  pub done : HasDone kind base w
-  done =
-      record {
-        capacity = ends.capacity;
-        share = ends.share;
-        party = go base.party (own base.party ends.party ends.same);
-        idle = ends.idle;
-        alone = ends.alone;
-        history = ends.history;
-        ran = ends.ran;
-        aside = aside_most ends.aside;
-        all = ends.all;
-      }
-    where
-      -- the cases are whether the pass had been a party
-      go : (o : Option ℕ) → IfSome o (λ p. p ≡ ends.party) → IfSome o (λ p. w.party ≡ Some p)
-      go None h = tt
-      go (Some p) h = ends.mine ∙ ap Some (sym h)
+-- A call that has ended leaves of its pass what each whole call on a set leaves. By `own`, a pass that was a party makes the call
+-- as this party.
+pub done : {C M E : Type 0} {kind : Kind} {call : Calling ℕ C M E} {base w : View ℕ} {e : E} {m : M} → Ends one_word kind call base e m w
+    → ((o : Option ℕ) (p : ℕ) → call.by o p → IfSome o (λ q. q ≡ p)) → HasDone kind base w
+done {base = base} {w = w} ends own =
+    record {
+      capacity = ends.capacity;
+      share = ends.share;
+      party = go base.party (own base.party ends.party ends.same);
+      idle = ends.idle;
+      alone = ends.alone;
+      history = ends.history;
+      ran = ends.ran;
+      aside = aside_most ends.aside;
+      all = ends.all;
+    }
+  where
+    -- the cases are whether the pass had been a party
+    go : (o : Option ℕ) → IfSome o (λ p. p ≡ ends.party) → IfSome o (λ p. w.party ≡ Some p)
+    go None h = tt
+    go (Some p) h = ends.mine ∙ ap Some (sym h)
 
--- base and w are what the pass knew before the call and after it, e is its end, m its room then
-module _ {C M E : Type 0} (kind : Kind) (call : Calling ℕ C M E) (base w : View ℕ) (e : E) (m : M) (ends : Ends one_word kind call base e m w)
-    (idle : base.going ≡ None) (wrote : ℕ → List (Event ℕ)) where
-  -- A call that has ended is a call of the history with its answer and what it wrote.
-  pub has_made : ends.wrote ≡ wrote ends.party → HasMade call.start (call.answer e m) wrote base w
-  has_made wrote_is = grind (arith, called, one_word)
-
--- the same, as the end of the call tells all but what the call wrote
+-- A call that has ended is a call of the history with its answer and what it wrote.
 pub made_by : {C M E : Type 0} {kind : Kind} {call : Calling ℕ C M E} {base w : View ℕ} {e : E} {m : M} → (ends : Ends one_word kind call base e m w)
     → base.going ≡ None → (wrote : ℕ → List (Event ℕ)) → ends.wrote ≡ wrote ends.party → HasMade call.start (call.answer e m) wrote base w
-made_by {C} {M} {E} {kind} {call} {base} {w} {e} {m} ends idle wrote is = has_made kind call base w e m ends idle wrote is
+made_by ends idle wrote wrote_is = grind (arith, called, one_word)
 
 -- all that was seen before the end of the call
 abbrev pub before_end : {p : ℕ} {start : Start ℕ} {answer : Answer ℕ} {wrote : List (Event ℕ)} {old new : View ℕ}

@@ -1,7 +1,7 @@
 -- The names of the standard library and of the crates below that proofs here use.
 pub use Rattle.atomic_table.specs.Seated.{TableId}
 pub use Rattle.atomic_table.specs.Table.{Me, opening}
-pub use Rattle.history.proofs.Drives.{IsCallOf, called, goes, keeps_all}
+pub use Rattle.history.proofs.Drives.{Driven, IsCallBy, KeepsEnds, called, goes, keeps_to_end}
 pub use Rattle.history.proofs.Held.{held_by, holds_once}
 pub use Rattle.history.proofs.Passes.{joins, splits}
 pub use Rattle.history.specs.Held.{Holds, claims, frees}
@@ -50,6 +50,6 @@ pub use Rattle.steps.specs.declared.copied.OneWord.{OneWord}
 pub use Rattle.steps.specs.declared.indices.enums.ReleaseState.{ReleaseState}
 pub use Rattle.steps.specs.declared.indices.enums.ReleaseState.TheVariants.{Locked, Unlocked}
 pub use Rattle.steps.specs.declared.indices.enums.UniqueIndexSetAcquireFailure.{UniqueIndexSetAcquireFailure}
-pub use Rattle.threaded.specs.Driver.{KeepsRule, OwesAsk, answered}
+pub use Rattle.threaded.specs.Driver.{OwesAsk, answered}
 pub use Rattle.threaded.specs.Seats.{seen}
 pub use Rattle.threaded.specs.Shares.{IsAll}

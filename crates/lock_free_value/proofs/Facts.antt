@@ -6,7 +6,7 @@ use Rattle.std.proofs.lemmas.List.Sums.{fold-append}
 use Rattle.model.proofs.Readings.{Each-less}
 use Rattle.lock_free_value.proofs.Names.{nat_tests, flat_map-append, sum_by-append, Truth, Loaded, Done, Event, Begun}
 use Rattle.lock_free_value.proofs.Names.{Acted, Finished, Atomic, Coding, GrantsRight, stores, stored, IsAll, View}
-use Rattle.lock_free_value.proofs.Names.{IsHistory, IsBeginning, Looks, HasProducer, takes_producer, gives_producer}
+use Rattle.lock_free_value.proofs.Names.{IsHistory, Looks, HasProducer, takes_producer, gives_producer}
 use Rattle.lock_free_value.proofs.Names.{stores_value, last_or, IsLast}
 use Rattle.steps.specs.declared.ask.Ask.{Ask}
 use Rattle.steps.specs.declared.ask.Op.TheVariants.{Load as Loads}
@@ -18,16 +18,16 @@ use Rattle.model.specs.declared.event.Answer.{Answer}
 use Rattle.model.specs.declared.event.Start.{Start}
 use Rattle.model.specs.declared.event.Answer.TheVariants.{Number}
 use Rattle.model.specs.declared.families.atomic.AtomicStart.TheVariants as starts
-use Rattle.model.specs.declared.families.atomic.AtomicStart.TheVariants.{AcquireProducer, ReleaseProducer, Store, Load}
+use Rattle.model.specs.declared.families.atomic.AtomicStart.TheVariants.{ReleaseProducer, Store, Load}
 use Rattle.model.specs.declared.turn.Kind.TheVariants as kinds
 use Rattle.model.specs.Families.Atomic.Reading.{holder_after, holder_of}
 use Rattle.model.specs.Reading.{Each}
-use Rattle.history.specs.History.{Called, Knows}
+use Rattle.history.specs.History.{Called}
 use Rattle.history.specs.Passes.{Goes}
 use Rattle.history.specs.Stages.{Calling, opened, Ends, Over}
 use Rattle.history.specs.Steps.{TakesAtMost}
 use Rattle.model.specs.Progress.{guarantee_of}
-use Rattle.history.specs.Value.{ByProducer, acquires_producer, looks_at_producer, looks_at_version}
+use Rattle.history.specs.Value.{ByProducer, looks_at_producer, looks_at_version}
 use Rattle.history.specs.Value.{releases_producer, store_skips, value_of_room, loads_value}
 use Rattle.history.proofs.Drives.{called}
 use Rattle.history.proofs.OneHolder.{first_wrote, listed, none_looked, none_since, none_to_end}
@@ -37,7 +37,7 @@ use Rattle.history.proofs.Paid.{AllowsOne, TakesBy, takes, left_takes}
 use Rattle.history.proofs.Values.{value_goes_on, value_pays, producer_by}
 use Rattle.lock_free_value.specs.Calls.{WasAtEnd}
 use Rattle.lock_free_value.specs.Roles.{Moved}
-use Rattle.lock_free_value.specs.ValueContracts.{HasAcquired, HasReleased, HasStored, HasLoaded, HasSeenProducer, HasSeenVersion}
+use Rattle.lock_free_value.specs.ValueContracts.{HasReleased, HasStored, HasLoaded, HasSeenProducer, HasSeenVersion}
 
 module _ {T : Type 0} where
   -- ---- what the role came to, by what was made
@@ -55,98 +55,85 @@ ends_at code x stages.LoadsVersion n a skips e =
 ends_at code x (stages.StoresCell cell at) n a skips e = absurd (cc)
 ends_at code x stages.AddsVersion n a skips e = absurd (cc)
 
--- A call on a value has led its pass from `base`, where no call was under way, to `w`.
-module _ {T : Type 0} (code : Coding T) (base w : View T) (idle : base.going ≡ None) (one : base.capacity ≡ 1) where
-  -- ---- what every call leaves
+-- ---- what every call leaves
 
-  -- the pass goes on, with one operation more aside at most; it knows its history, has no call
-  -- under way, and still sees a store where it saw one
-  pub record Leaves : Type 0 where
-    pub goes : Goes base w
-    pub aside : w.aside ≤ base.aside + 1
-    pub knows : Knows code kinds.Atomic 1 w
-    pub sized : w.capacity ≡ 1
-    pub quiet : w.going ≡ None
-    pub alone : w.other ≡ []
-    pub begun : 0 < length (stored base.seen) → 0 < length (stored w.seen)
+-- the pass goes on, with one operation more aside at most
+pub record Leaves {T : Type 0} (base w : View T) : Type 0 where
+  pub goes : Goes base w
+  pub aside : w.aside ≤ base.aside + 1
 
-  -- What was stored once stays stored, so something is stored still.
-  begun_still : IsBeginning base.seen w.seen → 0 < length (stored base.seen) → 0 < length (stored w.seen)
-  begun_still beginning length_positive = grind (arith, length, stored, flat_map-append, stores, length-append)
+module _ {T C M E : Type 0} {code : Coding T} {call : Calling T C M E} {base w : View T} {e : E} {m : M} where
+  -- A call that has ended leaves of its pass what every call leaves.
+  ends_leaves : Ends code kinds.Atomic call base e m w → Leaves base w
+  ends_leaves ends = grind (arith, opened, append_assoc)
 
-  module _ {C M E : Type 0} (call : Calling T C M E) where
-    -- A call that has ended leaves of its pass what every call leaves.
-    ends_leaves : (e : E) (m : M) → Ends code kinds.Atomic call base e m w → Leaves
-    ends_leaves e m ends = grind (arith, opened, append_assoc, begun_still)
+  -- a call that is over leaves of its pass what every call leaves
+  pub leaves : Over code kinds.Atomic call base e m w → Leaves base w
+  leaves (inl ends) = ends_leaves ends
+  leaves (inr left) =
+      let looked = left.looked in
+      record {
+        goes =
+            record {
+              share = looked.share;
+              since = looked.mine;
+              first = looked.ran.first;
+              all = λ whole. looked.all (subst IsAll looked.share whole);
+            };
+        aside = omega (arith, left.asked, looked.aside);
+      }
 
-    -- a call that is over leaves of its pass what every call leaves
-    pub leaves : (e : E) (m : M) → Over code kinds.Atomic call base e m w → Leaves
-    leaves e m (inl ends) = ends_leaves e m ends
-    leaves e m (inr left) =
-        let looked = left.looked in
-        record {
-          goes =
-              record {
-                share = looked.share;
-                since = looked.mine;
-                first = looked.ran.first;
-                all = λ whole. looked.all (subst IsAll looked.share whole);
-              };
-          aside = omega (arith, left.asked, looked.aside);
-          knows = subst (λ n. Knows code kinds.Atomic n w) one looked.ran.knows;
-          sized = looked.capacity ∙ one;
-          quiet = looked.going ∙ idle;
-          alone = looked.other;
-          begun = begun_still looked.mine;
-        }
+-- ---- what a history says of itself
 
+module _ {T : Type 0} {code : Coding T} {capacity : ℕ} {seen : List (Event T)} (history : IsHistory code kinds.Atomic capacity seen) where
   -- the promise of the machine, of what was seen
-  grants : IsHistory code kinds.Atomic base.capacity w.seen → Each GrantsRight w.seen
-  grants history = subst (Each GrantsRight) (sym history.is) (value_goes_on code base.capacity history.trace history.run).roles
+  grants : Each GrantsRight seen
+  grants = subst (Each GrantsRight) (sym history.is) (value_goes_on code capacity history.trace history.run).roles
 
   -- In a history only the holder of the role stores.
-  producers : IsHistory code kinds.Atomic base.capacity w.seen → Each ByProducer w.seen
-  producers history = history_by_producers code base.capacity w.seen history
+  producers : Each ByProducer seen
+  producers = history_by_producers code capacity seen history
 
+-- ---- a call that wrote nothing but its begin and its end
+
+module _ {T : Type 0} {base w : View T} {p : ℕ} {start : Start T} {answer : Answer T} (c : Called p start answer [] base w) where
+  -- all that was seen before the end of the call
+  abbrev before_end : List (Event T)
+  before_end = (base.seen ++ c.others) ++ Begun p start ∷ c.during
+
+  -- What is seen behind the call ends with its end.
+  to_end : w.seen ≡ before_end ++ Finished p start answer ∷ []
+  to_end = c.is ∙ sym (append_assoc (base.seen ++ c.others) (Begun p start ∷ c.during) (Finished p start answer ∷ []))
+
+  -- If neither its begin nor its end moves the role, it has moved no role.
+  none_moved : sum_by takes_producer (Begun p start ∷ Finished p start answer ∷ []) ≡ 0
+      → sum_by gives_producer (Begun p start ∷ Finished p start answer ∷ []) ≡ 0 → Moved 0 0 base.made w.made
+  none_moved none_taken none_given =
+      moved 0 0 base.made w.made (Begun p start ∷ Finished p start answer ∷ []) c.made none_taken none_given
+
+module _ {T : Type 0} (x : T) where
+  -- The act of a store of x.
+  abbrev act : ℕ → Event T
+  act p = Acted p (Atomic (Store x)) (Truth true)
+
+  -- The end of a store of x that answers true.
+  abbrev end : ℕ → Event T
+  end p = Finished p (Atomic (Store x)) (Truth true)
+
+-- A call on a value has led its pass from `base`, where no call was under way, to `w`.
+module _ {T : Type 0} {code : Coding T} {base w : View T} (idle : base.going ≡ None) (one : base.capacity ≡ 1) where
   -- ---- the role
 
-  -- An acquire of the role is a call of the history with its answer.
-  pub acquired : (b : Bool) (m : Unit {0}) → Ends code kinds.Atomic acquires_producer base b m w → HasAcquired b base w
-  acquired b m ends = grind (arith, called, acquires_producer)
-
-  -- an acquire that answers true has taken the role once
-  pub taken_once : (b : Bool) (m : Unit {0}) → Ends code kinds.Atomic acquires_producer base b m w → b ≡ true → Moved 1 0 base.made w.made
-  unfolding acquired
-  taken_once b m ends is =
-      let c = (acquired b m ends).called in
-      let party_now = ends.party in
-      moved 1 0 base.made w.made
-      (Begun party_now (Atomic AcquireProducer) ∷ Finished party_now (Atomic AcquireProducer) (Truth true) ∷ [])
-      (c.made ∙ ap (λ z. base.made ++ Begun party_now (Atomic AcquireProducer) ∷ Finished party_now (Atomic AcquireProducer) (Truth z) ∷ []) is)
-      refl refl
-
-  -- an acquire that answers false has taken no role
-  pub not_taken : (b : Bool) (m : Unit {0}) → Ends code kinds.Atomic acquires_producer base b m w → b ≡ false → Moved 0 0 base.made w.made
-  unfolding acquired
-  not_taken b m ends is =
-      let c = (acquired b m ends).called in
-      let party_now = ends.party in
-      moved 0 0 base.made w.made
-      (Begun party_now (Atomic AcquireProducer) ∷ Finished party_now (Atomic AcquireProducer) (Truth false) ∷ [])
-      (c.made ∙ ap (λ z. base.made ++ Begun party_now (Atomic AcquireProducer) ∷ Finished party_now (Atomic AcquireProducer) (Truth z) ∷ []) is)
-      refl refl
-
   -- the events of a call whose end alone is its own
-  pub released : (e m : Unit {0}) → Ends code kinds.Atomic releases_producer base e m w → HasReleased base w
-  released e m ends =
+  pub released : {e m : Unit {0}} → Ends code kinds.Atomic releases_producer base e m w → HasReleased base w
+  released {e} {m} ends =
       let party_now = ends.party in
       let start : Start T = Atomic ReleaseProducer in
       let its_call : Called party_now start Done [] base w =
       subst (λ es. Called party_now start Done es base w) ends.tells (called code kinds.Atomic releases_producer base w e m idle ends) in
       let last : Event T = Finished party_now start Done in
-      let events_then : List (Event T) = (base.seen ++ its_call.others) ++ Begun party_now start ∷ its_call.during in
-      let seen_is : w.seen ≡ events_then ++ last ∷ [] =
-      its_call.is ∙ sym (append_assoc (base.seen ++ its_call.others) (Begun party_now start ∷ its_call.during) (last ∷ [])) in
+      let events_then : List (Event T) = before_end its_call in
+      let seen_is : w.seen ≡ events_then ++ last ∷ [] = to_end its_call in
       -- Only the holder stores, and the party held the role until its release ended.
       let each : Each ByProducer events_then = Each-less ByProducer events_then (last ∷ []) (subst (Each ByProducer) seen_is (producers ends.history)) in
       let held : holder_of events_then ≡ Some party_now = (grants ends.history events_then [] last seen_is).1 in
@@ -160,14 +147,6 @@ module _ {T : Type 0} (code : Coding T) (base w : View T) (idle : base.going ≡
             its_call.others_own its_call.during_own held last refl;
       }
 
-  -- a release has given the role back once
-  pub given_once : (e m : Unit {0}) → Ends code kinds.Atomic releases_producer base e m w → Moved 0 1 base.made w.made
-  unfolding released
-  given_once e m ends =
-      let c = (released e m ends).called in
-      let party_now = ends.party in
-      moved 0 1 base.made w.made (Begun party_now (Atomic ReleaseProducer) ∷ Finished party_now (Atomic ReleaseProducer) Done ∷ []) c.made refl refl
-
   -- a look of who has the role finds nothing that another stored
   looked_alone : Looks code kinds.Atomic base.capacity base w → base.other ≡ [] → 0 < base.share.part → HasProducer base.made → stored w.seen ≡ stored base.seen
   looked_alone looks alone some has =
@@ -178,17 +157,9 @@ module _ {T : Type 0} (code : Coding T) (base w : View T) (idle : base.going ≡
 
   -- ---- the looks
 
-  -- all that was seen before the end of a call
-  abbrev before_end : {p : ℕ} {start : Start T} {answer : Answer T} → Called p start answer [] base w → List (Event T)
-  before_end {p} {start} {answer} c = (base.seen ++ c.others) ++ Begun p start ∷ c.during
-
-  -- What is seen behind a call ends with the end of the call.
-  to_end : {p : ℕ} {start : Start T} {answer : Answer T} (c : Called p start answer [] base w) → w.seen ≡ before_end c ++ Finished p start answer ∷ []
-  to_end {p} {start} {answer} c = c.is ∙ sym (append_assoc (base.seen ++ c.others) (Begun p start ∷ c.during) (Finished p start answer ∷ []))
-
   -- a look at the role that has ended answered whether somebody had the role as it ended
-  pub seen_producer : (b : Bool) (m : Unit {0}) → Ends code kinds.Atomic looks_at_producer base b m w → HasSeenProducer b base w
-  seen_producer b m ends =
+  pub seen_producer : {b : Bool} {m : Unit {0}} → Ends code kinds.Atomic looks_at_producer base b m w → HasSeenProducer b base w
+  seen_producer {b} {m} ends =
       let party_now = ends.party in
       let last : Event T = Finished party_now (Atomic starts.HasProducer) (Truth b) in
       let its_call : Called party_now (Atomic starts.HasProducer) (Truth b) [] base w =
@@ -202,16 +173,12 @@ module _ {T : Type 0} (code : Coding T) (base w : View T) (idle : base.going ≡
       record { by = party_now; mine = ends.mine; called = its_call; holder = taken ∙ ap (λ o. not (is_none o)) (sym same) }
 
   -- a look at the role takes none, and gives none back
-  pub seen_producer_moves : (b : Bool) (m : Unit {0}) → Ends code kinds.Atomic looks_at_producer base b m w → Moved 0 0 base.made w.made
-  unfolding seen_producer
-  seen_producer_moves b m ends =
-      let party_now = ends.party in
-      moved 0 0 base.made w.made (Begun party_now (Atomic starts.HasProducer) ∷ Finished party_now (Atomic starts.HasProducer) (Truth b) ∷ [])
-      (seen_producer b m ends).called.made refl refl
+  pub seen_producer_moves : {b : Bool} {m : Unit {0}} → Ends code kinds.Atomic looks_at_producer base b m w → Moved 0 0 base.made w.made
+  seen_producer_moves ends = none_moved (seen_producer ends).called refl refl
 
   -- a look at the version that has ended answered 1 more than the number of the values that were stored as it ended
-  pub seen_version : (n : ℕ) (m : Unit {0}) → Ends code kinds.Atomic looks_at_version base n m w → HasSeenVersion n base w
-  seen_version n m ends =
+  pub seen_version : {n : ℕ} {m : Unit {0}} → Ends code kinds.Atomic looks_at_version base n m w → HasSeenVersion n base w
+  seen_version {n} {m} ends =
       let party_now = ends.party in
       let last : Event T = Finished party_now (Atomic starts.Version) (Number n) in
       let its_call : Called party_now (Atomic starts.Version) (Number n) [] base w =
@@ -224,27 +191,15 @@ module _ {T : Type 0} (code : Coding T) (base w : View T) (idle : base.going ≡
       record { by = party_now; mine = ends.mine; called = its_call; count = counted ∙ ap (λ zs. length zs + 1) (sym same) }
 
   -- a look at the version takes no role, and gives none back
-  pub seen_version_moves : (n : ℕ) (m : Unit {0}) → Ends code kinds.Atomic looks_at_version base n m w → Moved 0 0 base.made w.made
-  unfolding seen_version
-  seen_version_moves n m ends =
-      let party_now = ends.party in
-      moved 0 0 base.made w.made (Begun party_now (Atomic starts.Version) ∷ Finished party_now (Atomic starts.Version) (Number n) ∷ [])
-      (seen_version n m ends).called.made refl refl
+  pub seen_version_moves : {n : ℕ} {m : Unit {0}} → Ends code kinds.Atomic looks_at_version base n m w → Moved 0 0 base.made w.made
+  seen_version_moves ends = none_moved (seen_version ends).called refl refl
 
   -- ---- stores
 
   module _ (x : T) where
-    -- The act of a store of x.
-    abbrev act : ℕ → Event T
-    act p = Acted p (Atomic (Store x)) (Truth true)
-
-    -- The end of a store of x that answers true.
-    abbrev end : ℕ → Event T
-    end p = Finished p (Atomic (Store x)) (Truth true)
-
     -- A store that answers true is a call of the history that acted once.
     stored_so : (m : Unit {0}) → (ends : Ends code kinds.Atomic (stores_value code x) base true m w)
-        → Called ends.party (Atomic (Store x)) (Truth true) (act ends.party ∷ []) base w
+        → Called ends.party (Atomic (Store x)) (Truth true) (act x ends.party ∷ []) base w
     stored_so m ends = grind (arith, called, stores_value)
 
     -- a store that answers true stored its value right after all that was seen to be stored, and nobody stored after it
@@ -252,10 +207,10 @@ module _ {T : Type 0} (code : Coding T) (base w : View T) (idle : base.going ≡
     has_stored m ends =
         let party_now = ends.party in
         let c = stored_so m ends in
-        let wrote_first = first_wrote party_now (Atomic (Store x)) (Truth true) (act party_now) [] base w c in
+        let wrote_first = first_wrote party_now (Atomic (Store x)) (Truth true) (act x party_now) [] base w c in
         let all = producers ends.history in
         let right = grants ends.history in
-        let holds : holder_of wrote_first.before ≡ Some party_now = all wrote_first.before wrote_first.after (act party_now) wrote_first.is in
+        let holds : holder_of wrote_first.before ≡ Some party_now = all wrote_first.before wrote_first.after (act x party_now) wrote_first.is in
         record {
           by = party_now;
           mine = ends.mine;
@@ -269,57 +224,45 @@ module _ {T : Type 0} (code : Coding T) (base w : View T) (idle : base.going ≡
         }
 
     -- A store that answers true has stored its value.
-    pub stored_if : (e : Bool) (m : Unit {0}) → Over code kinds.Atomic (stores_value code x) base e m w → e ≡ true → HasStored x base w
-    stored_if e m (inl ends) is = has_stored m (subst (λ b. Ends code kinds.Atomic (stores_value code x) base b m w) is ends)
-    stored_if e m (inr left) is = (let no : false ≡ true = sym left.left ∙ is in absurd (cc))
+    pub stored_if : {e : Bool} {m : Unit {0}} → Over code kinds.Atomic (stores_value code x) base e m w → e ≡ true → HasStored x base w
+    stored_if {e} {m} (inl ends) is = has_stored m (subst (λ b. Ends code kinds.Atomic (stores_value code x) base b m w) is ends)
+    stored_if {e} {m} (inr left) is = (let no : false ≡ true = sym left.left ∙ is in absurd (cc))
 
     -- A store that answers false was left out, as the last version was reached.
-    pub at_end_if : base.other ≡ [] → 0 < base.share.part → HasProducer base.made → (e : Bool) (m : Unit {0})
+    pub at_end_if : base.other ≡ [] → 0 < base.share.part → HasProducer base.made → {e : Bool} {m : Unit {0}}
         → Over code kinds.Atomic (stores_value code x) base e m w → e ≡ false → WasAtEnd base w
-    at_end_if other_is_empty part_positive producer e m over not_ended = grind (arith, ends_at, slice_index, length, stored, version_is_count, looked_alone)
-
-    -- a store, or the look that it was instead, takes no role, and gives none back
-    pub store_moves : (e : Bool) (m : Unit {0}) → Over code kinds.Atomic (stores_value code x) base e m w → Moved 0 0 base.made w.made
-    store_moves e m (inl ends) =
-        let party_now = ends.party in
-        let yes = subst (λ b. Ends code kinds.Atomic (stores_value code x) base b m w) ends.tells.0 ends in
-        let party_there = yes.party in
-        moved 0 0 base.made w.made (Begun party_there (Atomic (Store x)) ∷ act party_there ∷ end party_there ∷ []) (stored_so m yes).made refl refl
-    store_moves e m (inr left) = moved 0 0 base.made w.made [] (left.looked.made ∙ sym (append-nil base.made)) refl refl
+    at_end_if other_is_empty part_positive producer {e} {m} over not_ended = grind (arith, ends_at, slice_index, length, stored, version_is_count, looked_alone)
 
   -- ---- how many operations they took
 
   -- a call that has ended took no more operations than the model says of it
-  pub takes_here : {C M E : Type 0} (call : Calling T C M E) (e : E) (m : M) → AllowsOne (guarantee_of kinds.Atomic 1 code.size call.start)
-      → Ends code kinds.Atomic call base e m w → TakesBy code kinds.Atomic 1 (guarantee_of kinds.Atomic 1 code.size call.start) base w
-  takes_here call e m least ends =
+  pub takes_here : {C M E : Type 0} {call : Calling T C M E} {e : E} {m : M} → Ends code kinds.Atomic call base e m w
+      → AllowsOne (guarantee_of kinds.Atomic 1 code.size call.start) → TakesBy code kinds.Atomic 1 (guarantee_of kinds.Atomic 1 code.size call.start) base w
+  takes_here {C} {M} {E} {call} {e} {m} ends least =
       subst (λ n. AllowsOne (guarantee_of kinds.Atomic n code.size call.start)
       → TakesBy code kinds.Atomic n (guarantee_of kinds.Atomic n code.size call.start) base w) one
       (λ some. takes code kinds.Atomic call base w e m idle (value_pays code base.capacity) some ends) least
 
   -- A store takes at most two operations and one for each word of the value.
-  pub store_takes : (x : T) (e : Bool) (m : Unit {0}) → Over code kinds.Atomic (stores_value code x) base e m w → TakesAtMost (2 + code.size) base w
-  store_takes x e m (inl ends) = takes_here (stores_value code x) e m (omega arith) ends
-  store_takes x e m (inr left) = left_takes code kinds.Atomic (stores_value code x) base w e m (2 + code.size) (omega arith) left
+  pub store_takes : {x : T} {e : Bool} {m : Unit {0}} → Over code kinds.Atomic (stores_value code x) base e m w → TakesAtMost (2 + code.size) base w
+  store_takes (inl ends) = takes_here ends (omega arith)
+  store_takes {x} {e} {m} (inr left) = left_takes code kinds.Atomic (stores_value code x) base w e m (2 + code.size) (omega arith) left
 
   -- ---- loads
 
   module _ {R : Type 0} (words_in : R → List ℕ) (some : 0 < length (stored base.seen)) where
-    -- The value whose words are in the room.
-    abbrev value_there : R → T
-    value_there m = value_of_room code words_in m
-
     -- A load that has ended is a call of the history that acted once, with the value in its room.
-    loaded_so : (e : Unit {0}) (m : R) → (ends : Ends code kinds.Atomic (loads_value code words_in) base e m w)
-        → Called ends.party (Atomic Load) (Loaded (value_there m)) (Acted ends.party (Atomic Load) (Loaded (value_there m)) ∷ []) base w
-    loaded_so e m ends = grind (arith, called, loads_value)
+    loaded_so : {e : Unit {0}} {m : R} (ends : Ends code kinds.Atomic (loads_value code words_in) base e m w)
+        → Called ends.party (Atomic Load) (Loaded (value_of_room code words_in m))
+        (Acted ends.party (Atomic Load) (Loaded (value_of_room code words_in m)) ∷ []) base w
+    loaded_so {e} {m} ends = grind (arith, called, loads_value)
 
     -- a load that has ended answered the value that was the last one stored at one moment of the call
-    pub has_loaded : (e : Unit {0}) (m : R) → Ends code kinds.Atomic (loads_value code words_in) base e m w → HasLoaded (value_there m) base w
-    has_loaded e m ends =
+    pub has_loaded : {e : Unit {0}} {m : R} → Ends code kinds.Atomic (loads_value code words_in) base e m w → HasLoaded (value_of_room code words_in m) base w
+    has_loaded {e} {m} ends =
         let party_now = ends.party in
-        let x = value_there m in
-        let c = loaded_so e m ends in
+        let x = value_of_room code words_in m in
+        let c = loaded_so ends in
         let wrote_first = first_wrote party_now (Atomic Load) (Loaded x) (Acted party_now (Atomic Load) (Loaded x)) [] base w c in
         let first : T = code.value_of (replicate code.size 0) in
         -- By the laws the answer is the last value that had been stored when the load acted.
@@ -340,12 +283,3 @@ module _ {T : Type 0} (code : Coding T) (base w : View T) (idle : base.going ≡
           since = wrote_first.since;
           last = subst (λ y. IsLast y (stored wrote_first.before)) (sym is) last;
         }
-
-    -- a load takes no role, and gives none back
-    pub load_moves : (e : Unit {0}) (m : R) → Ends code kinds.Atomic (loads_value code words_in) base e m w → Moved 0 0 base.made w.made
-    load_moves e m ends =
-        let party_now = ends.party in
-        let answer : Answer T = Loaded (value_there m) in
-        moved 0 0 base.made w.made
-        (Begun party_now (Atomic Load) ∷ Acted party_now (Atomic Load) answer ∷ Finished party_now (Atomic Load) answer ∷ [])
-        (loaded_so e m ends).made refl refl

@@ -3,16 +3,16 @@ use Rattle.model.proofs.Names.{Answer, Ask, Begin, Begun, Bool, Coding, Decide, 
 use Rattle.model.proofs.Names.{Flight, Going, IsReached, IsReachedOn, IsShut, Kind, List, Never, Next, None, Open}
 use Rattle.model.proofs.Names.{Option, Over, Party, Progresses, Promise, Registry, Some, Span, Stands, StandsRight}
 use Rattle.model.proofs.Names.{Start, Trace, Turn, [], after_answer, after_begin, after_decision, after_next}
-use Rattle.model.proofs.Names.{after_turn, ap, append-nil, arith, ask_of, ask_of_doing, call_refusal, cases_eq}
+use Rattle.model.proofs.Names.{after_turn, ap, append-nil, arith, ask_of, ask_of_doing, call_refusal}
 use Rattle.model.proofs.Names.{change_of, doing_of, events_of_answer, events_of_decision, events_of_next}
 use Rattle.model.proofs.Names.{events_of_step, false, first_of, first_row, flight_in, flight_of, fold, going_rows}
 use Rattle.model.proofs.Names.{has_owners, is_due, is_loan, is_none, is_question, kept_after_begin, kept_after_death}
 use Rattle.model.proofs.Names.{number_of, old_of, opened, opening, own_after, party_after, party_at_begin}
 use Rattle.model.proofs.Names.{party_of, progress_after, queue_error, refl, span_of, step_count, step_in, subst, sym}
-use Rattle.model.proofs.Names.{true, want_of, words_after, ℕ, ⊎_elim, ◌++◌, ◌+◌, ◌-◌, ◌<◌, ◌^◌, ◌∙◌, ◌∷◌, ◌≡◌, ◌≢◌, ◌≤◌}
+use Rattle.model.proofs.Names.{true, want_of, words_after, ℕ, ◌++◌, ◌+◌, ◌-◌, ◌<◌, ◌^◌, ◌∙◌, ◌∷◌, ◌≡◌, ◌≢◌, ◌≤◌}
 use Rattle.model.specs.Parties.{put}
 use Rattle.model.proofs.Openings.{opened_others}
-use Rattle.model.proofs.Parties.{party_put_same, party_put_other}
+use Rattle.model.proofs.Parties.{put_each}
 use Rattle.model.proofs.Reached.{kept_by_runs, kept_by_runs_on}
 use Rattle.model.proofs.Readings.{AreRight, Each-append, AreOwn, AllFollow, span_of-own, span_of-other, span_of-death, spans_right}
 pub use Rattle.model.proofs.Rows.{is_true}
@@ -95,28 +95,9 @@ module _ {T : Type 0} (F : Family T) where
   advance {s' = s'} {p = p} {y = y} {latest = latest} {events = events} {es = es} {changes' = changes'} inv owes =
       record {
         spans = Each-append (StandsRight F.promise F.capacity) events es inv.spans owes.stands;
-        calls = λ q. ⊎_elim (mine q) (theirs q) (cases_eq q p);
-        knows = λ q. ⊎_elim (mine_knows q) (theirs_know q) (cases_eq q p);
+        calls = put_each (λ q o. Fits s' q o (span_of q (events ++ es))) p y latest owes.here owes.others;
+        knows = put_each (λ q o. KnowsParty s' q (events ++ es) changes' o) p y latest owes.knows owes.others_know;
       }
-    where
-      -- After the turn the call of its own party fits that party's span.
-      mine : (q : ℕ) → q ≡ p → Fits s' q (party_of q (put p y latest)) (span_of q (events ++ es))
-      mine q same_party =
-          subst (λ n. Fits s' n (party_of n (put p y latest)) (span_of n (events ++ es))) (sym same_party)
-          (subst (λ o. Fits s' p o (span_of p (events ++ es))) (sym (party_put_same p y latest)) owes.here)
-
-      theirs : (q : ℕ) → q ≢ p → Fits s' q (party_of q (put p y latest)) (span_of q (events ++ es))
-      theirs q ne = subst (λ o. Fits s' q o (span_of q (events ++ es))) (sym (party_put_other q p y latest ne)) (owes.others q ne)
-
-      -- After the turn what is known of its own party's call holds.
-      mine_knows : (q : ℕ) → q ≡ p → KnowsParty s' q (events ++ es) changes' (party_of q (put p y latest))
-      mine_knows q same_party =
-          subst (λ n. KnowsParty s' n (events ++ es) changes' (party_of n (put p y latest))) (sym same_party)
-          (subst (KnowsParty s' p (events ++ es) changes') (sym (party_put_same p y latest)) owes.knows)
-
-      -- what is known of the other parties stands
-      theirs_know : (q : ℕ) → q ≢ p → KnowsParty s' q (events ++ es) changes' (party_of q (put p y latest))
-      theirs_know q ne = subst (KnowsParty s' q (events ++ es) changes') (sym (party_put_other q p y latest ne)) (owes.others_know q ne)
 
   -- ---- a turn that writes events of its own party alone
 

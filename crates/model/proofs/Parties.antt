@@ -1,6 +1,6 @@
 -- The parties' latest calls, by number.
-use Rattle.model.proofs.Names.{AllByRecursion, Bool, List, None, Option, Party, Some, [], ap, arith, cond, false}
-use Rattle.model.proofs.Names.{nat_lt, nat_tests, party_of, refl, sym, true, ℕ, ◌<◌, ◌==◌, ◌∙◌, ◌∷◌, ◌≡◌, ◌≢◌}
+use Rattle.model.proofs.Names.{AllByRecursion, List, None, Option, Party, Some, [], ap, arith, cases_eq, cond, false}
+use Rattle.model.proofs.Names.{nat_tests, party_of, refl, subst, sym, true, ℕ, ⊎_elim, ◌<◌, ◌∙◌, ◌∷◌, ◌≡◌, ◌≢◌}
 use Rattle.std.specs.BTreeMap.{insert_entry, is_at}
 use Rattle.std.specs.List.Sorted.{IsStrictlySortedBy}
 use Rattle.std.specs.Map.{keys_of, lookup, remove_entry, set_value}
@@ -12,38 +12,18 @@ use Rattle.std.specs.Ordering.{is_eq, match_ordering, nat_cmp}
 
 -- Numbers that compare as equal are equal.
 equal_keys : (p q : ℕ) → nat_cmp p q ≡ Equal → p ≡ q
-equal_keys p q e = go (nat_lt p q) refl (p == q) refl e
-  where
-    -- The cases are how p and q compare: only numbers that are equal compare as equal.
-    go : (b : Bool) → nat_lt p q ≡ b → (d : Bool) → (p == q) ≡ d → cond b Less (cond d Equal Greater) ≡ Equal → p ≡ q
-    go true test d tested compared = absurd (cc)
-    go false test true tested compared = grind (arith, nat_tests)
-    go false test false tested compared = absurd (cc)
+equal_keys = grind (arith, nat_tests)
 
 -- Two different numbers do not compare as equal.
 pub apart : (p q : ℕ) → p ≢ q → is_eq (nat_cmp p q) ≡ false
-apart p q ne = go (nat_lt p q) refl
-  where
-    -- The two numbers differ, so the test says that they do.
-    t : (p == q) ≡ false
-    t = grind (arith, nat_tests)
-
-    go : (b : Bool) → nat_lt p q ≡ b → is_eq (cond b Less (cond (p == q) Equal Greater)) ≡ false
-    go true test = refl
-    go false test = rw t refl
+apart = grind (arith, nat_tests)
 
 pub itself : (p : ℕ) → is_eq (nat_cmp p p) ≡ true
 itself = grind (arith, false, nat_tests)
 
 -- A number that compares as less is less.
 less_is : (p q : ℕ) → nat_cmp p q ≡ Less → p < q
-less_is p q e = go (nat_lt p q) refl (p == q) e
-  where
-    -- The cases are how p and q compare.
-    go : (b : Bool) → nat_lt p q ≡ b → (d : Bool) → cond b Less (cond d Equal Greater) ≡ Less → p < q
-    go true test d compared = grind (arith, nat_tests)
-    go false test true compared = absurd (cc)
-    go false test false compared = absurd (cc)
+less_is = grind (arith, nat_tests)
 
 module _ {X : Type 0} where
   -- The lookup of p among the entries.
@@ -121,9 +101,28 @@ module _ {X : Type 0} where
           let behind : find p es ≡ None = rw compared at absent in
           rw compared (ap (λ xs. e ∷ xs) (more behind))
 
+-- What holds of one number and of each other one holds of all.
+pub each_by : (P : ℕ → Type 0) (p : ℕ) → P p → ((q : ℕ) → q ≢ p → P q) → (q : ℕ) → P q
+each_by P p here others q = ⊎_elim (λ same. subst P (sym same) here) (λ ne. others q ne) (cases_eq q p)
+
 module _ {T : Type 0} where
   pub party_put_same : (p : ℕ) (x : Party T) (latest : List (ℕ × Party T)) → party_of p (put p x latest) ≡ Some x
   party_put_same p x latest = found_put_same p x latest
 
   pub party_put_other : (q p : ℕ) (x : Party T) (latest : List (ℕ × Party T)) → q ≢ p → party_of q (put p x latest) ≡ party_of q latest
   party_put_other q p x latest ne = found_put_other q p x latest ne
+
+  -- What holds of a party once its call is put, and of each other party by its latest call, holds of all parties then.
+  pub put_each : (P : ℕ → Option (Party T) → Type 0) (p : ℕ) (y : Party T) (latest : List (ℕ × Party T)) → P p (Some y)
+      → ((q : ℕ) → q ≢ p → P q (party_of q latest)) → (q : ℕ) → P q (party_of q (put p y latest))
+  put_each P p y latest here others =
+      each_by (λ q. P q (party_of q (put p y latest))) p (subst (P p) (sym (party_put_same p y latest)) here)
+      (λ q ne. subst (P q) (sym (party_put_other q p y latest ne)) (others q ne))
+
+  -- What holds of the call that is put, and of the latest calls of other parties, holds of all latest calls then.
+  pub found_each : (P : ℕ → Party T → Type 0) (p : ℕ) (y : Party T) (latest : List (ℕ × Party T)) → P p y
+      → ((q : ℕ) (x : Party T) → q ≢ p → party_of q latest ≡ Some x → P q x)
+      → (q : ℕ) (x : Party T) → party_of q (put p y latest) ≡ Some x → P q x
+  found_each P p y latest here others =
+      put_each (λ q o. (x : Party T) → o ≡ Some x → P q x) p y latest (λ x both. (let same : y ≡ x = cc in subst (P p) same here))
+      (λ q ne x. others q x ne)

@@ -3,12 +3,12 @@ use Rattle.model.proofs.Names.{AreAllowed, Ask, Bool, Coding, Doing, Flight, IsC
 use Rattle.model.proofs.Names.{List, None, Option, Party, Refusal, Some, Start, Trace, Turn, World, [], after_answer}
 use Rattle.model.proofs.Names.{after_begin, after_decision, after_next, after_turn, after_turns, ap, arith}
 use Rattle.model.proofs.Names.{call_refusal, capacity_error, first_of, get_or, length, number_of, opened, opening}
-use Rattle.model.proofs.Names.{queue_error, refl, refusal_of, run, subst, sym, take, unless_refused, world_after, ℕ}
+use Rattle.model.proofs.Names.{queue_error, refl, refusal_of, run, run_on, subst, sym, take, unless_refused, world_after, ℕ}
 use Rattle.model.proofs.Names.{◌++◌, ◌+◌, ◌<◌, ◌∙◌, ◌∷◌, ◌≡◌}
 use Rattle.std.proofs.lemmas.List.{take_more}
 use Rattle.model.specs.declared.turn.Shape.{Shape}
 use Rattle.model.specs.World.{opening_as, shape_error, queue_in}
-use Rattle.model.specs.Turns.{attempt_by, run_by, IsReachedBy}
+use Rattle.model.specs.Turns.{attempt_by, run_by, AreAllowedBy, IsReachedBy}
 use Rattle.model.proofs.Openings.{opened_at_one, queue_admitted, shape_admitted}
 
 module _ {T : Type 0} where
@@ -24,6 +24,15 @@ module _ {T : Type 0} where
   -- A machine was made as itself.
   abbrev same : (w : World T) → SameMaking w w
   same w = record { coding = refl; kind = refl; capacity = refl; parties = refl }
+
+  made_on : {first next last : World T} → SameMaking first next → SameMaking next last → SameMaking first last
+  made_on one two =
+      record {
+        coding = two.coding ∙ one.coding;
+        kind = two.kind ∙ one.kind;
+        capacity = two.capacity ∙ one.capacity;
+        parties = two.parties ∙ one.parties;
+      }
 
   begin_making : (w : World T) (p : ℕ) (start : Start T) (flight : Option (Flight T)) → SameMaking w (after_begin w p start flight)
   begin_making = grind arith
@@ -132,10 +141,15 @@ module _ {T : Type 0} where
   after_turns_more t (x ∷ xs) turn = after_turns_more (after_turn t x) xs turn
 
   -- Turns that are not refused, and one more after them that is not, are turns that are not refused.
+  pub allowed_by_more : (refuses : World T → Turn T → Option Refusal) (t : Trace T) (turns : List (Turn T)) (turn : Turn T)
+      → AreAllowedBy refuses t turns → refuses (after_turns t turns).world turn ≡ None → AreAllowedBy refuses t (turns ++ turn ∷ [])
+  allowed_by_more refuses t [] turn all not_refused = (not_refused, tt)
+  allowed_by_more refuses t (x ∷ xs) turn all not_refused = (all.0, allowed_by_more refuses (after_turn t x) xs turn all.1 not_refused)
+
+  -- the same of turns that a machine as it runs does not refuse
   pub AreAllowed-more : (t : Trace T) (turns : List (Turn T)) (turn : Turn T) → AreAllowed t turns
       → refusal_of (after_turns t turns).world turn ≡ None → AreAllowed t (turns ++ turn ∷ [])
-  AreAllowed-more t [] turn all not_refused = (not_refused, tt)
-  AreAllowed-more t (x ∷ xs) turn all not_refused = (all.0, AreAllowed-more (after_turn t x) xs turn all.1 not_refused)
+  AreAllowed-more = allowed_by_more refusal_of
 
   -- one turn more of a list
   pub one_more :
@@ -188,6 +202,15 @@ module _ {T : Type 0} where
       → ((t : Trace T) (turn : Turn T) → call_refusal t.world turn ≡ None → P t → P (after_turn t turn)) → (t : Trace T)
       → P (opening t.world.coding t.world.kind t.world.capacity t.world.parties) → IsReachedOn t → P t
   kept_by_runs_on P keeps t first reached_on = kept_by call_refusal P keeps t first reached_on
+
+  -- Turns that a machine takes or refuses, without a bound, leave what it was made with.
+  pub run_making : (turns : List (Turn T)) (t : Trace T) → SameMaking t.world (run_on turns t).world
+  run_making turns t =
+      run_keeps call_refusal (λ u. SameMaking t.world u.world) (λ u turn e made. made_on made (turn_making u.world turn)) turns t (same t.world)
+
+  -- A machine that turns reach without a bound leads by such turns to one that they reach.
+  pub run_reached : (turns : List (Turn T)) {t : Trace T} → IsReachedOn t → IsReachedOn (run_on turns t)
+  run_reached turns {t} reached = run_keeps call_refusal IsReachedOn reached_on_more turns t reached
 
   -- A machine that has just been opened is reached, by no turn, also where turns have no bound.
   pub reached_on_opening : (code : Coding T) (kind : Kind) (capacity parties : ℕ) → IsCoding code

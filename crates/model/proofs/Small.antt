@@ -2,14 +2,14 @@
 use Rattle.model.proofs.Names.{After, Answer, Ask, Begin, Bool, Decide, Die, Doing, Flight, Going, IsReached, List}
 use Rattle.model.proofs.Names.{Next, None, Option, Over, Party, Registry, Some, Start, Step, Trace, Turn, World}
 use Rattle.model.proofs.Names.{after_answer, after_begin, after_decision, after_next, after_step, arith, ask_of_doing}
-use Rattle.model.proofs.Names.{cases_eq, change_of, doing_after, first_of, number_of, old_of, party_after}
-use Rattle.model.proofs.Names.{party_at_begin, party_of, refl, refusal_of, step_count, step_in, subst, sym, world_after}
-use Rattle.model.proofs.Names.{ℕ, ⊎_elim, ◌+◌, ◌-◌, ◌<◌, ◌^◌, ◌∙◌, ◌≡◌, ◌≢◌, ◌≤◌}
+use Rattle.model.proofs.Names.{change_of, doing_after, first_of, number_of, old_of, party_after}
+use Rattle.model.proofs.Names.{party_at_begin, party_of, refl, refusal_of, step_count, step_in, subst, world_after}
+use Rattle.model.proofs.Names.{ℕ, ◌+◌, ◌-◌, ◌<◌, ◌^◌, ◌≡◌, ◌≤◌}
 use Rattle.model.specs.Parties.{put}
 use Rattle.model.specs.Small.{HasSmallCount, HasSmallCounts, IsSmall}
 use Rattle.model.specs.Turns.{after_death}
 use Rattle.model.proofs.Counts.{change_small, steps_small, back_small}
-use Rattle.model.proofs.Parties.{party_put_same, party_put_other}
+use Rattle.model.proofs.Parties.{found_each}
 use Rattle.model.proofs.Reached.{kept_by_runs}
 use Rattle.model.proofs.Rows.{passes}
 
@@ -28,18 +28,8 @@ module _ {T : Type 0} where
   all_put : (turns changes more p : ℕ) {y : Party T} (latest : List (ℕ × Party T))
       → HasSmallCounts (turns + 1) (changes + more) y → AllSmall turns changes latest
       → AllSmall (turns + 1) (changes + more) (put p y latest)
-  all_put turns changes more p {y} latest here all q x found = ⊎_elim mine theirs (cases_eq q p)
-    where
-      -- the party that took the turn has the counts that are given for it
-      mine : q ≡ p → HasSmallCounts (turns + 1) (changes + more) x
-      mine same_party =
-          let at : party_of p (put p y latest) ≡ Some x = subst (λ n. party_of n (put p y latest) ≡ Some x) same_party found in
-          let both : Some y ≡ Some x = sym (party_put_same p y latest) ∙ at in
-          let same : y ≡ x = cc in
-          subst (HasSmallCounts (turns + 1) (changes + more)) same here
-
-      theirs : q ≢ p → HasSmallCounts (turns + 1) (changes + more) x
-      theirs ne = later turns changes more x (all q x (sym (party_put_other q p y latest ne) ∙ found))
+  all_put turns changes more p {y} latest here all =
+      found_each (λ q x. HasSmallCounts (turns + 1) (changes + more) x) p y latest here (λ q x ne found. later turns changes more x (all q x found))
 
   -- after a begin the counts are still no more than the number of turns
   begin_small : {w : World T} (p : ℕ) (start : Start T) (flight : Option (Flight T)) → w.turns < 2 ^ 64 - 2 → IsSmall w → IsSmall (after_begin w p start flight)

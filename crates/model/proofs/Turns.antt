@@ -13,6 +13,7 @@ use Rattle.steps.specs.Ask.{written}
 use Rattle.steps.specs.declared.ask.After.TheVariants.{Done}
 use Rattle.model.specs.Promises.Turns.{IsOneTurnLater, WritesOneWord, StandsAt, GoesOn, BothGoOn, CountsTurn, BothSee, CountsOthers}
 use Rattle.model.specs.Small.{HasSmallCount, IsSmall}
+use Rattle.model.proofs.LockFree.Stays.{IsUnder, under_way}
 use Rattle.model.proofs.Parties.{party_put_same, party_put_other}
 use Rattle.model.proofs.Reached.{turn_making}
 use Rattle.model.proofs.Rows.{may_begin, may_next, may_decide}
@@ -154,37 +155,28 @@ module _ {T : Type 0} where
       → StandsAt (after_step w p x since ask (step_in w p x flight answer)) p (goes_of w.coding p flight answer w.kept)
   goes = grind (arith, step_in, after_step, stands, step_here)
 
-  -- after a step its call goes on as the table of its steps says
-  next_goes : (w : World T) (p : ℕ) → GoesAsTold w → (o : Option (Party T)) → party_of p w.latest ≡ o
-      → IfSome (flight_of (doing_of o))
-      (λ flight. StandsAt (after_next w p o) p (goes_of w.coding p flight (old_of w.words (ask_of (want_of w.coding flight))) w.kept))
-  next_goes w p tells None found = tt
-  next_goes w p tells (Some x) found = go x.doing refl
+  -- What holds of the call that a party has under way, with its place in the machine, holds of its call, if it has one.
+  by_call : (w : World T) (p : ℕ) (Q : Flight T → Type 0) → ((flight : Flight T) → IsUnder w p flight → Q flight) → IfSome (flight_in w p) Q
+  by_call w p Q each = go (flight_in w p) refl
     where
-      -- a call under way stands where the table of its steps says; one that is over has nothing to show
-      go : (doing : Doing T) → x.doing ≡ doing
-          → IfSome (flight_of (Some doing))
-          (λ flight. StandsAt (after_answer w p x (ask_of_doing w.coding doing) (old_of w.words (ask_of_doing w.coding doing)) doing)
-          p (goes_of w.coding p flight (old_of w.words (ask_of (want_of w.coding flight))) w.kept))
-      go (Over others) same_doing = tt
-      go (Going flight since) same_doing =
-          let old = old_of w.words (ask_of (want_of w.coding flight)) in
-          goes w p x flight since (ask_of (want_of w.coding flight)) old (tells p x flight since old found same_doing)
+      go : (o : Option (Flight T)) → flight_in w p ≡ o → IfSome o Q
+      go None none = tt
+      go (Some flight) some = each flight (under_way w p flight some)
+
+  -- after a step its call goes on as the table of its steps says
+  next_goes : (w : World T) (p : ℕ) → GoesAsTold w → GoesOn w (Next p) (world_after w (Next p))
+  next_goes w p tells =
+      by_call w p _ (λ flight u.
+      (let ask = ask_of (want_of w.coding flight) in
+      rw (u.found, u.doing)
+      (goes w p u.party flight u.since ask (old_of w.words ask) (tells p u.party flight u.since (old_of w.words ask) u.found u.doing))))
 
   -- after an answer its call goes on as the table says
-  decision_goes : (w : World T) (p : ℕ) (said : Bool) → GoesAsTold w → (o : Option (Party T))
-      → party_of p w.latest ≡ o
-      → IfSome (flight_of (doing_of o))
-      (λ flight. StandsAt (after_decision w p said o) p (goes_of w.coding p flight (number_of said) w.kept))
-  decision_goes w p said tells None found = tt
-  decision_goes w p said tells (Some x) found = go x.doing refl
-    where
-      -- The cases are whether the party's call is under way or over.
-      go : (doing : Doing T) → x.doing ≡ doing
-          → IfSome (flight_of (Some doing))
-          (λ flight. StandsAt (after_answer w p x None (number_of said) doing) p (goes_of w.coding p flight (number_of said) w.kept))
-      go (Over others) same_doing = tt
-      go (Going flight since) same_doing = goes w p x flight since None (number_of said) (tells p x flight since (number_of said) found same_doing)
+  decision_goes : (w : World T) (p : ℕ) (said : Bool) → GoesAsTold w → GoesOn w (Decide p said) (world_after w (Decide p said))
+  decision_goes w p said tells =
+      by_call w p _ (λ flight u.
+      rw (u.found, u.doing)
+      (goes w p u.party flight u.since None (number_of said) (tells p u.party flight u.since (number_of said) u.found u.doing)))
 
   begin_goes : (w : World T) (p : ℕ) (start : Start T) (o : Option (Flight T)) → is_none o ≡ false → flight_in (after_begin w p start o) p ≡ o
   begin_goes = grind (arith, party_put_same)
@@ -192,8 +184,8 @@ module _ {T : Type 0} where
   -- Each turn that is not refused leaves its party's call where `GoesOn` says.
   pub goes_on : (w : World T) (turn : Turn T) → GoesAsTold w → call_refusal w turn ≡ None → GoesOn w turn (world_after w turn)
   goes_on w (Begin p start) tells not_refused = begin_goes w p start (first_of w.kind w.capacity start w.kept) (may_begin w p start not_refused).call
-  goes_on w (Next p) tells not_refused = next_goes w p tells (party_of p w.latest) refl
-  goes_on w (Decide p said) tells not_refused = decision_goes w p said tells (party_of p w.latest) refl
+  goes_on w (Next p) tells not_refused = next_goes w p tells
+  goes_on w (Decide p said) tells not_refused = decision_goes w p said tells
   goes_on w (Die owner) tells not_refused = tt
 
   -- ---- its counts
@@ -236,40 +228,16 @@ module _ {T : Type 0} where
       rw (here, found) goal
 
   -- a step counts itself, and the changes of others that its call has seen
-  next_counts : (w : World T) (p : ℕ) (o : Option (Party T)) → party_of p w.latest ≡ o
-      → IfSome (flight_of (doing_of o))
-      (λ flight. BothGoOn (is_some (ask_of_flight w.coding (flight_of (doing_of o))))
-      (is_none (flight_in (after_next w p o) p)) (progress_in w p) (progress_in (after_next w p o) p))
-  next_counts w p None found = tt
-  next_counts w p (Some x) found = go x.doing refl
-    where
-      -- the call under way counts this step; where no call is under way there is nothing to count
-      go : (doing : Doing T) → x.doing ≡ doing
-          → IfSome (flight_of (Some doing))
-          (λ flight. BothGoOn (is_some (ask_of_flight w.coding (flight_of (Some doing))))
-          (is_none
-          (flight_in (after_answer w p x (ask_of_doing w.coding doing) (old_of w.words (ask_of_doing w.coding doing)) doing) p))
-          (progress_in w p)
-          (progress_in (after_answer w p x (ask_of_doing w.coding doing) (old_of w.words (ask_of_doing w.coding doing)) doing) p))
-      go (Over others) same_doing = tt
-      go (Going flight since) same_doing =
-          counted w p x (ask_of (want_of w.coding flight)) (old_of w.words (ask_of (want_of w.coding flight))) found same_doing
+  next_counts : (w : World T) (p : ℕ) → CountsTurn w (Next p) (world_after w (Next p))
+  next_counts w p =
+      by_call w p _ (λ flight u.
+      (let ask = ask_of (want_of w.coding flight) in
+      rw (u.found, u.doing) (rw (u.found, u.doing) at (counted w p u.party ask (old_of w.words ask) u.found u.doing))))
 
   -- an answer counts no step
-  decision_counts : (w : World T) (p : ℕ) (said : Bool) (o : Option (Party T)) → party_of p w.latest ≡ o
-      → IfSome (flight_of (doing_of o))
-      (λ flight. BothGoOn false (is_none (flight_in (after_decision w p said o) p)) (progress_in w p)
-      (progress_in (after_decision w p said o) p))
-  decision_counts w p said None found = tt
-  decision_counts w p said (Some x) found = go x.doing refl
-    where
-      -- the call under way counts no step for the answer; where no call is under way there is nothing to count
-      go : (doing : Doing T) → x.doing ≡ doing
-          → IfSome (flight_of (Some doing))
-          (λ flight. BothGoOn false (is_none (flight_in (after_answer w p x None (number_of said) doing) p))
-          (progress_in w p) (progress_in (after_answer w p x None (number_of said) doing) p))
-      go (Over others) same_doing = tt
-      go (Going flight since) same_doing = counted w p x None (number_of said) found same_doing
+  decision_counts : (w : World T) (p : ℕ) (said : Bool) → CountsTurn w (Decide p said) (world_after w (Decide p said))
+  decision_counts w p said =
+      by_call w p _ (λ flight u. rw (u.found, u.doing) (rw (u.found, u.doing) at (counted w p u.party None (number_of said) u.found u.doing)))
 
   -- A call that has just begun has counted nothing.
   begin_counts : (w : World T) (p : ℕ) (start : Start T) (o : Option (Flight T)) → is_none o ≡ false
@@ -279,8 +247,8 @@ module _ {T : Type 0} where
   -- each turn counts what it did
   pub counts_turn : (w : World T) (turn : Turn T) → call_refusal w turn ≡ None → CountsTurn w turn (world_after w turn)
   counts_turn w (Begin p start) not_refused = begin_counts w p start (first_of w.kind w.capacity start w.kept) (may_begin w p start not_refused).call
-  counts_turn w (Next p) not_refused = next_counts w p (party_of p w.latest) refl
-  counts_turn w (Decide p said) not_refused = decision_counts w p said (party_of p w.latest) refl
+  counts_turn w (Next p) not_refused = next_counts w p
+  counts_turn w (Decide p said) not_refused = decision_counts w p said
   counts_turn w (Die owner) not_refused = tt
 
   -- ---- the counts of the other parties

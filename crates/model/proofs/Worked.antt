@@ -1,8 +1,8 @@
 -- The definitions at a worked run, and at histories that they refuse.
-use Rattle.model.proofs.Names.{Acted, Answer, BeginsNone, Begun, Event, Finished, HandedOut, IsLegal, List, None}
+use Rattle.model.proofs.Names.{Acted, Answer, Begun, Event, Finished, HandedOut, IsLegal, List, None}
 use Rattle.model.proofs.Names.{Number, Open, PoppedIndex, PoppedNone, Published, PushIndex, Queues, Some, Stands, Truth}
 use Rattle.model.proofs.Names.{Turn, [], arith, bounded_list, false, length, moments, one_word, progress_in, promise_of}
-use Rattle.model.proofs.Names.{refl, subst, sym, true, waiting, ℕ, ◌++◌, ◌∷◌, ◌≡◌}
+use Rattle.model.proofs.Names.{refl, true, waiting, ℕ, ◌++◌, ◌∷◌, ◌≡◌}
 use Rattle.model.specs.declared.event.Item.TheVariants.{Index}
 use Rattle.model.specs.declared.families.Registry.TheVariants as registries
 use Rattle.model.specs.declared.families.queues.QueueStart.TheVariants.{AcquireProducer, Pop, Len}
@@ -14,6 +14,7 @@ use Rattle.model.specs.Families.Queues.Objects.{overflowing_list}
 use Rattle.model.specs.Families.Queues.Roles.{GrantsRight, KeepsHolders}
 use Rattle.model.specs.Families.Queues.Promises.{wrote}
 use Rattle.model.specs.Reading.{acts}
+use Rattle.model.proofs.Moments.{so_since}
 use Rattle.model.proofs.Runs.{nexts, begins, roles, roles_told, ran}
 
 -- a push stops before it publishes, a pop answers None, and then the push goes on
@@ -242,25 +243,9 @@ one = Number 1
 abbrev IsOne : List (Event ℕ) → Type 0
 IsOne part = one ≡ Number (length (waiting part))
 
--- at no moment before the call began was the number of waiting values what the length answers
-not_one : (part rest : List (Event ℕ)) → earlier ≡ part ++ rest → BeginsNone 1 rest → IsOne part → ⊥
-not_one [] rest split within held = cc
-not_one (a ∷ []) rest split within held =
-    let after : HandedOut 0 (Index 5) ∷ Begun 1 (Queues Len) ∷ [] ≡ rest = cc in
-    let none = subst (BeginsNone 1) (sym after) within in
-    none.0 refl
-not_one (a ∷ b ∷ []) rest split within held =
-    let same : Published 0 (Index 5) ∷ HandedOut 0 (Index 5) ∷ [] ≡ a ∷ b ∷ [] = cc in
-    let zero = subst IsOne (sym same) held in
-    cc
-not_one (a ∷ b ∷ d ∷ []) rest split within held =
-    let same : earlier ≡ a ∷ b ∷ d ∷ [] = cc in
-    let zero = subst IsOne (sym same) held in
-    cc
-not_one (a ∷ b ∷ d ∷ e ∷ part) rest split within held = cc
-
+-- At the one moment of the call, its begin, no value waits.
 pub no_length_from_before : TellsLength 1 earlier (Finished 1 (Queues Len) (Number 1)) → ⊥
-no_length_from_before told = not_one told.part told.rest told.is told.within told.held
+no_length_from_before = so_since 1 (Queues Len) IsOne (Published 0 (Index 5) ∷ HandedOut 0 (Index 5) ∷ []) [] (λ is. cc)
 
 -- a role for two
 pub no_second_holder : GrantsRight {T = ℕ} (Finished 0 (Queues AcquireProducer) (Truth true) ∷ []) (Finished 1 (Queues AcquireProducer) (Truth true)) → ⊥

@@ -1,9 +1,8 @@
 -- The definitions of the bit sets at worked runs, and at histories that they refuse.
-use Rattle.model.proofs.Names.{BadIndex, Begin, BeginsNone, Begun, Event, Finished, HeldSometime, Kind, List, Next}
-use Rattle.model.proofs.Names.{Number, Open, Some, Trace, Truth, Turn, WrongCall, [], ap, arith, false, fold, length}
-use Rattle.model.proofs.Names.{one_word, opening, progress_in, refl, refusal_of, run, subst, sum_by-append, sym, true}
-use Rattle.model.proofs.Names.{ℕ, ◌++◌, ◌+◌, ◌^◌, ◌∙◌, ◌∷◌, ◌≡◌}
-use Rattle.std.proofs.lemmas.List.Sums.{sum_by-cons}
+use Rattle.model.proofs.Names.{BadIndex, Begin, Begun, Event, Finished, HeldSometime, Kind, List, Number}
+use Rattle.model.proofs.Names.{Open, Some, Trace, Truth, Turn, WrongCall, [], arith, false, length}
+use Rattle.model.proofs.Names.{one_word, progress_in, refl, refusal_of, subst, sum_by-append, sym, true}
+use Rattle.model.proofs.Names.{suc, zero, ℕ, ◌++◌, ◌+◌, ◌^◌, ◌∷◌, ◌≡◌}
 use Rattle.std.specs.Prelude.{cond}
 use Rattle.steps.specs.Bits.BitSet.{place_after, at_most}
 use Rattle.model.specs.declared.event.Start.TheVariants.{Bits}
@@ -14,11 +13,13 @@ use Rattle.model.specs.declared.families.Registry.TheVariants as registries
 use Rattle.model.specs.declared.families.bits.BitsStart.TheVariants.{Set, ResetNext, ResetAll, IsSet, Count}
 use Rattle.model.specs.declared.turn.Kind.TheVariants as kinds
 use Rattle.model.specs.Families.Bits.Promises.{IsBitSet, IsCountingSet, AnswersCount, HasCleared, HasTaken, CameTo, BitsWrote, bits_stand, counts_stand}
-use Rattle.model.specs.Families.Bits.Reading.{is_set_of, is_clear_of, sets, clears, standing, position_after, count_at}
+use Rattle.model.specs.Families.Bits.Reading.{sets, standing, position_of, count_at}
+use Rattle.model.proofs.Moments.{so_by_events, so_since}
+use Rattle.model.proofs.Runs.{nexts, begins, ran}
 
 -- A bit set, or a counting bit set, of this capacity after these turns.
 abbrev set_of : Kind → ℕ → List (Turn ℕ) → Trace ℕ
-set_of kind capacity turns = run turns (opening one_word kind capacity 2)
+set_of kind capacity turns = ran one_word kind capacity 2 turns
 
 -- ---- worked runs
 
@@ -32,16 +33,7 @@ no_words = refl
 
 -- a set turns back where another bit of its element was set
 abbrev neighbours : Trace ℕ
-neighbours =
-    set_of kinds.Bits 70
-    (Begin 0 (Bits (Set 3))
-    ∷ Next 0
-    ∷ Begin 1 (Bits (Set 40))
-    ∷ Next 1
-    ∷ Next 1
-    ∷ Next 0
-    ∷ Next 0
-    ∷ [])
+neighbours = set_of kinds.Bits 70 (begins 0 (Bits (Set 3)) 1 ++ begins 1 (Bits (Set 40)) 2 ++ nexts 0 2)
 
 -- both sets end, the one that was turned back last
 neighbours_told : neighbours.events
@@ -62,17 +54,7 @@ neighbours_counted = refl
 
 -- a reset of all clears two bits of one element in one turn
 abbrev cleared_twice : Trace ℕ
-cleared_twice =
-    set_of kinds.Bits 8
-    (Begin 0 (Bits (Set 3))
-    ∷ Next 0
-    ∷ Next 0
-    ∷ Begin 0 (Bits (Set 1))
-    ∷ Next 0
-    ∷ Next 0
-    ∷ Begin 0 (Bits ResetAll)
-    ∷ Next 0
-    ∷ [])
+cleared_twice = set_of kinds.Bits 8 (begins 0 (Bits (Set 3)) 2 ++ begins 0 (Bits (Set 1)) 2 ++ begins 0 (Bits ResetAll) 1)
 
 -- the two events of the clearing turn come one after the other, by their places
 cleared_twice_told : cleared_twice.events
@@ -91,21 +73,7 @@ cleared_twice_told = refl
 
 -- a reset of the next bit goes round
 abbrev round : Trace ℕ
-round =
-    set_of kinds.Bits 2
-    (Begin 0 (Bits (Set 0))
-    ∷ Next 0
-    ∷ Next 0
-    ∷ Begin 0 (Bits ResetNext)
-    ∷ Next 0
-    ∷ Next 0
-    ∷ Next 0
-    ∷ Next 0
-    ∷ Begin 0 (Bits ResetNext)
-    ∷ Next 0
-    ∷ Next 0
-    ∷ Next 0
-    ∷ [])
+round = set_of kinds.Bits 2 (begins 0 (Bits (Set 0)) 2 ++ begins 0 (Bits ResetNext) 4 ++ begins 0 (Bits ResetNext) 3)
 
 -- the first reset finds the bit of place 0, and the second finds none
 round_told : round.events
@@ -122,16 +90,7 @@ round_told = refl
 
 -- counts
 abbrev counted : Trace ℕ
-counted =
-    set_of kinds.Counts 2
-    (Begin 0 (Bits (Set 1))
-    ∷ Next 0
-    ∷ Begin 0 (Bits (Set 1))
-    ∷ Next 0
-    ∷ Begin 1 (Bits ResetAll)
-    ∷ Next 1
-    ∷ Next 1
-    ∷ [])
+counted = set_of kinds.Counts 2 (begins 0 (Bits (Set 1)) 1 ++ begins 0 (Bits (Set 1)) 1 ++ begins 1 (Bits ResetAll) 2)
 
 -- the second set answers the count before it, and the reset takes out both at once
 counted_told : counted.events
@@ -149,16 +108,7 @@ counted_told = refl
 
 -- looks: each takes one step and writes nothing
 abbrev looked : Trace ℕ
-looked =
-    set_of kinds.Bits 8
-    (Begin 0 (Bits (Set 3))
-    ∷ Next 0
-    ∷ Next 0
-    ∷ Begin 1 (Bits (IsSet 3))
-    ∷ Next 1
-    ∷ Begin 1 (Bits (IsSet 4))
-    ∷ Next 1
-    ∷ [])
+looked = set_of kinds.Bits 8 (begins 0 (Bits (Set 3)) 2 ++ begins 1 (Bits (IsSet 3)) 1 ++ begins 1 (Bits (IsSet 4)) 1)
 
 -- a look at the bit that is set answers true, and one at another bit false
 looked_told : looked.events
@@ -174,9 +124,7 @@ looked_told = refl
 
 -- Party 0 counts place 1 up, and party 1 then reads its count.
 abbrev looked_up : Trace ℕ
-looked_up =
-    set_of kinds.Counts 2
-    (Begin 0 (Bits (Set 1)) ∷ Next 0 ∷ Begin 1 (Bits (Count 1)) ∷ Next 1 ∷ [])
+looked_up = set_of kinds.Counts 2 (begins 0 (Bits (Set 1)) 1 ++ begins 1 (Bits (Count 1)) 1)
 
 -- the look answers the count that the set has left
 looked_up_told : looked_up.events
@@ -275,37 +223,9 @@ abbrev skipping : List (Event ℕ)
 skipping =
     told.Set 1 0 ∷ told.Set 1 1 ∷ Begun 0 (Bits ResetNext) ∷ Cleared 0 1 ∷ []
 
--- None of these events moves the reset position.
-abbrev LeavesPosition : List (Event ℕ) → Type 0
-LeavesPosition [] = Unit {0}
-LeavesPosition (e ∷ es) = ((n : ℕ) → position_after n e ≡ n) × LeavesPosition es
-
--- Events that leave the position have beginnings that do.
-leave_part : (xs ys : List (Event ℕ)) → LeavesPosition (xs ++ ys) → LeavesPosition xs
-leave_part [] ys leave = tt
-leave_part (x ∷ xs) ys leave = (leave.0, leave_part xs ys leave.1)
-
--- After events that leave the position it stands where it stood.
-left_there : (n : ℕ) (xs : List (Event ℕ)) → LeavesPosition xs → fold position_after n xs ≡ n
-left_there n [] leave = refl
-left_there n (x ∷ xs) leave = left_there (position_after n x) xs leave.1 ∙ leave.0 n
-
 -- at every moment since the call began, the bit of place 0 stands
-first_stood : (part rest : List (Event ℕ)) → skipping ≡ part ++ rest → BeginsNone 0 rest → standing 0 part ≡ 0 → ⊥
-first_stood [] rest split within clear = let none = subst (BeginsNone 0) (sym split) within in absurd (none.0 refl)
-first_stood (a ∷ part) rest split within clear =
-    let first : told.Set 1 0 ≡ a = cc in
-    let here : standing 0 (told.Set 1 0 ∷ part) ≡ 0 = subst (λ (x : Event ℕ). standing 0 (x ∷ part) ≡ 0) (sym first) clear in
-    let one : sets 0 (told.Set 1 0 ∷ part) ≡ 1 + sets 0 part =
-    sum_by-cons (λ (e : Event ℕ). cond (is_set_of 0 e) 1 0) (told.Set 1 0) part in
-    let all : clears 0 skipping ≡ clears 0 (a ∷ part) + clears 0 rest =
-    ap (clears 0) split ∙ sum_by-append (λ (e : Event ℕ). cond (is_clear_of 0 e) 1 0) (a ∷ part) rest in
-    let none : 0 ≡ clears 0 (told.Set 1 0 ∷ part) + clears 0 rest =
-    subst (λ (x : Event ℕ). 0 ≡ clears 0 (x ∷ part) + clears 0 rest) (sym first) all in
-    absurd (omega arith)
-
-not_next : (n : ℕ) → n ≡ n + 1 → ⊥
-not_next n same = absurd (omega arith)
+first_stood : HeldSometime 0 (λ part. standing 0 part ≡ 0) skipping → ⊥
+first_stood = so_since 0 (Bits ResetNext) (λ part. standing 0 part ≡ 0) (told.Set 1 0 ∷ told.Set 1 1 ∷ []) (Cleared 0 1 ∷ []) ((λ e. cc), (λ e. cc))
 
 -- A reset that has passed over a bit that stood is refused.
 skips : CameTo 0 2 1 skipping → ⊥
@@ -313,13 +233,17 @@ skips came = go came.passed refl
   where
     -- The search began at place 0, since none of the events moves the position.
     from : came.start ≡ 0
-    from = grind (arith, at_most, left_there, leave_part)
+    from = so_by_events 0 (λ part. at_most 2 (position_of part) ≡ came.start) skipping (sym, (sym, (sym, (sym, sym)))) came.begun
 
     is : place_after 2 0 came.passed ≡ 1
     is = subst (λ n. place_after 2 n came.passed ≡ 1) from came.is
 
+    -- it passed no place, or place 0
     go : (n : ℕ) → came.passed ≡ n → ⊥
-    go = grind (arith, not_next, place_after, is, standing, from, first_stood)
+    go zero none = let first : place_after 2 0 0 ≡ 1 = rw none at is in cc
+    go (suc n) some =
+        first_stood
+        (subst (λ start. HeldSometime 0 (λ part. standing (place_after 2 start 0) part ≡ 0) skipping) from (came.clear 0 (omega arith)))
 
 -- a reset of all that goes down, or clears a bit twice
 descends : bits_stand {T = ℕ} (Cleared 0 1) (Open (Bits ResetAll) (Cleared 0 3 ∷ [])) → ⊥

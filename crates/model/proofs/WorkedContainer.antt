@@ -42,6 +42,20 @@ update_state = Container UpdateState
 abbrev is_locked : Start ℕ
 is_locked = Container IsLocked
 
+-- The events of a whole add by the party of this value, which takes this index, for this owner.
+abbrev added : ℕ → ℕ → ℕ → ℕ → List (Event ℕ)
+added p index value owner =
+    Begun p (add value owner)
+    ∷ Filled p index owner
+    ∷ Granted p index owner
+    ∷ Placed p index value
+    ∷ Finished p (add value owner) (Index index)
+    ∷ []
+
+-- The events of a whole new state of the party that copies this value at index 0, and no other.
+abbrev copied : ℕ → ℕ → List (Event ℕ)
+copied p value = Begun p get_state ∷ Copied p 0 value ∷ Finished p get_state (Number 1) ∷ []
+
 -- A container of this capacity, with two parties and values of two words, after these turns.
 abbrev ran_on : ℕ → List (Turn ℕ) → Trace ℕ
 ran_on capacity turns = ran two_words kinds.Container capacity 2 turns
@@ -82,15 +96,8 @@ pub half_written_events : (ran_on 1 half_written).events
     ∷ Shown 1 0
     ∷ FreedOf 1 0 1
     ∷ Finished 1 (recover 1) (State states.Unlocked)
-    ∷ Begun 1 (add 7 2)
-    ∷ Filled 1 0 2
-    ∷ Granted 1 0 2
-    ∷ Placed 1 0 7
-    ∷ Finished 1 (add 7 2) (Index 0)
-    ∷ Begun 1 get_state
-    ∷ Copied 1 0 7
-    ∷ Finished 1 get_state (Number 1)
-    ∷ []
+    ∷ added 1 0 7 2
+    ++ copied 1 7
 half_written_events = refl
 
 -- The state of party 1 shows the value of the second add, not the half-written one.
@@ -115,17 +122,11 @@ seen_late =
 
 -- the state copies the value after the release, and the remove hides it then
 pub seen_late_events : (ran_on 1 seen_late).events
-    ≡ Begun 0 (add 5 1)
-    ∷ Filled 0 0 1
-    ∷ Granted 0 0 1
-    ∷ Placed 0 0 5
-    ∷ Finished 0 (add 5 1) (Index 0)
-    ∷ Begun 0 (remove 0 1 Default)
+    ≡ added 0 0 5 1
+    ++ Begun 0 (remove 0 1 Default)
     ∷ FreedOf 0 0 1
-    ∷ Begun 1 get_state
-    ∷ Copied 1 0 5
-    ∷ Finished 1 get_state (Number 1)
-    ∷ Hidden 0 0
+    ∷ copied 1 5
+    ++ Hidden 0 0
     ∷ Finished 0 (remove 0 1 Default) (State states.Unlocked)
     ∷ []
 seen_late_events = refl
@@ -141,15 +142,9 @@ replaced =
 
 -- the replace hides the value and places another, and the update then copies that one
 pub replaced_events : (ran_on 1 replaced).events
-    ≡ Begun 0 (add 5 1)
-    ∷ Filled 0 0 1
-    ∷ Granted 0 0 1
-    ∷ Placed 0 0 5
-    ∷ Finished 0 (add 5 1) (Index 0)
-    ∷ Begun 1 get_state
-    ∷ Copied 1 0 5
-    ∷ Finished 1 get_state (Number 1)
-    ∷ Begun 0 (replace 0 6 1)
+    ≡ added 0 0 5 1
+    ++ copied 1 5
+    ++ Begun 0 (replace 0 6 1)
     ∷ Hidden 0 0
     ∷ Placed 0 0 6
     ∷ Finished 0 (replace 0 6 1) Done
@@ -168,19 +163,14 @@ abbrev half_replaced : List (Turn ℕ)
 half_replaced =
     begins 0 (add 5 1) 9 ++ (begins 1 get_state 5 ++ begins 0 (replace 0 6 1) 4)
 
+-- The events of `half_replaced`: the replace has hidden the value, and has not placed the other.
+abbrev half_replaced_told : List (Event ℕ)
+half_replaced_told = added 0 0 5 1 ++ copied 1 5 ++ Begun 0 (replace 0 6 1) ∷ Hidden 0 0 ∷ []
+
 -- the update finds no change while the replace stands between its two words
 pub half_replaced_update : (ran_on 1 (half_replaced ++ begins 1 update_state 1)).events
-    ≡ Begun 0 (add 5 1)
-    ∷ Filled 0 0 1
-    ∷ Granted 0 0 1
-    ∷ Placed 0 0 5
-    ∷ Finished 0 (add 5 1) (Index 0)
-    ∷ Begun 1 get_state
-    ∷ Copied 1 0 5
-    ∷ Finished 1 get_state (Number 1)
-    ∷ Begun 0 (replace 0 6 1)
-    ∷ Hidden 0 0
-    ∷ Begun 1 update_state
+    ≡ half_replaced_told
+    ++ Begun 1 update_state
     ∷ Finished 1 update_state (Truth false)
     ∷ []
 half_replaced_update = refl
@@ -195,17 +185,8 @@ half_replaced_steps = refl
 
 -- a new state shows no value while the replace stands between its two words
 pub half_replaced_state : (ran_on 1 (half_replaced ++ begins 1 get_state 2)).events
-    ≡ Begun 0 (add 5 1)
-    ∷ Filled 0 0 1
-    ∷ Granted 0 0 1
-    ∷ Placed 0 0 5
-    ∷ Finished 0 (add 5 1) (Index 0)
-    ∷ Begun 1 get_state
-    ∷ Copied 1 0 5
-    ∷ Finished 1 get_state (Number 1)
-    ∷ Begun 0 (replace 0 6 1)
-    ∷ Hidden 0 0
-    ∷ Begun 1 get_state
+    ≡ half_replaced_told
+    ++ Begun 1 get_state
     ∷ Finished 1 get_state (Number 0)
     ∷ []
 half_replaced_state = refl
@@ -216,19 +197,17 @@ half_replaced_state = refl
 abbrev looked : List (Turn ℕ)
 looked = begins 0 (add 1234567 8192) 9 ++ (begins 0 get_state 6 ++ begins 0 update_state 1)
 
--- the update after a new state finds no change
-pub looked_events : (ran_on 2 looked).events
-    ≡ Begun 0 (add 1234567 8192)
-    ∷ Filled 0 0 8192
-    ∷ Granted 0 0 8192
-    ∷ Placed 0 0 1234567
-    ∷ Finished 0 (add 1234567 8192) (Index 0)
-    ∷ Begun 0 get_state
-    ∷ Copied 0 0 1234567
-    ∷ Finished 0 get_state (Number 1)
-    ∷ Begun 0 update_state
+-- The events of `looked`: the update finds no change since the new state.
+abbrev looked_told : List (Event ℕ)
+looked_told =
+    added 0 0 1234567 8192
+    ++ copied 0 1234567
+    ++ Begun 0 update_state
     ∷ Finished 0 update_state (Truth false)
     ∷ []
+
+-- The events that the machine writes in `looked` are those of `looked_told`.
+pub looked_events : (ran_on 2 looked).events ≡ looked_told
 looked_events = refl
 
 -- The state shows the value at index 0, and none at index 1.
@@ -241,17 +220,8 @@ looked_again = looked ++ (begins 0 (remove 0 8192 Default) 6 ++ begins 0 update_
 
 -- the update after the remove finds one
 pub looked_again_events : (ran_on 2 looked_again).events
-    ≡ Begun 0 (add 1234567 8192)
-    ∷ Filled 0 0 8192
-    ∷ Granted 0 0 8192
-    ∷ Placed 0 0 1234567
-    ∷ Finished 0 (add 1234567 8192) (Index 0)
-    ∷ Begun 0 get_state
-    ∷ Copied 0 0 1234567
-    ∷ Finished 0 get_state (Number 1)
-    ∷ Begun 0 update_state
-    ∷ Finished 0 update_state (Truth false)
-    ∷ Begun 0 (remove 0 8192 Default)
+    ≡ looked_told
+    ++ Begun 0 (remove 0 8192 Default)
     ∷ FreedOf 0 0 8192
     ∷ Hidden 0 0
     ∷ Finished 0 (remove 0 8192 Default) (State states.Unlocked)
@@ -290,17 +260,9 @@ asked =
 
 -- the first value is freed and hidden, and the second stays
 pub asked_events : (ran_on 2 asked).events
-    ≡ Begun 0 (add 5 1)
-    ∷ Filled 0 0 1
-    ∷ Granted 0 0 1
-    ∷ Placed 0 0 5
-    ∷ Finished 0 (add 5 1) (Index 0)
-    ∷ Begun 0 (add 6 1)
-    ∷ Filled 0 1 1
-    ∷ Granted 0 1 1
-    ∷ Placed 0 1 6
-    ∷ Finished 0 (add 6 1) (Index 1)
-    ∷ Died 1
+    ≡ added 0 0 5 1
+    ++ added 0 1 6 1
+    ++ Died 1
     ∷ Begun 1 (recover 1)
     ∷ Copied 1 0 5
     ∷ Asked 1 0 1
@@ -327,12 +289,8 @@ question_is = refl
 
 -- the search ends with the one value that it found
 pub question_answered : (ran_on 1 (question ++ Decide 1 false ∷ [])).events
-    ≡ Begun 0 (add 5 1)
-    ∷ Filled 0 0 1
-    ∷ Granted 0 0 1
-    ∷ Placed 0 0 5
-    ∷ Finished 0 (add 5 1) (Index 0)
-    ∷ Begun 1 (find 1)
+    ≡ added 0 0 5 1
+    ++ Begun 1 (find 1)
     ∷ Copied 1 0 5
     ∷ Finished 1 (find 1) (Number 1)
     ∷ []

@@ -1,8 +1,8 @@
 -- The definitions of the unique index set at worked runs, and at histories that they refuse.
 use Rattle.model.proofs.Names.{BadIndex, Begin, Begun, Claimed, Default, Event, Finished, Freed, List, LockIfLastIndex}
-use Rattle.model.proofs.Names.{Locked, Next, None, Number, Open, Option, Some, Stands, Start, State, Trace, Truth, Turn}
+use Rattle.model.proofs.Names.{Locked, None, Number, Open, Option, Some, Stands, Start, State, Trace, Truth, Turn}
 use Rattle.model.proofs.Names.{WrongCall, [], ap, arith, get_or, length, one_word, opening, progress_in, promise_of}
-use Rattle.model.proofs.Names.{refl, refusal_of, run, true, ℕ, ◌*◌, ◌+◌, ◌^◌, ◌∷◌, ◌≡◌}
+use Rattle.model.proofs.Names.{refl, refusal_of, run, true, ℕ, ◌*◌, ◌++◌, ◌+◌, ◌^◌, ◌∷◌, ◌≡◌}
 use Rattle.steps.specs.declared.indices.enums.ReleaseState.TheVariants as states
 use Rattle.steps.specs.declared.indices.enums.UniqueIndexSetAcquireFailure.TheVariants as failures
 use Rattle.model.specs.declared.event.Answer.TheVariants.{Index, NoIndex}
@@ -14,6 +14,7 @@ use Rattle.model.specs.declared.turn.Refusal.TheVariants.{NotHeld}
 use Rattle.model.specs.Families.Indices.Promises.{HoldsRight, AnswersRight}
 use Rattle.model.specs.Families.Indices.Reading.{holder_of, tally_of}
 use Rattle.model.specs.Families.Indices.Spans.{SetActs}
+use Rattle.model.proofs.Runs.{nexts, begins}
 
 abbrev acquire : Start ℕ
 acquire = Indices Acquire
@@ -33,29 +34,13 @@ opened capacity = opening one_word kinds.Indices capacity 2
 -- the release frees its index, and meets the head that another party's acquire has exchanged
 abbrev falls_back : List (Turn ℕ)
 falls_back =
-    Begin 0 acquire
-    ∷ Next 0
-    ∷ Next 0
-    ∷ Next 0
-    ∷ Next 0
-    ∷ Begin 0 (release 0)
-    ∷ Next 0
-    ∷ Next 0
-    ∷ Next 0
-    ∷ Begin 1 acquire
-    ∷ Next 1
-    ∷ Next 1
-    ∷ Next 1
-    ∷ Next 1
-    ∷ Next 0
-    ∷ Next 0
-    ∷ Begin 1 acquire
-    ∷ Next 1
-    ∷ Next 1
-    ∷ Next 1
-    ∷ []
+    begins 0 acquire 4
+    ++ begins 0 (release 0) 3
+    ++ begins 1 acquire 4
+    ++ nexts 0 2
+    ++ begins 1 acquire 3
 
--- The events of `turns`.
+-- The events of `falls_back`.
 abbrev told : List (Event ℕ)
 told =
     Begun 0 acquire
@@ -103,23 +88,11 @@ falls_back_tally = refl
 -- the last index is given back in the mode that locks, and acquire is then refused
 abbrev locks : List (Turn ℕ)
 locks =
-    Begin 0 acquire
-    ∷ Next 0
-    ∷ Next 0
-    ∷ Next 0
-    ∷ Next 0
-    ∷ Begin 0 (release_or_lock 0)
-    ∷ Next 0
-    ∷ Next 0
-    ∷ Next 0
-    ∷ Next 0
-    ∷ Begin 0 acquire
-    ∷ Next 0
-    ∷ Begin 1 (Indices BorrowedIndices)
-    ∷ Next 1
-    ∷ Begin 0 (Indices IsLocked)
-    ∷ Next 0
-    ∷ []
+    begins 0 acquire 4
+    ++ begins 0 (release_or_lock 0) 4
+    ++ begins 0 acquire 1
+    ++ begins 1 (Indices BorrowedIndices) 1
+    ++ begins 0 (Indices IsLocked) 1
 
 -- the release answers Locked, the acquire that comes then is refused, and nothing is borrowed
 pub locks_events : (run locks (opened 3)).events

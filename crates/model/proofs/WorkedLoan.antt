@@ -14,7 +14,7 @@ use Rattle.model.specs.Families.Loan.Promises.{LivesRight}
 use Rattle.model.specs.Families.Loan.Reading.{Free, Passing, With, spot_of, place_of, receiver_of}
 use Rattle.model.specs.World.{opening_as}
 use Rattle.model.proofs.Readings.{AreRight, Each-append, Each-nil}
-use Rattle.model.proofs.Runs.{two_words, begins}
+use Rattle.model.proofs.Runs.{two_words, begins, nexts}
 
 abbrev loan : Start ℕ
 loan = starts.Loan Loan
@@ -44,9 +44,40 @@ opening_words = refl
 
 -- ---- a full queue hands the oldest index back, and the receiver dies with the other one
 
--- The sender, party 0, loans an index and sends it, and then a second one, into a queue of capacity 1.
+-- The sender, party 0, loans an index and sends it, and loans a second one. Its send of this one has published the index, in a
+-- queue of capacity 1, which is full.
+abbrev stopped : List (Turn ℕ)
+stopped = begins 0 loan 4 ++ begins 0 (send 0) 4 ++ begins 0 loan 4 ++ begins 0 (send 1) 4
+
+-- The events of `stopped`.
+abbrev stopped_told : List (Event ℕ)
+stopped_told =
+    Begun 0 loan
+    ∷ Claimed 0 0
+    ∷ Finished 0 loan (Index 0)
+    ∷ Begun 0 (send 0)
+    ∷ Published 0 (items.Index 0)
+    ∷ Acted 0 (send 0) PoppedNone
+    ∷ Finished 0 (send 0) PoppedNone
+    ∷ Begun 0 loan
+    ∷ Claimed 0 1
+    ∷ Finished 0 loan (Index 1)
+    ∷ Begun 0 (send 1)
+    ∷ Published 0 (items.Index 1)
+    ∷ []
+
+-- The second send goes on to its end.
 abbrev sent : List (Turn ℕ)
-sent = begins 0 loan 4 ++ (begins 0 (send 0) 4 ++ (begins 0 loan 4 ++ begins 0 (send 1) 10))
+sent = stopped ++ nexts 0 6
+
+-- The events by which the second send hands the oldest index back and frees it.
+abbrev handed_back : List (Event ℕ)
+handed_back =
+    HandedOut 0 (items.Index 0)
+    ∷ Acted 0 (send 1) (PoppedIndex 0)
+    ∷ Freed 0 0
+    ∷ Finished 0 (send 1) (PoppedIndex 0)
+    ∷ []
 
 -- After `sent` party 1 receives an index, the sender loans the other, party 1 dies, and the sender reclaims.
 abbrev reclaimed : List (Turn ℕ)
@@ -54,44 +85,15 @@ reclaimed = sent ++ (begins 1 receive 4 ++ (begins 0 loan 4 ++ (Die 1 ∷ begins
 
 -- the second send hands back the index of the first, which is freed
 pub sent_events : (ran_on sent).events
-    ≡ Begun 0 loan
-    ∷ Claimed 0 0
-    ∷ Finished 0 loan (Index 0)
-    ∷ Begun 0 (send 0)
-    ∷ Published 0 (items.Index 0)
-    ∷ Acted 0 (send 0) PoppedNone
-    ∷ Finished 0 (send 0) PoppedNone
-    ∷ Begun 0 loan
-    ∷ Claimed 0 1
-    ∷ Finished 0 loan (Index 1)
-    ∷ Begun 0 (send 1)
-    ∷ Published 0 (items.Index 1)
-    ∷ HandedOut 0 (items.Index 0)
-    ∷ Acted 0 (send 1) (PoppedIndex 0)
-    ∷ Freed 0 0
-    ∷ Finished 0 (send 1) (PoppedIndex 0)
-    ∷ []
+    ≡ stopped_told
+    ++ handed_back
 sent_events = refl
 
 -- the sender reclaims the index that the dead receiver held
 pub reclaimed_events : (ran_on reclaimed).events
-    ≡ Begun 0 loan
-    ∷ Claimed 0 0
-    ∷ Finished 0 loan (Index 0)
-    ∷ Begun 0 (send 0)
-    ∷ Published 0 (items.Index 0)
-    ∷ Acted 0 (send 0) PoppedNone
-    ∷ Finished 0 (send 0) PoppedNone
-    ∷ Begun 0 loan
-    ∷ Claimed 0 1
-    ∷ Finished 0 loan (Index 1)
-    ∷ Begun 0 (send 1)
-    ∷ Published 0 (items.Index 1)
-    ∷ HandedOut 0 (items.Index 0)
-    ∷ Acted 0 (send 1) (PoppedIndex 0)
-    ∷ Freed 0 0
-    ∷ Finished 0 (send 1) (PoppedIndex 0)
-    ∷ Begun 1 receive
+    ≡ stopped_told
+    ++ handed_back
+    ++ Begun 1 receive
     ∷ HandedOut 1 (items.Index 1)
     ∷ Acted 1 receive (PoppedIndex 1)
     ∷ Finished 1 receive (PoppedIndex 1)
@@ -206,25 +208,10 @@ no_dead_in_a_run lives = no_begin_of_the_dead (lives died [] (Begun 1 receive) r
 pub no_reclaim_from_the_living : LivesRight (ran_on sent).events (Begun 0 reclaim) → ⊥
 no_reclaim_from_the_living right = let dead = right.1 in cc
 
--- a send that has stopped in a full queue acts as a receive makes room, though its party is dead
-abbrev stopped : List (Turn ℕ)
-stopped = begins 0 loan 4 ++ (begins 0 (send 0) 4 ++ (begins 0 loan 4 ++ begins 0 (send 1) 4))
-
--- the receive hands the oldest index out, and with that the dead sender's send acts
+-- A send that has stopped in a full queue acts as a receive makes room, by handing the oldest index out, though the sender is dead.
 pub send_of_the_dead_acts : (ran_on (stopped ++ (Die 0 ∷ begins 1 receive 4))).events
-    ≡ Begun 0 loan
-    ∷ Claimed 0 0
-    ∷ Finished 0 loan (Index 0)
-    ∷ Begun 0 (send 0)
-    ∷ Published 0 (items.Index 0)
-    ∷ Acted 0 (send 0) PoppedNone
-    ∷ Finished 0 (send 0) PoppedNone
-    ∷ Begun 0 loan
-    ∷ Claimed 0 1
-    ∷ Finished 0 loan (Index 1)
-    ∷ Begun 0 (send 1)
-    ∷ Published 0 (items.Index 1)
-    ∷ Died 0
+    ≡ stopped_told
+    ++ Died 0
     ∷ Begun 1 receive
     ∷ HandedOut 1 (items.Index 0)
     ∷ Acted 1 receive (PoppedIndex 0)

@@ -1,18 +1,17 @@
 -- Worked runs in which no call ends. For six kinds they take as many steps as the bound says, so that none is less at that
--- number of parties and that capacity. Two releases that would lock a robust index set make each other begin again, twenty
--- times each, in 200 steps.
+-- number of parties and that capacity.
 use Rattle.model.proofs.Names.{AllByRecursion, AreAllowedOn, Begin, Bool, Bound, Decide, Die, IsBelow, IsCoding}
-use Rattle.model.proofs.Names.{IsReachedOn, Kind, List, Next, None, Option, QueueStart, Refusal, Some, Trace, Turn, []}
-use Rattle.model.proofs.Names.{after_turn, after_turns, arith, call_refusal, ends, false, nat_lt, nat_tests, one_word}
-use Rattle.model.proofs.Names.{opening, refl, run_on, steps_in, suc, true, zero, ℕ, ◌&&◌, ◌++◌, ◌<◌, ◌∷◌, ◌≡◌}
+use Rattle.model.proofs.Names.{Kind, List, Next, None, Option, QueueStart, Refusal, Some, Trace, Turn, []}
+use Rattle.model.proofs.Names.{after_turn, after_turns, arith, call_refusal, capacity_error, ends, false, nat_lt, nat_tests}
+use Rattle.model.proofs.Names.{one_word, opening, refl, run_on, steps_in, true, ℕ, ◌&&◌, ◌++◌, ◌<◌, ◌∷◌, ◌≡◌}
 use Rattle.model.specs.declared.event.Start.TheVariants as starts
 use Rattle.model.specs.declared.families.atomic.AtomicStart.TheVariants as atomics
 use Rattle.model.specs.declared.families.bits.BitsStart.TheVariants as bits
 use Rattle.model.specs.declared.families.queues.QueueStart.TheVariants as queues
-use Rattle.model.specs.declared.turn.Kind.TheVariants.{IndexQueue, Overflow, Queue, Atomic, Bits, Counts, Robust}
+use Rattle.model.specs.declared.turn.Kind.TheVariants.{IndexQueue, Overflow, Queue, Atomic, Bits, Counts}
 use Rattle.model.specs.LockFree.{IsLockFree}
+use Rattle.model.proofs.Reached.{run_making, run_reached, reached_on_opening}
 use Rattle.model.proofs.Runs.{nexts, begins}
-use Rattle.model.proofs.WorkedProgress.{both_count, round}
 
 pub one_word_codes : IsCoding one_word
 one_word_codes = record { some = omega arith; few = omega arith; sized = λ n. refl; given_back = λ n. refl }
@@ -60,10 +59,7 @@ low = grind (arith, nat_tests)
 
 -- If the test `is_below` says so of a turn, then it is of a party below n.
 one_below : (n : ℕ) (turn : Turn ℕ) → is_below n turn ≡ true → IsBelow n turn
-one_below n (Begin p start) is_below_true = low p n is_below_true
-one_below n (Next p) is_below_true = low p n is_below_true
-one_below n (Decide p said) is_below_true = low p n is_below_true
-one_below n (Die owner) is_below_true = tt
+one_below = grind (arith, low)
 
 -- If the test `are_below` says so of turns, then each is of a party below n.
 pub all_below : (n : ℕ) (turns : List (Turn ℕ)) → are_below n turns ≡ true → AllByRecursion (IsBelow n) turns
@@ -74,38 +70,49 @@ all_below n (turn ∷ turns) are_below_true =
 
 -- ---- a run of n steps in which no call ends leaves no bound below n
 
+abbrev pub from : Kind → ℕ → ℕ → List (Turn ℕ) → Trace ℕ
+from kind capacity parties before = run_on before (opening one_word kind capacity parties)
+
+-- A machine of values of one word that opens with this kind, capacity and number of parties and takes the turns `before`, and
+-- turns of parties below `n` that it then takes, which are this number of steps. `ended` calls have ended before these turns.
+record Run : Type 0 where
+  pub kind : Kind
+  pub capacity : ℕ
+  pub parties : ℕ
+  pub before : List (Turn ℕ)
+  pub n : ℕ
+  pub turns : List (Turn ℕ)
+  pub steps : ℕ
+  pub ended : ℕ
+
+-- the machine before the turns
+abbrev first : Run → Trace ℕ
+first r = from r.kind r.capacity r.parties r.before
+
+-- No call ends in these turns. None of them is refused, all are of parties below `n`, and their steps are as many as the run says.
+record IsEndless (r : Run) : Type 0 where
+  pub admitted : capacity_error r.kind r.capacity ≡ None
+  pub taken : are_taken (first r) r.turns ≡ true
+  pub below : are_below r.n r.turns ≡ true
+  pub many : steps_in (first r) r.turns ≡ r.steps
+  pub before : ends (first r).events ≡ r.ended
+  pub after : ends (after_turns (first r) r.turns).events ≡ r.ended
+
 none_more : (before after ended : ℕ) → before ≡ ended → after ≡ ended → before < after → ⊥
 none_more before after ended was leads less = absurd (omega arith)
 
 more_steps : (most steps here : ℕ) → steps ≡ here → most < here → most < steps
 more_steps = omega arith
 
--- From the machine `t`, which turns reach, parties below n take these turns: `steps` steps in which no call
--- ends (`ended` calls had ended before, and have after).
-record IsEndless (t : Trace ℕ) (kind : Kind) (c n steps ended : ℕ) (turns : List (Turn ℕ)) : Type 0 where
-  -- the machine: turns reach it, and its numbers
-  pub reached : IsReachedOn t
-  pub is : t.world.kind ≡ kind
-  pub capacity : t.world.capacity ≡ c
-  pub size : t.world.coding.size ≡ 1
-  -- the turns: none is refused, and all are of parties below n
-  pub taken : are_taken t turns ≡ true
-  pub below : are_below n turns ≡ true
-  -- the steps of these turns, and the calls that had ended before them and after
-  pub many : steps_in t turns ≡ steps
-  pub before : ends t.events ≡ ended
-  pub after : ends (after_turns t turns).events ≡ ended
-
--- from there these turns take more steps than the bound allows, so the bound is too small for the kind
-no_less : {t : Trace ℕ} {kind : Kind} {c n steps ended : ℕ} {turns : List (Turn ℕ)} → IsEndless t kind c n steps ended turns
-    → (bound : Bound) → bound n c 1 < steps → IsLockFree ℕ kind bound → ⊥
-no_less {t} {n = n} {steps = steps} {ended = ended} {turns = turns} endless bound few free =
-    none_more (ends t.events) (ends (after_turns t turns).events) ended endless.before endless.after
-    (free t endless.is endless.reached n turns (all_allowed t turns endless.taken) (all_below n turns endless.below)
-    (more_steps (bound n t.world.capacity t.world.coding.size) (steps_in t turns) steps endless.many (rw (endless.capacity, endless.size) few)))
-
-abbrev pub from : Kind → ℕ → ℕ → List (Turn ℕ) → Trace ℕ
-from kind capacity parties before = run_on before (opening one_word kind capacity parties)
+-- these turns are more steps than the bound allows, so the bound is too small for the kind
+no_less : (r : Run) → IsEndless r → (bound : Bound) → bound r.n r.capacity 1 < r.steps → IsLockFree ℕ r.kind bound → ⊥
+no_less r endless bound few free =
+    let made = run_making r.before (opening one_word r.kind r.capacity r.parties) in
+    let reached = run_reached r.before (reached_on_opening one_word r.kind r.capacity r.parties one_word_codes endless.admitted) in
+    let low : bound r.n (first r).world.capacity (first r).world.coding.size < r.steps = rw (made.capacity, made.coding) few in
+    none_more (ends (first r).events) (ends (after_turns (first r) r.turns).events) r.ended endless.before endless.after
+    (free (first r) made.kind reached r.n r.turns (all_allowed (first r) r.turns endless.taken) (all_below r.n r.turns endless.below)
+    (more_steps (bound r.n (first r).world.capacity (first r).world.coding.size) (steps_in (first r) r.turns) r.steps endless.many low))
 
 -- ---- two lengths of an index queue, and of a queue, whose write position has moved
 
@@ -115,38 +122,22 @@ measured push =
     ++ (begins 0 (starts.Queues queues.Len) 1
     ++ (begins 1 (starts.Queues queues.Len) 1 ++ begins 2 (starts.Queues push) 4))
 
+-- The run in which two parties take five steps each in a length of this kind of queue.
+abbrev lengths : Kind → QueueStart ℕ → Run
+lengths kind push =
+    record { kind = kind; capacity = 1; parties = 3; before = measured push; n = 2; turns = nexts 0 5 ++ nexts 1 5; steps = 10; ended = 2 }
+
 -- no bound below 10 holds for two lengths of an index queue of capacity 1
 pub index_queue : (bound : Bound) → bound 2 1 1 < 10 → IsLockFree ℕ IndexQueue bound → ⊥
 index_queue =
-    no_less {t = (from IndexQueue 1 3 (measured (queues.PushIndex 7)))} {kind = IndexQueue} {c = 1} {n = 2}
-    {steps = 10} {ended = 2} {turns = (nexts 0 5 ++ nexts 1 5)}
-    (record {
-      reached = record { coded = one_word_codes; admitted = refl; turns = measured (queues.PushIndex 7); is = refl };
-      is = refl;
-      capacity = refl;
-      size = refl;
-      taken = refl;
-      below = refl;
-      many = refl;
-      before = refl;
-      after = refl;
-    })
+    no_less (lengths IndexQueue (queues.PushIndex 7))
+    (record { admitted = refl; taken = refl; below = refl; many = refl; before = refl; after = refl })
 
 -- no bound below 10 holds for two lengths of a queue of capacity 1
 pub queue : (bound : Bound) → bound 2 1 1 < 10 → IsLockFree ℕ Queue bound → ⊥
 queue =
-    no_less {t = (from Queue 1 3 (measured (queues.Push 7)))} {kind = Queue} {c = 1} {n = 2} {steps = 10} {ended = 2} {turns = (nexts 0 5 ++ nexts 1 5)}
-    (record {
-      reached = record { coded = one_word_codes; admitted = refl; turns = measured (queues.Push 7); is = refl };
-      is = refl;
-      capacity = refl;
-      size = refl;
-      taken = refl;
-      below = refl;
-      many = refl;
-      before = refl;
-      after = refl;
-    })
+    no_less (lengths Queue (queues.Push 7))
+    (record { admitted = refl; taken = refl; below = refl; many = refl; before = refl; after = refl })
 
 -- ---- a push of an overflowing queue that is full
 
@@ -159,18 +150,8 @@ full =
 -- no bound below 5 holds for one push of a full overflowing queue
 pub overflow : (bound : Bound) → bound 1 1 1 < 5 → IsLockFree ℕ Overflow bound → ⊥
 overflow =
-    no_less {t = (from Overflow 1 1 full)} {kind = Overflow} {c = 1} {n = 1} {steps = 5} {ended = 2} {turns = (nexts 0 5)}
-    (record {
-      reached = record { coded = one_word_codes; admitted = refl; turns = full; is = refl };
-      is = refl;
-      capacity = refl;
-      size = refl;
-      taken = refl;
-      below = refl;
-      many = refl;
-      before = refl;
-      after = refl;
-    })
+    no_less (record { kind = Overflow; capacity = 1; parties = 1; before = full; n = 1; turns = nexts 0 5; steps = 5; ended = 2 })
+    (record { admitted = refl; taken = refl; below = refl; many = refl; before = refl; after = refl })
 
 -- ---- two loads of a value whose version has moved
 
@@ -185,18 +166,8 @@ stale =
 -- no bound below 6 holds for two loads of a value of one word
 pub value : (bound : Bound) → bound 2 1 1 < 6 → IsLockFree ℕ Atomic bound → ⊥
 value =
-    no_less {t = (from Atomic 1 3 stale)} {kind = Atomic} {c = 1} {n = 2} {steps = 6} {ended = 2} {turns = (nexts 0 3 ++ nexts 1 3)}
-    (record {
-      reached = record { coded = one_word_codes; admitted = refl; turns = stale; is = refl };
-      is = refl;
-      capacity = refl;
-      size = refl;
-      taken = refl;
-      below = refl;
-      many = refl;
-      before = refl;
-      after = refl;
-    })
+    no_less (record { kind = Atomic; capacity = 1; parties = 3; before = stale; n = 2; turns = nexts 0 3 ++ nexts 1 3; steps = 6; ended = 2 })
+    (record { admitted = refl; taken = refl; below = refl; many = refl; before = refl; after = refl })
 
 -- ---- a reset of the next bit that stands in the last place, and two resets of all counts
 
@@ -207,18 +178,8 @@ last_set =
 -- no bound below 5 holds for one reset of the next bit
 pub bit_set : (bound : Bound) → bound 1 3 1 < 5 → IsLockFree ℕ Bits bound → ⊥
 bit_set =
-    no_less {t = (from Bits 3 2 last_set)} {kind = Bits} {c = 3} {n = 1} {steps = 5} {ended = 1} {turns = (nexts 0 5)}
-    (record {
-      reached = record { coded = one_word_codes; admitted = refl; turns = last_set; is = refl };
-      is = refl;
-      capacity = refl;
-      size = refl;
-      taken = refl;
-      below = refl;
-      many = refl;
-      before = refl;
-      after = refl;
-    })
+    no_less (record { kind = Bits; capacity = 3; parties = 2; before = last_set; n = 1; turns = nexts 0 5; steps = 5; ended = 1 })
+    (record { admitted = refl; taken = refl; below = refl; many = refl; before = refl; after = refl })
 
 abbrev resets : List (Turn ℕ)
 resets =
@@ -227,37 +188,5 @@ resets =
 -- no bound below 4 holds for two resets of all counts
 pub counts : (bound : Bound) → bound 2 3 1 < 4 → IsLockFree ℕ Counts bound → ⊥
 counts =
-    no_less {t = (from Counts 3 2 resets)} {kind = Counts} {c = 3} {n = 2} {steps = 4} {ended = 0} {turns = (nexts 0 2 ++ nexts 1 2)}
-    (record {
-      reached = record { coded = one_word_codes; admitted = refl; turns = resets; is = refl };
-      is = refl;
-      capacity = refl;
-      size = refl;
-      taken = refl;
-      below = refl;
-      many = refl;
-      before = refl;
-      after = refl;
-    })
-
--- ---- two releases that would lock a robust index set
-
-abbrev rounds : ℕ → List (Turn ℕ)
-rounds zero = []
-rounds (suc n) = round ++ rounds n
-
--- no bound below 200 holds for two releases that would lock a robust index set
-pub robust : (bound : Bound) → bound 2 2 1 < 200 → IsLockFree ℕ Robust bound → ⊥
-robust =
-    no_less {t = (from Robust 2 2 both_count)} {kind = Robust} {c = 2} {n = 2} {steps = 200} {ended = 2} {turns = (rounds 20)}
-    (record {
-      reached = record { coded = one_word_codes; admitted = refl; turns = both_count; is = refl };
-      is = refl;
-      capacity = refl;
-      size = refl;
-      taken = refl;
-      below = refl;
-      many = refl;
-      before = refl;
-      after = refl;
-    })
+    no_less (record { kind = Counts; capacity = 3; parties = 2; before = resets; n = 2; turns = nexts 0 2 ++ nexts 1 2; steps = 4; ended = 0 })
+    (record { admitted = refl; taken = refl; below = refl; many = refl; before = refl; after = refl })

@@ -1,12 +1,11 @@
 -- The definitions of the robust index set at worked runs.
-use Rattle.model.proofs.Names.{Asked, Asks, BadIndex, Begin, BeginsNone, Begun, Bool, Decide, Default, Die, Died, Event}
-use Rattle.model.proofs.Names.{Filled, Finished, FreedOf, Frees, Granted, HeldSometime, HeldThroughout, IsCount}
+use Rattle.model.proofs.Names.{Asked, Asks, BadIndex, Begin, Begun, Bool, Decide, Default, Die, Died, Event}
+use Rattle.model.proofs.Names.{Filled, Finished, FreedOf, Frees, Granted, HeldThroughout, IsCount}
 use Rattle.model.proofs.Names.{IsFilled, IsFilledWith, IsOneOf, List, LockIfLastIndex, Next, None, Number, Open}
 use Rattle.model.proofs.Names.{OwnerIsDead, OwnerLives, ReleaseMode, SetAct, SetDoes, Some, Start, State, Told, Trace}
-use Rattle.model.proofs.Names.{Turn, Undecided, WrongCall, Yes, [], arith, count_below, false, filled_after, filled_of}
-use Rattle.model.proofs.Names.{inl, ne_eqb, one_word, opening, progress_in, refl, refusal_of, set_acts_of, subst, sym}
+use Rattle.model.proofs.Names.{Turn, Undecided, WrongCall, Yes, [], arith, count_below, false, filled_of}
+use Rattle.model.proofs.Names.{inl, ne_eqb, one_word, opening, progress_in, refl, refusal_of, set_acts_of}
 use Rattle.model.proofs.Names.{true, ℕ, ◌++◌, ◌-◌, ◌^◌, ◌∷◌, ◌≡◌}
-use Rattle.std.specs.Prelude.{fold}
 use Rattle.steps.specs.declared.indices.enums.ReleaseState.TheVariants as states
 use Rattle.steps.specs.declared.indices.enums.UniqueIndexSetAcquireFailure.TheVariants as failures
 use Rattle.model.specs.declared.event.Answer.TheVariants.{Index, NoIndex}
@@ -19,6 +18,7 @@ use Rattle.model.specs.Families.Indices.Robust.Promises.{HoldsRight}
 use Rattle.model.specs.Families.Indices.Robust.Promises.{AsksRight, AnswersRight, HasRecovered, FreesRight}
 use Rattle.model.specs.Families.Indices.Robust.Promises.{IsWellFormed}
 use Rattle.model.specs.Families.Indices.Robust.Spans.{may_stand}
+use Rattle.model.proofs.Moments.{so_by_events, throughout}
 use Rattle.model.proofs.Readings.{Each-append, Each-nil}
 use Rattle.model.proofs.Runs.{nexts, begins, ran}
 
@@ -256,24 +256,9 @@ leaves_it done = done.gone 0 7 (record { before = Asks 0 7 ∷ []; after = []; i
 abbrev passed : List (Event ℕ)
 passed = Filled 1 0 7 ∷ Begun 0 recover ∷ []
 
-begun_once : {start : Start ℕ} (rest : List (Event ℕ)) → Filled 1 0 7 ∷ Begun 0 start ∷ [] ≡ rest → BeginsNone 0 rest → ⊥
-begun_once rest same_rest within = (subst (BeginsNone 0) (sym same_rest) within).0 refl
-
-begun_then : {start : Start ℕ} (rest : List (Event ℕ)) → Begun 0 start ∷ [] ≡ rest → BeginsNone 0 rest → ⊥
-begun_then rest same_rest within = (subst (BeginsNone 0) (sym same_rest) within).0 refl
-
 -- at every moment since the call began, index 0 is filled by owner 7
 stays_filled : (start : Start ℕ) → HeldThroughout 0 (IsFilledWith 7 0) (Filled 1 0 7 ∷ Begun 0 start ∷ [])
-stays_filled start [] rest is within = absurd (begun_once rest is within)
-stays_filled start (a ∷ []) rest is within =
-    let e : Begun 0 start ∷ [] ≡ rest = cc in
-    absurd (begun_then rest e within)
-stays_filled start (a ∷ b ∷ []) rest is within =
-    let first : Filled 1 0 7 ≡ a = cc in
-    let second : Begun 0 start ≡ b = cc in
-    subst (λ x. filled_of 0 (x ∷ b ∷ []) ≡ Some 7) first
-    (subst (λ x. filled_of 0 (Filled 1 0 7 ∷ x ∷ []) ≡ Some 7) second refl)
-stays_filled start (a ∷ b ∷ c ∷ cs) rest is within = absurd (cc)
+stays_filled start = throughout 0 start (IsFilledWith 7 0) (Filled 1 0 7 ∷ []) [] refl
 
 not_asked : (before after : List SetAct) → [] ≡ before ++ Asks 0 7 ∷ after → ⊥
 not_asked [] after split = cc
@@ -292,27 +277,13 @@ counted_none = grind (arith, count_below)
 misses_one : IsCount 0 (IsFilledWith 7) 1 0 (Filled 1 0 7 ∷ Begun 0 (find 7) ∷ []) → ⊥
 misses_one count = counted_none count.chosen count.is (count.through 0 (omega arith) (stays_filled (find 7)))
 
--- nobody fills the index in these events
-abbrev FillsNot : ℕ → List (Event ℕ) → Type 0
-FillsNot i [] = Unit {0}
-FillsNot i (e ∷ es) = (filled_after i None e ≡ None) × FillsNot i es
-
--- An index that no event fills is empty at each moment.
-stays_empty : (i : ℕ) (part rest : List (Event ℕ)) → FillsNot i (part ++ rest) → filled_of i part ≡ None
-stays_empty i [] rest none = refl
-stays_empty i (e ∷ es) rest none =
-    subst (λ owner. fold (filled_after i) owner es ≡ None) (sym none.0) (stays_empty i es rest none.1)
-
-never_filled : (p i : ℕ) (told : List (Event ℕ)) → FillsNot i told → HeldSometime p (IsFilled i) told → ⊥
-never_filled = grind (arith, stays_empty)
-
 -- An acquire has begun.
 abbrev alone : List (Event ℕ)
 alone = Begun 0 (acquire 7) ∷ []
 
 -- OutOfIndices of a set that nobody uses
 no_empty_set : AnswersRight 1 alone (Finished 0 (acquire 7) (NoIndex failures.OutOfIndices)) → ⊥
-no_empty_set right = never_filled 0 0 alone (refl, tt) (right.1 0 (omega arith))
+no_empty_set right = so_by_events 0 (IsFilled 0) alone ((λ e. cc), (λ e. cc)) (right.1 0 (omega arith))
 
 no_set_act : (one : SetAct) (before after : List SetAct) → [] ≡ before ++ one ∷ after → ⊥
 no_set_act one [] after split = cc
@@ -325,25 +296,14 @@ last_one = Filled 1 0 7 ∷ Begun 1 (release 0 7 LockIfLastIndex) ∷ FreedOf 1 
 freed_all : (i : ℕ) → filled_of i last_one ≡ None
 freed_all = grind (arith, false, ne_eqb)
 
--- at no moment after the release freed its index was another one filled
-no_moment : (i : ℕ) (part rest : List (Event ℕ)) → last_one ≡ part ++ rest → IsOneOf (Frees 0 7) (set_acts_of 1 part) → IsFilled i part → ⊥
-no_moment i [] rest split one filled = cc
-no_moment i (a ∷ []) rest split one filled =
-    let first : a ≡ Filled 1 0 7 = cc in
-    let none = subst (λ x. IsOneOf (Frees 0 7) (set_acts_of 1 (x ∷ []))) first one in
-    no_set_act (Frees 0 7) none.before none.after none.is
-no_moment i (a ∷ b ∷ []) rest split one filled =
-    let first : a ∷ b ∷ [] ≡ Filled 1 0 7 ∷ Begun 1 (release 0 7 LockIfLastIndex) ∷ [] = cc in
-    let none = subst (λ x. IsOneOf (Frees 0 7) (set_acts_of 1 x)) first one in
-    no_set_act (Frees 0 7) none.before none.after none.is
-no_moment i (a ∷ b ∷ c ∷ []) rest split one filled =
-    let all : a ∷ b ∷ c ∷ [] ≡ last_one = cc in
-    let still = subst (λ x. filled_of i x ≡ None) (sym all) (freed_all i) in
-    cc
-no_moment i (a ∷ b ∷ c ∷ d ∷ ds) rest split one filled = cc
+unfreed : IsOneOf (Frees 0 7) [] → ⊥
+unfreed one = no_set_act (Frees 0 7) one.before one.after one.is
 
+-- at no moment after the release freed its index was another one filled
 never_locks : AnswersRight 1 last_one (Finished 1 (release 0 7 LockIfLastIndex) (State states.Unlocked)) → ⊥
-never_locks = grind (arith, no_moment)
+never_locks right =
+    so_by_events 1 (λ part. IsOneOf (Frees 0 7) (set_acts_of 1 part) × IsFilled right.1.other part) last_one
+    ((λ h. unfreed h.0), ((λ h. unfreed h.0), ((λ h. unfreed h.0), (λ h. let none = freed_all right.1.other in cc)))) right.1.once
 
 -- ---- a well-formed run: an acquire, its release, and an acquire again
 

@@ -16,6 +16,7 @@ use Rattle.pages.specs.Machine.{After, GoOn, Done, Turn, opening, turned}
 use Rattle.pages.specs.Places.{Act, ActsAt}
 use Rattle.pages.proofs.Places.{Moves, Stays, Acts, Forgets, Begins, Goes, Law, words_then}
 use Rattle.pages.proofs.Places as places
+use Rattle.pages.proofs.Turns.{either_so}
 
 -- the call that a stage belongs to
 abbrev pub call_at : page.Stage → page.Call
@@ -115,7 +116,9 @@ module _ (c b : ℕ) (below : b < c) where
   -- a set of the place that finds its bit
   set_tests_shows : (place old v : ℕ) (stage : page.Stage) → place < c → call_at stage ≡ page.Set place → did stage ≡ None
       → (place ≡ b → v ≡ page.bit (page.stands old b)) → GoesThen stage (page.set_tests place old) v v
-  set_tests_shows place old v stage lt is none sees = go (page.stands old place) refl
+  set_tests_shows place old v stage lt is none sees =
+      either_so (λ a. GoesThen stage a v v) (page.stands old place) _ _ (λ stood. rw (is, none) (found stood (place == b) refl))
+      (λ clear. record { call = sym is; fits = (lt, clear); moves = Stays (sym none) refl })
     where
       -- a set that finds its bit standing has found 1 and left 1, if the bit is the place's
       found : page.stands old place ≡ true → (t : Bool) → (place == b) ≡ t
@@ -125,11 +128,6 @@ module _ (c b : ℕ) (below : b < c) where
           let one : page.bit (page.stands old b) ≡ 1 = ap page.bit (subst (λ place. page.stands old place ≡ true) same stood) in
           Acts refl (act 1 1) refl (sym (sees same ∙ one)) (sym (sees same ∙ one)) (page.WasSet false, (rw t refl))
       found stood false t = Stays refl refl
-
-      go : (t : Bool) → page.stands old place ≡ t
-          → GoesThen stage (cond t (Done (page.WasSet false)) (GoOn (page.SetExchangesElement place old))) v v
-      go true stood = rw (is, none) (found stood (place == b) refl)
-      go false clear = record { call = sym is; fits = (lt, clear); moves = Stays (sym none) refl }
 
   -- ---- a set
 
@@ -142,13 +140,16 @@ module _ (c b : ℕ) (below : b < c) where
       → Good (words_then (page.bit_set c) at words stage) × GoesThen stage a (value words) (value (words_then (page.bit_set c) at words stage))
   leaves words stage a same good goes = (subst Good (sym same) good, subst (λ ws. GoesThen stage a (value words) (value ws)) (sym same) goes)
 
+  -- what stands at the place is what a call finds of it in the place's element
+  sees_there : (words : List ℕ) (place : ℕ) → place ≡ b → value words ≡ page.bit (page.stands (slice_index words (1 + place / 64)) b)
+  sees_there words place same = ap (λ n. page.bit (page.stands (slice_index words (1 + n / 64)) b)) (sym same)
+
   -- a set that loads its element has done nothing, or has found its bit standing
   set_loads : (words : List ℕ) (place : ℕ) → Good words → place < c → Step words (page.SetLoadsElement place)
   set_loads words place good lt =
       let old = slice_index words (1 + place / 64) in
       leaves words (page.SetLoadsElement place) (page.set_tests place old) (load_leaves words (1 + place / 64)) good
-      (set_tests_shows place old (value words) (page.SetLoadsElement place) lt refl refl
-      (λ same. ap (λ n. page.bit (page.stands (slice_index words (1 + n / 64)) b)) (sym same)))
+      (set_tests_shows place old (value words) (page.SetLoadsElement place) lt refl refl (sees_there words place))
 
   -- the words after an exchange that found the element, or not
   abbrev exchanged : List ℕ → ℕ → ℕ → Bool → List ℕ
@@ -159,6 +160,22 @@ module _ (c b : ℕ) (below : b < c) where
 
   same_length : (words : List ℕ) (word new : ℕ) → Good words → Good (slice_set words word new)
   same_length words word new good = length-set words word new ∙ good
+
+  -- an exchange that finds the element as it had been loaded puts the new one in, and one that does not leaves the words
+  exchanges : (words : List ℕ) (stage : page.Stage) (word new : ℕ) {element : ℕ} (done other : After page.Stage page.Answer) → Good words
+      → (slice_index words word ≡ element → GoesThen stage done (value words) (value (slice_set words word new)))
+      → GoesThen stage other (value words) (value words)
+      → Good (exchanged words word new (slice_index words word == element))
+      × GoesThen stage (cond (slice_index words word == element) done other) (value words)
+      (value (exchanged words word new (slice_index words word == element)))
+  exchanges words stage word new {element} done other good found missed = go (slice_index words word == element) refl
+    where
+      go : (t : Bool) → (slice_index words word == element) ≡ t
+          → Good (exchanged words word new t) × GoesThen stage (cond t done other) (value words) (value (exchanged words word new t))
+      go true t = (same_length words word new good, found (grind (arith, nat_tests)))
+      go false t =
+          let same = exchange_fails words word new in
+          (subst Good (sym same) good, subst (λ ws. GoesThen stage other (value words) (value ws)) (sym same) missed)
 
   -- a set that puts its bit in has found 0 and left 1, if the bit is the place's, and has done nothing at another place
   set_done : (words : List ℕ) (place element : ℕ) → Good words → place < c → page.stands element place ≡ false
@@ -188,25 +205,11 @@ module _ (c b : ℕ) (below : b < c) where
   -- a set that exchanges its element has put its bit in, has found it standing, or tries again
   set_exchanges : (words : List ℕ) (place element : ℕ) → Good words → place < c → page.stands element place ≡ false
       → Step words (page.SetExchangesElement place element)
-  set_exchanges words place element good lt clear = go (slice_index words (1 + place / 64) == element) refl
-    where
-      -- the cases are whether the element was as it had been loaded
-      go : (t : Bool) → (slice_index words (1 + place / 64) == element) ≡ t
-          → Good (exchanged words (1 + place / 64) (with_flag element place) t)
-          × GoesThen (page.SetExchangesElement place element)
-          (cond t (Done (page.WasSet true)) (page.set_tests place (slice_index words (1 + place / 64)))) (value words)
-          (value (exchanged words (1 + place / 64) (with_flag element place) t))
-      go true t =
-          let same_element : slice_index words (1 + place / 64) ≡ element = grind (arith, nat_tests) in
-          (same_length words (1 + place / 64) (with_flag element place) good, set_done words place element good lt clear same_element)
-      go false t =
-          let same = exchange_fails words (1 + place / 64) (with_flag element place) in
-          let old = slice_index words (1 + place / 64) in (
-            subst Good (sym same) good,
-            subst (λ ws. GoesThen (page.SetExchangesElement place element) (page.set_tests place old) (value words) (value ws)) (sym same)
-                (set_tests_shows place old (value words) (page.SetExchangesElement place element) lt refl refl
-                (λ same. ap (λ n. page.bit (page.stands (slice_index words (1 + n / 64)) b)) (sym same))),
-          )
+  set_exchanges words place element good lt clear =
+      let old = slice_index words (1 + place / 64) in
+      exchanges words (page.SetExchangesElement place element) (1 + place / 64) (with_flag element place) (Done (page.WasSet true))
+      (page.set_tests place old) good (set_done words place element good lt clear)
+      (set_tests_shows place old (value words) (page.SetExchangesElement place element) lt refl refl (sees_there words place))
 
   -- ---- a reset of the next one
 
@@ -232,7 +235,10 @@ module _ (c b : ℕ) (below : b < c) where
   next_tests_shows : (start passed old : ℕ) {v : ℕ} (stage : page.Stage) → start ≤ c → passed < c
       → call_at stage ≡ page.ResetNext → did stage ≡ passed_by start passed → (page.place_after c start passed ≡ b → v ≡ page.bit (page.stands old b))
       → GoesThen stage (page.next_tests c start passed old) v v
-  next_tests_shows start passed old {v} stage le lt is had sees = go (page.stands old (page.place_after c start passed)) refl
+  next_tests_shows start passed old {v} stage le lt is had sees =
+      either_so (λ a. GoesThen stage a v v) (page.stands old (page.place_after c start passed)) _ _
+      (λ stood. record { call = sym is; fits = (lt, (le, stood)); moves = Stays (sym had) refl })
+      (λ clear. then clear (nat_lt (passed + 1) c) refl)
     where
       -- Past the last place the search has passed `b` too.
       all_passed : passed + 1 ≡ c → passed_by start (passed + 1) ≡ Some (act 0 0)
@@ -256,11 +262,6 @@ module _ (c b : ℕ) (below : b < c) where
           let all : passed + 1 ≡ c = grind (arith, nat_tests) in
           rw (is, had) (subst (λ d. Moves at page.ResetNext (passed_by start passed) d v v) (all_passed all) (moves clear))
 
-      go : (t : Bool) → page.stands old (page.place_after c start passed) ≡ t
-          → GoesThen stage (cond t (GoOn (page.NextExchangesElement start passed old)) (page.next_comes_to c start (passed + 1))) v v
-      go true stood = record { call = sym is; fits = (lt, (le, stood)); moves = Stays (sym had) refl }
-      go false clear = then clear (nat_lt (passed + 1) c) refl
-
   -- a search that begins has passed no place
   next_starts : (words : List ℕ) → Good words → Step words page.NextLoadsPosition
   next_starts words good =
@@ -276,9 +277,6 @@ module _ (c b : ℕ) (below : b < c) where
 
       none_yet : (start : ℕ) → passed_by start 0 ≡ None
       none_yet start = let not_below : nat_lt (offset start) 0 ≡ false = grind (arith, nat_tests) in rw not_below refl
-
-  sees_there : (words : List ℕ) (place : ℕ) → place ≡ b → value words ≡ page.bit (page.stands (slice_index words (1 + place / 64)) b)
-  sees_there words place same = ap (λ n. page.bit (page.stands (slice_index words (1 + n / 64)) b)) (sym same)
 
   -- a search that loads an element has passed the place, or goes to exchange it
   next_loads : (words : List ℕ) (start passed : ℕ) → Good words → start ≤ c → passed < c → Step words (page.NextLoadsElement start passed)
@@ -344,29 +342,12 @@ module _ (c b : ℕ) (below : b < c) where
   next_exchanges : (words : List ℕ) (start passed element : ℕ) → Good words → start ≤ c → passed < c
       → page.stands element (page.place_after c start passed) ≡ true → Step words (page.NextExchangesElement start passed element)
   next_exchanges words start passed element good le lt stood =
-      go (slice_index words (1 + page.place_after c start passed / 64) == element) refl
-    where
-      -- the cases are whether the element was as it had been loaded
-      go : (t : Bool) → (slice_index words (1 + page.place_after c start passed / 64) == element) ≡ t
-          → Good (exchanged words (1 + page.place_after c start passed / 64) (without_flag element (page.place_after c start passed)) t)
-          × GoesThen (page.NextExchangesElement start passed element)
-          (cond t (GoOn (page.NextStoresPosition (page.place_after c start passed)))
-          (page.next_tests c start passed (slice_index words (1 + page.place_after c start passed / 64)))) (value words)
-          (value (exchanged words (1 + page.place_after c start passed / 64) (without_flag element (page.place_after c start passed)) t))
-      go true t =
-          let place = page.place_after c start passed in
-          let same_element : slice_index words (1 + page.place_after c start passed / 64) ≡ element = grind (arith, nat_tests) in (
-            same_length words (1 + place / 64) (without_flag element place) good,
-            record { call = refl; fits = tt; moves = next_done words start passed element good le lt stood same_element },
-          )
-      go false t =
-          let place = page.place_after c start passed in
-          let old = slice_index words (1 + place / 64) in
-          let same = exchange_fails words (1 + place / 64) (without_flag element place) in (
-            subst Good (sym same) good,
-            subst (λ ws. GoesThen (page.NextExchangesElement start passed element) (page.next_tests c start passed old) (value words) (value ws)) (sym same)
-                (next_tests_shows start passed old (page.NextExchangesElement start passed element) le lt refl refl (sees_there words place)),
-          )
+      let place = page.place_after c start passed in
+      let old = slice_index words (1 + place / 64) in
+      exchanges words (page.NextExchangesElement start passed element) (1 + place / 64) (without_flag element place)
+      (GoOn (page.NextStoresPosition place)) (page.next_tests c start passed old) good
+      (λ same. record { call = refl; fits = tt; moves = next_done words start passed element good le lt stood same })
+      (next_tests_shows start passed old (page.NextExchangesElement start passed element) le lt refl refl (sees_there words place))
 
   other_word : (words : List ℕ) (word new : ℕ) → word ≢ 1 + b / 64 → value (slice_set words word new) ≡ value words
   other_word words word new ne = ap page.bit (stands_elsewhere words word new b ne)
@@ -383,12 +364,6 @@ module _ (c b : ℕ) (below : b < c) where
   all_swaps words word places good some within none =
       (same_length words word 0 good, goes (nat_lt (word + 1) (1 + (c + 63) / 64)) refl)
     where
-      more : List ℕ
-      more = places_in word (slice_index words word)
-
-      abbrev_more : count (places ++ places_in word (slice_index words word)) ≡ count places + count (places_in word (slice_index words word))
-      abbrev_more = sum_by-append (λ place. cond (place == b) 1 0) places (places_in word (slice_index words word))
-
       -- what it has handed out of the place then is what it found there
       moves : Moves at page.ResetAll (cond (nat_lt (1 + b / 64) word) (Some (act (count places) 0)) None)
           (cond (nat_lt (1 + b / 64) (word + 1)) (Some (act (count (places ++ places_in word (slice_index words word))) 0)) None)

@@ -1,10 +1,8 @@
 -- The page of the bit set is about machines: turn by turn.
-use Rattle.std.specs.List.{AllByRecursion}
 use Rattle.std.proofs.Common.{is_some, nat_le, nat_lt, ◌^◌}
 use Rattle.std.proofs.lemmas.Bool.Decides.{nat_tests}
 use Rattle.model.proofs.Names.{Bool, IsCoding, List, None, Option, Some, Trace, [], ap, append-nil, append_assoc, arith, cond, false, first_of, first_row, fold}
 use Rattle.model.proofs.Names.{length, map, one_word, opening, refl, slice_index, step_of, subst, sym, true, ℕ, ◌++◌, ◌+◌, ◌<◌, ◌==◌, ◌∙◌, ◌∷◌, ◌≡◌, ◌≢◌}
-use Rattle.model.proofs.Reached.{reached_opening}
 use Rattle.model.specs.declared.event.Answer.{Answer}
 use Rattle.model.specs.declared.event.Event.{Event}
 use Rattle.model.specs.declared.event.Event.TheVariants as events
@@ -26,12 +24,13 @@ use Rattle.pages.specs.BitSetBridge as bits_bridge
 use Rattle.pages.specs.Machine as machine
 use Rattle.pages.specs.Handed.{IsTold, handed, handed_after, told}
 use Rattle.pages.proofs.BitSet as bits_law
-use Rattle.pages.proofs.Relates.{AllRules, IsWithin, Meets, Pairing, Relation, StepsRight, all_turns}
+use Rattle.pages.proofs.Relates.{GoesAlong, Meets, Pairing, Relation, StepsRight, went}
 use Rattle.pages.proofs.Relates as relates
+use Rattle.pages.proofs.Runs.{are_within, meets_after, no_rules, reached_by}
 use Rattle.pages.proofs.SetsAreTheCode.{bits_after, bits_asks}
-use Rattle.pages.proofs.Simulates.{went}
 use Rattle.pages.proofs.Told.{Hands, IsRead, Reads, Writes, steps_on}
 use Rattle.pages.proofs.Told as tellings
+use Rattle.pages.proofs.Turns.{either, either_so}
 
 pub coded : IsCoding one_word
 coded = grind arith
@@ -102,15 +101,12 @@ module _ (c : ℕ) (some : 0 < c) where
 
   -- the effects of a step hand out what the stage takes out
   writes : (p found : ℕ) (stage : bits.Stage) (old : ℕ) → WritesBits p (effects_of p (bits_bridge.flight c found stage) old) (items_of stage old)
-  writes p found (bits.SetLoadsElement place) old = writes_none p
   writes p found (bits.SetExchangesElement place element) old = go (old == element)
     where
       -- the cases are whether the word is still what was read
       go : (b : Bool) → WritesBits p (cond b (events.Set p place ∷ []) []) []
       go true = record { quiet = λ before. refl; own = λ acc. sym (append-nil acc); others = λ q acc ne. refl }
       go false = writes_none p
-  writes p found bits.NextLoadsPosition old = writes_none p
-  writes p found (bits.NextLoadsElement start passed) old = writes_none p
   writes p found (bits.NextExchangesElement start passed element) old = go (old == element)
     where
       -- the cases are whether the word is still what was read
@@ -118,8 +114,8 @@ module _ (c : ℕ) (some : 0 < c) where
           (cond b (bits.place_after c start passed ∷ []) [])
       go true = writes_all p (bits.place_after c start passed ∷ [])
       go false = writes_none p
-  writes p found (bits.NextStoresPosition place) old = writes_none p
   writes p found (bits.AllSwapsElement word places) old = writes_all p (places_in word old)
+  writes p found stage old = writes_none p
 
   -- After a step the items handed out are those of the next stage, or the page reads its answer
   -- from them and the model's.
@@ -128,41 +124,19 @@ module _ (c : ℕ) (some : 0 < c) where
 
   -- a set that looks for its bit hands nothing out
   reads_set : (place old : ℕ) (items : List ℕ) → ReadsBits items (bits.set_tests place old)
-  reads_set place old items = go (bits.stands old place)
-    where
-      go : (b : Bool) → ReadsBits items (cond b (machine.Done (bits.WasSet false)) (machine.GoOn (bits.SetExchangesElement place old)))
-      go true = refl
-      go false = tt
+  reads_set place old items = either (ReadsBits items) (bits.stands old place) _ _ refl tt
 
   -- a search that looks at a place hands nothing out
   reads_next : (start passed old : ℕ) (items : List ℕ) → ReadsBits items (bits.next_tests c start passed old)
-  reads_next start passed old items = go (bits.stands old (bits.place_after c start passed)) (nat_lt (passed + 1) c)
-    where
-      -- the cases are whether the bit stands and whether a place is left
-      go : (a b : Bool)
-          → ReadsBits items (cond a (machine.GoOn (bits.NextExchangesElement start passed old))
-          (cond b (machine.GoOn (bits.NextLoadsElement start (passed + 1))) (machine.Done (bits.WasReset None))))
-      go true b = tt
-      go false true = tt
-      go false false = refl
+  reads_next start passed old items =
+      either (ReadsBits items) (bits.stands old (bits.place_after c start passed)) _ _ tt (either (ReadsBits items) (nat_lt (passed + 1) c) _ _ tt refl)
 
   -- what a reset of all hands out goes along with its stages into its answer
   reads : (stage : bits.Stage) (old : ℕ) (items : List ℕ) → HandsAt stage items → ReadsBits (items ++ items_of stage old) ((bits.does c stage).2 old)
   reads (bits.SetLoadsElement place) old items hands = reads_set place old (items ++ [])
-  reads (bits.SetExchangesElement place element) old items hands = go (old == element) (reads_set place old (items ++ []))
-    where
-      -- the cases are whether the word is still what was read
-      go : (b : Bool) → ReadsBits (items ++ []) (bits.set_tests place old)
-          → ReadsBits (items ++ []) (cond b (machine.Done (bits.WasSet true)) (bits.set_tests place old))
-      go true more = refl
-      go false more = more
-  reads bits.NextLoadsPosition old items hands = go (nat_lt 0 c)
-    where
-      -- the cases are whether the set has a place at all
-      go : (b : Bool)
-          → ReadsBits (items ++ []) (cond b (machine.GoOn (bits.NextLoadsElement (cond (nat_lt c old) c old) 0)) (machine.Done (bits.WasReset None)))
-      go true = tt
-      go false = refl
+  reads (bits.SetExchangesElement place element) old items hands =
+      either (ReadsBits (items ++ [])) (old == element) _ _ refl (reads_set place old (items ++ []))
+  reads bits.NextLoadsPosition old items hands = either (ReadsBits (items ++ [])) (nat_lt 0 c) _ _ tt refl
   reads (bits.NextLoadsElement start passed) old items hands = reads_next start passed old (items ++ [])
   reads (bits.NextExchangesElement start passed element) old items hands = go (old == element)
     where
@@ -173,15 +147,9 @@ module _ (c : ℕ) (some : 0 < c) where
       go true = tt
       go false = reads_next start passed old (items ++ [])
   reads (bits.NextStoresPosition place) old items hands = refl
-  reads (bits.AllSwapsElement word places) old items hands = go (nat_lt (word + 1) (1 + elements c))
-    where
-      -- the cases are whether an element is left
-      go : (b : Bool)
-          → ReadsBits (items ++ places_in word old)
-          (cond b (machine.GoOn (bits.AllSwapsElement (word + 1) (places ++ places_in word old)))
-          (machine.Done (bits.WereReset (places ++ places_in word old))))
-      go true = ap (λ xs. xs ++ places_in word old) hands
-      go false = ap (λ xs. bits.WereReset (xs ++ places_in word old)) hands
+  reads (bits.AllSwapsElement word places) old items hands =
+      either (ReadsBits (items ++ places_in word old)) (nat_lt (word + 1) (1 + elements c)) _ _
+      (ap (λ xs. xs ++ places_in word old) hands) (ap (λ xs. bits.WereReset (xs ++ places_in word old)) hands)
 
   -- If the call goes on, its next stage is one of the same call, and fits a set of `c` places.
   abbrev BitsGoRight : bits.Stage → machine.After bits.Stage bits.Answer → Type 0
@@ -190,64 +158,21 @@ module _ (c : ℕ) (some : 0 < c) where
 
   -- where a call goes on it is the same call, and a reset of all has an element left
   bits_right : (stage : bits.Stage) (old : ℕ) → bits_bridge.Fits c stage → BitsGoRight stage ((bits.does c stage).2 old)
-  bits_right (bits.SetLoadsElement place) old fits = go (bits.stands old place)
-    where
-      -- the cases are whether the place is set already
-      go : (b : Bool)
-          → BitsGoRight (bits.SetLoadsElement place) (cond b (machine.Done (bits.WasSet false)) (machine.GoOn (bits.SetExchangesElement place old)))
-      go true = tt
-      go false = (refl, tt)
-  bits_right (bits.SetExchangesElement place element) old fits = go (old == element) (bits.stands old place)
-    where
-      -- the cases are whether the exchange found `element`, and whether the place stands in `old`
-      go : (a b : Bool)
-          → BitsGoRight (bits.SetExchangesElement place element)
-          (cond a (machine.Done (bits.WasSet true)) (cond b (machine.Done (bits.WasSet false)) (machine.GoOn (bits.SetExchangesElement place old))))
-      go true b = tt
-      go false true = tt
-      go false false = (refl, tt)
-  bits_right bits.NextLoadsPosition old fits = go (nat_lt 0 c)
-    where
-      -- the cases are whether the set has a place at all
-      go : (b : Bool)
-          → BitsGoRight bits.NextLoadsPosition
-          (cond b (machine.GoOn (bits.NextLoadsElement (cond (nat_lt c old) c old) 0)) (machine.Done (bits.WasReset None)))
-      go true = (refl, tt)
-      go false = tt
-  bits_right (bits.NextLoadsElement start passed) old fits = go (bits.stands old (bits.place_after c start passed)) (nat_lt (passed + 1) c)
-    where
-      -- the cases are whether the place stands, and whether a place is left
-      go : (a b : Bool)
-          → BitsGoRight (bits.NextLoadsElement start passed)
-          (cond a (machine.GoOn (bits.NextExchangesElement start passed old))
-          (cond b (machine.GoOn (bits.NextLoadsElement start (passed + 1))) (machine.Done (bits.WasReset None))))
-      go true b = (refl, tt)
-      go false true = (refl, tt)
-      go false false = tt
+  bits_right (bits.SetLoadsElement place) old fits = either (BitsGoRight (bits.SetLoadsElement place)) (bits.stands old place) _ _ tt (refl, tt)
+  bits_right (bits.SetExchangesElement place element) old fits =
+      let P = BitsGoRight (bits.SetExchangesElement place element) in
+      either P (old == element) _ _ tt (either P (bits.stands old place) _ _ tt (refl, tt))
+  bits_right bits.NextLoadsPosition old fits = either (BitsGoRight bits.NextLoadsPosition) (nat_lt 0 c) _ _ (refl, tt) tt
+  bits_right (bits.NextLoadsElement start passed) old fits =
+      let P = BitsGoRight (bits.NextLoadsElement start passed) in
+      either P (bits.stands old (bits.place_after c start passed)) _ _ (refl, tt) (either P (nat_lt (passed + 1) c) _ _ (refl, tt) tt)
   bits_right (bits.NextExchangesElement start passed element) old fits =
-      go (old == element) (bits.stands old (bits.place_after c start passed)) (nat_lt (passed + 1) c)
-    where
-      -- the cases are whether the exchange found `element`, whether the place stands in `old`, and whether a
-      -- place is left
-      go : (e a b : Bool)
-          → BitsGoRight (bits.NextExchangesElement start passed element)
-          (cond e (machine.GoOn (bits.NextStoresPosition (bits.place_after c start passed)))
-          (cond a (machine.GoOn (bits.NextExchangesElement start passed old))
-          (cond b (machine.GoOn (bits.NextLoadsElement start (passed + 1))) (machine.Done (bits.WasReset None)))))
-      go true a b = (refl, tt)
-      go false true b = (refl, tt)
-      go false false true = (refl, tt)
-      go false false false = tt
+      let P = BitsGoRight (bits.NextExchangesElement start passed element) in
+      either P (old == element) _ _ (refl, tt)
+      (either P (bits.stands old (bits.place_after c start passed)) _ _ (refl, tt) (either P (nat_lt (passed + 1) c) _ _ (refl, tt) tt))
   bits_right (bits.NextStoresPosition place) old fits = tt
-  bits_right (bits.AllSwapsElement word places) old fits = go (nat_lt (word + 1) (1 + elements c)) refl
-    where
-      -- the cases are whether an element is left
-      go : (b : Bool) → nat_lt (word + 1) (1 + elements c) ≡ b
-          → BitsGoRight (bits.AllSwapsElement word places)
-          (cond b (machine.GoOn (bits.AllSwapsElement (word + 1) (places ++ places_in word old)))
-          (machine.Done (bits.WereReset (places ++ places_in word old))))
-      go true t = (refl, grind (arith, nat_tests))
-      go false t = tt
+  bits_right (bits.AllSwapsElement word places) old fits =
+      either_so (BitsGoRight (bits.AllSwapsElement word places)) (nat_lt (word + 1) (1 + elements c)) _ _ (λ t. (refl, grind (arith, nat_tests))) (λ t. tt)
 
   -- What a step came to is the same, told as of a call on bits and as of any call.
   bits_went : (found : ℕ) (a : machine.After bits.Stage bits.Answer)
@@ -257,7 +182,7 @@ module _ (c : ℕ) (some : 0 < c) where
   bits_went found (machine.Done answer) = refl
 
   -- how the calls of the page are the model's, and what relates them: by what its resets have handed out
-  abbrev bits_pairing : Pairing ℕ (bits.bit_set c)
+  abbrev bits_pairing : Pairing ℕ ℕ (bits.bit_set c)
   bits_pairing =
       record {
         call_at = bits_law.call_at;
@@ -272,33 +197,14 @@ module _ (c : ℕ) (some : 0 < c) where
       }
 
   -- the page of the bit set goes along with the model's machine by what its resets have handed out
-  bits_relation : Relation bits_pairing kinds.Bits c
+  bits_relation : Relation bits_pairing one_word kinds.Bits c
   bits_relation =
       record {
         known = λ t r kind capacity. tt;
         first_at = first_at;
         first_fits = first_fits;
-        begins = begins;
-        keeps = λ k p call. refl;
-        refuses =
-            λ events k w p call related may. subst
-            (λ k. is_some (first_row (begin_rows kinds.Bits c k p (Bits (bits_bridge.bits_start call)))) ≡ true)
-            (sym related.0) (refuses p call may);
-        admits =
-            λ events k w p call related known may free rule. subst
-            (λ k. first_row (begin_rows kinds.Bits c k p (Bits (bits_bridge.bits_start call))) ≡ None)
-            (sym related.0) (admits p call may);
-        begun = λ events k w p call related may free rule. (
-          related.0,
-          tellings.begins related.1 p (Bits (bits_bridge.bits_start call)) (call_same call) (none_yet call),
-        );
         asks = bits_asks c;
-        rows = λ k r stage. refl;
-        steps = λ events k w beside p r stage related known pending fits.
-            subst (λ k. StepsRight bits_pairing events w p stage
-            (step_of one_word w.words beside p (Bits (bits_bridge.bits_start (bits_law.call_at stage))) (bits_flight r stage)
-            (slice_index w.words (bits.does c stage).0) k))
-            (sym related.0) (steps events w beside p r stage related.1 pending fits);
+        along = λ events k w related known. subst (λ k. GoesAlong bits_pairing one_word kinds.Bits c events k w) (sym related.0) (along events w related.1);
       }
     where
       first_at : (call : bits.Call) → bits_law.call_at (bits.first call) ≡ call
@@ -312,11 +218,11 @@ module _ (c : ℕ) (some : 0 < c) where
       first_fits bits.ResetAll = omega arith
 
       -- The model begins a call at the stage that the page begins it.
-      begins : (k : Registry ℕ) (call : bits.Call)
-          → first_of kinds.Bits c (Bits (bits_bridge.bits_start call)) k ≡ Some (bits_flight 0 (bits.first call))
-      begins k (bits.Set place) = refl
-      begins k bits.ResetNext = refl
-      begins k bits.ResetAll = refl
+      begins : (call : bits.Call)
+          → first_of kinds.Bits c (Bits (bits_bridge.bits_start call)) nothing ≡ Some (bits_flight 0 (bits.first call))
+      begins (bits.Set place) = refl
+      begins bits.ResetNext = refl
+      begins bits.ResetAll = refl
 
       -- The model refuses a call that the page's rule does not let begin.
       refuses : (p : ℕ) (call : bits.Call) → bits.may c p call ≡ false
@@ -342,46 +248,44 @@ module _ (c : ℕ) (some : 0 < c) where
       none_yet bits.ResetNext = tt
       none_yet bits.ResetAll = refl
 
-      -- a step of the model's call leads to where the page's call goes
-      steps : (events : List (Event ℕ)) (w : BitsPage) (beside : Option (ℕ × ℕ)) (p r : ℕ) (stage : bits.Stage)
-          → IsRead (bits.bit_set c) bits_bridge.reading HandsAt events w → w.pending p ≡ Some stage → bits_bridge.Fits c stage
-          → StepsRight bits_pairing events w p stage
-          (step_of one_word w.words beside p (Bits (bits_bridge.bits_start (bits_law.call_at stage))) (bits_flight r stage)
-          (slice_index w.words (bits.does c stage).0) nothing)
-      steps events w beside p r stage read pending fits =
-          let old = slice_index w.words (bits.does c stage).0 in
-          let a = (bits.does c stage).2 old in
-          let is = ap (as_call flights.Bits (λ (answer : Answer ℕ). answer)) (bits_after c r stage old) ∙ bits_went old a in
+      along : (events : List (Event ℕ)) (w : BitsPage) → IsRead (bits.bit_set c) bits_bridge.reading HandsAt events w
+          → GoesAlong bits_pairing one_word kinds.Bits c events nothing w
+      along events w read =
           record {
-            room = old;
-            after_is = is;
-            goes = λ next e. subst (BitsGoRight stage) e (bits_right stage old fits);
-            related = λ known. (
-              refl,
-              steps_on read bits_pairing (λ p start answer. refl) (writes p r stage old) stage old
-                  (reads stage old (handed bits_bridge.reading p events)
-                  (subst (λ o. Hands (bits.bit_set c) bits_bridge.reading HandsAt o (handed bits_bridge.reading p events)) pending (read.hands p))) is,
-            );
+            begins = begins;
+            keeps = λ p call. refl;
+            refuses = refuses;
+            admits = λ p call may free rule. admits p call may;
+            begun = λ p call may free rule. (refl, tellings.begins read p (Bits (bits_bridge.bits_start call)) (call_same call) (none_yet call));
+            rows = λ r stage. refl;
+            steps = steps;
           }
+        where
+          -- a step of the model's call leads to where the page's call goes
+          steps : (beside : Option (ℕ × ℕ)) (p r : ℕ) (stage : bits.Stage) → w.pending p ≡ Some stage → bits_bridge.Fits c stage
+              → StepsRight bits_pairing events w p stage
+              (step_of one_word w.words beside p (Bits (bits_bridge.bits_start (bits_law.call_at stage))) (bits_flight r stage)
+              (slice_index w.words (bits.does c stage).0) nothing)
+          steps beside p r stage pending fits =
+              let old = slice_index w.words (bits.does c stage).0 in
+              let a = (bits.does c stage).2 old in
+              let is = ap (as_call flights.Bits (λ (answer : Answer ℕ). answer)) (bits_after c r stage old) ∙ bits_went old a in
+              let hands = subst (λ o. Hands (bits.bit_set c) bits_bridge.reading HandsAt o (handed bits_bridge.reading p events)) pending (read.hands p) in
+              record {
+                room = old;
+                after_is = is;
+                goes = λ next e. subst (BitsGoRight stage) e (bits_right stage old fits);
+                related = λ known. (
+                  refl,
+                  steps_on read bits_pairing (λ p start answer. refl) (writes p r stage old) stage old
+                      (reads stage old (handed bits_bridge.reading p events) hands) is,
+                );
+              }
 
   -- the turns of the relation are those of the page's specification
-  bits_same_turns : (parties : ℕ) (turns : List (machine.Turn bits.Call))
-      → map (relates.as_turn bits_relation parties) turns ≡ map bits_bridge.as_turn turns
-  bits_same_turns parties [] = refl
-  bits_same_turns parties (machine.Begin p call ∷ turns) = ap (λ ts. bits_bridge.as_turn (machine.Begin p call) ∷ ts) (bits_same_turns parties turns)
-  bits_same_turns parties (machine.Next p ∷ turns) = ap (λ ts. bits_bridge.as_turn (machine.Next p) ∷ ts) (bits_same_turns parties turns)
-
-  -- The turns are within the parties also as the relation says it.
-  bits_within : (parties : ℕ) (turns : List (machine.Turn bits.Call)) → bits_bridge.AreWithin parties turns
-      → AllByRecursion (IsWithin bits_relation parties) turns
-  bits_within parties [] within = tt
-  bits_within parties (machine.Begin p call ∷ turns) within = (within.0, bits_within parties turns within.1)
-  bits_within parties (machine.Next p ∷ turns) within = (tt, bits_within parties turns within.1)
-
-  bits_rules : (parties : ℕ) (turns : List (machine.Turn bits.Call)) (w : BitsPage)
-      → AllRules bits_relation parties w turns
-  bits_rules parties [] w = tt
-  bits_rules parties (turn ∷ turns) w = (tt, bits_rules parties turns (machine.turned (bits.bit_set c) w turn))
+  bits_same_turn : (parties : ℕ) (turn : machine.Turn bits.Call) → relates.as_turn bits_relation parties turn ≡ bits_bridge.as_turn turn
+  bits_same_turn parties (machine.Begin p call) = refl
+  bits_same_turn parties (machine.Next p) = refl
 
   -- the model's opening meets the page's
   bits_opens : (parties : ℕ) → c < 2 ^ 32
@@ -396,7 +300,7 @@ module _ (c : ℕ) (some : 0 < c) where
         events = [];
         few = omega arith;
         is = refl;
-        reached = reached_opening one_word kinds.Bits c parties coded (grind (arith, nat_tests));
+        reached = reached_by one_word kinds.Bits c parties [] coded (grind (arith, nat_tests));
         related = (refl, record { history = refl; hands = λ p. tt });
         matches = λ p. refl;
       }
@@ -407,11 +311,8 @@ module _ (c : ℕ) (some : 0 < c) where
       (fold (machine.turned (bits.bit_set c)) (machine.opening (bits.bit_set c)) turns) (0 + length turns)
       (run (map bits_bridge.as_turn turns) (opening one_word kinds.Bits c parties))
   bits_meets parties turns few within small =
-      subst (λ ts. Meets bits_relation parties
-      (fold (machine.turned (bits.bit_set c)) (machine.opening (bits.bit_set c)) turns) (0 + length turns)
-      (run ts (opening one_word kinds.Bits c parties))) (bits_same_turns parties turns)
-      (all_turns bits_relation parties turns (bits_within parties turns within) (bits_rules parties turns (machine.opening (bits.bit_set c)))
-      (omega arith) (bits_opens parties few))
+      meets_after bits_relation parties (bits_opens parties few) bits_bridge.as_turn (bits_same_turn parties) turns
+      (are_within bits_relation parties turns within) (no_rules bits_relation parties (λ w turn. tt) turns _) small
 
 -- what the page runs is what the model's machine runs, with what the events hand out
 pub bits_runs : bits_bridge.BitSetRunsAsTheMachine

@@ -72,6 +72,38 @@ module _ {T Call Stage Answer Room : Type 0} {of : machine.Structure Call Stage 
             let held_there = inv.held n stage e in
             not_two here held_there.who_is (is_idle p n stage held_there free)
 
+    -- A call has begun on the model. The two machines are the same if the page has come to `now`, of the same words: its history is
+    -- told by the events, the call of the party stands where it may, so does each other party's, and each stage of the page is of some
+    -- party's call.
+    begun_same : {p : ℕ} {start : Start T} {flight : Flight T} {now : machine.World Call Stage Answer}
+        → first_of kind capacity start (hands.registry k) ≡ Some flight
+        → fold (machine.turned of) w (turn_taken by world (Begin p start)) ≡ now → now.words ≡ w.words
+        → all_told by (events ++ Begun p start ∷ []) ≡ now.history
+        → Stands hands k now.pending p (Some (party_at_begin start flight changes))
+        → ((q : ℕ) → q ≢ p → Stands hands k now.pending q (party_of q latest))
+        → ((m : ℕ) (stage : Stage) → now.pending m ≡ Some stage → Held hands k m stage (put p (party_at_begin start flight changes) latest))
+        → Sim hands (fold (machine.turned of) w (turn_taken by world (Begin p start))) (after_turn t (Begin p start))
+    begun_same {p} {start} {flight} {now} named comes same_words told_is here others held =
+        let party_after = party_at_begin start flight changes in
+        subst (λ v. Sim hands v (after_turn t (Begin p start))) (sym comes)
+        (record {
+          k = k;
+          words = words;
+          latest = put p party_after latest;
+          changes = changes;
+          turns = turns + 1;
+          events = events ++ Begun p start ∷ [];
+          is = begin_is p start flight named;
+          inv =
+              record {
+                blanked = same_words ∙ inv.blanked;
+                tells = inv.tells;
+                told_is = told_is;
+                stands = put_stands hands k now.pending p party_after latest here others;
+                held = held;
+              };
+        })
+
     -- a call of the page that begins on the model begins on the page, as the party of its role
     begin_own : (p : ℕ) (start : Start T) (flight : Flight T) → by.is_call start ≡ true → first_of kind capacity start (hands.registry k) ≡ Some flight
         → flight_of (doing_of (party_of p latest)) ≡ None → OwnBegin by tie (hands.who k) p start flight
@@ -99,29 +131,11 @@ module _ {T Call Stage Answer Room : Type 0} {of : machine.Structure Call Stage 
           waits = ap now.pending (ap (by.number p) (tie.first_at call)) ∙ put_same n (Some (of.first call)) w.pending;
           who_is = ap (hands.who k) (ap (by.number p) (tie.first_at call)) ∙ b.who_is;
         }) in
-        subst (λ v. Sim hands v (after_turn t (Begin p start))) (sym comes)
-        (record {
-          k = k;
-          words = words;
-          latest = put p party_after latest;
-          changes = changes;
-          turns = turns + 1;
-          events = events ++ Begun p start ∷ [];
-          is = begin_is p start flight named;
-          inv =
-              record {
-                blanked = inv.blanked;
-                tells = inv.tells;
-                told_is =
-                    told_more by events (Begun p start ∷ []) inv.told_is
-                    (ap (λ c. cond c (machine.Invoked (by.number p (by.reading.call start)) (by.reading.call start) ∷ []) [] ++ []) mine
-                    ∙ ap (λ c. machine.Invoked (by.number p c) c ∷ []) reads);
-                stands =
-                    put_stands hands k now.pending p party_after latest here
-                    (λ q ne. still hands (leaves_others hands k w.pending n (Some (of.first call)) b.who_is ne) (party_of q latest) (inv.stands q));
-                held = held;
-              };
-        })
+        begun_same named comes refl
+        (told_more by events (Begun p start ∷ []) inv.told_is
+        (ap (λ c. cond c (machine.Invoked (by.number p (by.reading.call start)) (by.reading.call start) ∷ []) [] ++ []) mine
+        ∙ ap (λ c. machine.Invoked (by.number p c) c ∷ []) reads))
+        here (λ q ne. still hands (leaves_others hands k w.pending n (Some (of.first call)) b.who_is ne) (party_of q latest) (inv.stands q)) held
       where
         -- each stage that the page then has is that of a call under way on the model
         held : (m : ℕ) (stage : Stage) → machine.put (by.number p b.call) (Some (of.first b.call)) w.pending m ≡ Some stage
@@ -163,35 +177,17 @@ module _ {T Call Stage Answer Room : Type 0} {of : machine.Structure Call Stage 
         → flight_of (doing_of (party_of p latest)) ≡ None → hands.Other k p start flight
         → Sim hands (fold (machine.turned of) w (turn_taken by world (Begin p start))) (after_turn t (Begin p start))
     begin_other p start flight mine named free b =
-        let party_after = party_at_begin start flight changes in
         -- the page takes no turn
         let comes : fold (machine.turned of) w (turn_taken by world (Begin p start)) ≡ w =
         ap (λ c. fold (machine.turned of) w (cond c (machine.Begin (by.number p (by.reading.call start)) (by.reading.call start) ∷ []) [])) mine in
-        subst (λ v. Sim hands v (after_turn t (Begin p start))) (sym comes)
-        (record {
-          k = k;
-          words = words;
-          latest = put p party_after latest;
-          changes = changes;
-          turns = turns + 1;
-          events = events ++ Begun p start ∷ [];
-          is = begin_is p start flight named;
-          inv =
-              record {
-                blanked = inv.blanked;
-                tells = inv.tells;
-                told_is =
-                    told_more by events (Begun p start ∷ []) inv.told_is
-                    (ap (λ c. cond c (machine.Invoked (by.number p (by.reading.call start)) (by.reading.call start) ∷ []) [] ++ []) mine)
-                    ∙ append-nil w.history;
-                stands = put_stands hands k w.pending p party_after latest (inr b) (λ q ne. inv.stands q);
-                held =
-                    λ m stage e.
-                    let held_there = inv.held m stage e in
-                    still_held hands p party_after held_there
-                    (is_idle p m stage held_there free) held_there.who_is;
-              };
-        })
+        begun_same named comes refl
+        (told_more by events (Begun p start ∷ []) inv.told_is
+        (ap (λ c. cond c (machine.Invoked (by.number p (by.reading.call start)) (by.reading.call start) ∷ []) [] ++ []) mine)
+        ∙ append-nil w.history)
+        (inr b) (λ q ne. inv.stands q)
+        (λ m stage e.
+        let held_there = inv.held m stage e in
+        still_held hands p (party_at_begin start flight changes) held_there (is_idle p m stage held_there free) held_there.who_is)
 
     -- a call that is not refused begins, and the two machines stay the same
     begins : (p : ℕ) (start : Start T) → call_refusal world (Begin p start) ≡ None

@@ -67,9 +67,6 @@ module _ (c b : ℕ) (below : b < c) where
   set_adds : (n : ℕ) (words : List ℕ) (place : ℕ) → n < 2 ^ 63 → Good n words → place < c → Step n words (page.SetAdds place)
   set_adds n words place few good lt = go (place == b) refl
     where
-      new : ℕ
-      new = (slice_index words place + 1) % 2 ^ 64
-
       -- the cases are whether its place is this one
       go : (t : Bool) → (place == b) ≡ t
           → Good (n + 1) (slice_set words place ((slice_index words place + 1) % 2 ^ 64))

@@ -1,10 +1,8 @@
 -- The page of the counting bit set is about machines: turn by turn.
-use Rattle.std.specs.List.{AllByRecursion}
 use Rattle.std.proofs.Common.{is_some, nat_le, nat_lt, ◌^◌}
 use Rattle.std.proofs.lemmas.Bool.Decides.{nat_tests}
 use Rattle.model.proofs.Names.{Bool, List, None, Option, Some, Trace, [], ap, append-nil, arith, cond, false, first_of, first_row, fold}
 use Rattle.model.proofs.Names.{length, map, one_word, opening, refl, slice_index, step_of, subst, sym, true, ℕ, ◌++◌, ◌+◌, ◌<◌, ◌==◌, ◌∙◌, ◌∷◌, ◌≡◌, ◌≢◌}
-use Rattle.model.proofs.Reached.{reached_opening}
 use Rattle.model.specs.declared.event.Answer.{Answer}
 use Rattle.model.specs.declared.event.Event.{Event}
 use Rattle.model.specs.declared.event.Event.TheVariants as events
@@ -23,12 +21,13 @@ use Rattle.pages.specs.CountingBitSetBridge as counts_bridge
 use Rattle.pages.specs.Machine as machine
 use Rattle.pages.specs.Handed.{IsTold, handed, told}
 use Rattle.pages.proofs.CountingBitSet as counts_law
-use Rattle.pages.proofs.Relates.{AllRules, IsWithin, Meets, Pairing, Relation, StepsRight, all_turns}
+use Rattle.pages.proofs.Relates.{GoesAlong, Meets, Pairing, Relation, StepsRight, went}
 use Rattle.pages.proofs.Relates as relates
+use Rattle.pages.proofs.Runs.{are_within, meets_after, no_rules, reached_by}
 use Rattle.pages.proofs.SetsAreTheCode.{counts_after, counts_asks}
-use Rattle.pages.proofs.Simulates.{went}
 use Rattle.pages.proofs.Told.{Hands, IsRead, Reads, Writes, steps_on}
 use Rattle.pages.proofs.Told as tellings
+use Rattle.pages.proofs.Turns.{either, either_so}
 use Rattle.pages.proofs.BitSetRuns.{coded, fails_row, nothing, passes_row}
 
 module _ (c : ℕ) (some : 0 < c) where
@@ -96,15 +95,9 @@ module _ (c : ℕ) (some : 0 < c) where
   reads : (stage : counts.Stage) (old : ℕ) (items : List (ℕ × ℕ)) → HandsAt stage items
       → ReadsCounts (items ++ items_of stage old) ((counts.does c stage).2 old)
   reads (counts.SetAdds place) old items hands = refl
-  reads (counts.AllSwaps place taken) old items hands = go (nat_lt (place + 1) c)
-    where
-      -- the cases are whether a place is left
-      go : (b : Bool)
-          → ReadsCounts (items ++ cond (old == 0) [] (one place old))
-          (cond b (machine.GoOn (counts.AllSwaps (place + 1) (counts_law.handed_then place old taken)))
-          (machine.Done (counts.WereReset (counts_law.handed_then place old taken))))
-      go true = then_same place old items taken hands
-      go false = ap counts.WereReset (then_same place old items taken hands)
+  reads (counts.AllSwaps place taken) old items hands =
+      either (ReadsCounts (items ++ cond (old == 0) [] (one place old))) (nat_lt (place + 1) c) _ _
+      (then_same place old items taken hands) (ap counts.WereReset (then_same place old items taken hands))
 
   -- If the call goes on, its next stage is one of the same call, and fits a set of `c` places.
   abbrev CountsGoRight : counts.Stage → machine.After counts.Stage counts.Answer → Type 0
@@ -114,15 +107,8 @@ module _ (c : ℕ) (some : 0 < c) where
   -- where a call goes on it is the same call, and a reset of all has a place left
   counts_right : (stage : counts.Stage) (old : ℕ) → counts_bridge.Fits c stage → CountsGoRight stage ((counts.does c stage).2 old)
   counts_right (counts.SetAdds place) old fits = tt
-  counts_right (counts.AllSwaps place taken) old fits = go (nat_lt (place + 1) c) refl
-    where
-      -- the cases are whether a place is left
-      go : (b : Bool) → nat_lt (place + 1) c ≡ b
-          → CountsGoRight (counts.AllSwaps place taken)
-          (cond b (machine.GoOn (counts.AllSwaps (place + 1) (counts_law.handed_then place old taken)))
-          (machine.Done (counts.WereReset (counts_law.handed_then place old taken))))
-      go true t = (refl, grind (arith, nat_tests))
-      go false t = tt
+  counts_right (counts.AllSwaps place taken) old fits =
+      either_so (CountsGoRight (counts.AllSwaps place taken)) (nat_lt (place + 1) c) _ _ (λ t. (refl, grind (arith, nat_tests))) (λ t. tt)
 
   -- What a step came to is the same, told as of a call on bits and as of any call.
   counts_went : (found : ℕ) (a : machine.After counts.Stage counts.Answer)
@@ -132,7 +118,7 @@ module _ (c : ℕ) (some : 0 < c) where
   counts_went found (machine.Done answer) = refl
 
   -- how the calls of the page are the model's, and what relates them: by what its resets have handed out
-  abbrev counts_pairing : Pairing ℕ (counts.counting_bit_set c)
+  abbrev counts_pairing : Pairing ℕ ℕ (counts.counting_bit_set c)
   counts_pairing =
       record {
         call_at = counts_law.call_at;
@@ -147,33 +133,14 @@ module _ (c : ℕ) (some : 0 < c) where
       }
 
   -- the page of the counting bit set goes along with the model's machine by what its resets have handed out
-  counts_relation : Relation counts_pairing kinds.Counts c
+  counts_relation : Relation counts_pairing one_word kinds.Counts c
   counts_relation =
       record {
         known = λ t r kind capacity. tt;
         first_at = first_at;
         first_fits = first_fits;
-        begins = begins;
-        keeps = λ k p call. refl;
-        refuses =
-            λ events k w p call related may. subst
-            (λ k. is_some (first_row (begin_rows kinds.Counts c k p (Bits (counts_bridge.counts_start call)))) ≡ true)
-            (sym related.0) (refuses p call may);
-        admits =
-            λ events k w p call related known may free rule. subst
-            (λ k. first_row (begin_rows kinds.Counts c k p (Bits (counts_bridge.counts_start call))) ≡ None)
-            (sym related.0) (admits p call may);
-        begun = λ events k w p call related may free rule. (
-          related.0,
-          tellings.begins related.1 p (Bits (counts_bridge.counts_start call)) (call_same call) (none_yet call),
-        );
         asks = counts_asks c;
-        rows = λ k r stage. refl;
-        steps = λ events k w beside p r stage related known pending fits.
-            subst (λ k. StepsRight counts_pairing events w p stage
-            (step_of one_word w.words beside p (Bits (counts_bridge.counts_start (counts_law.call_at stage))) (counts_flight r stage)
-            (slice_index w.words (counts.does c stage).0) k))
-            (sym related.0) (steps events w beside p r stage related.1 pending fits);
+        along = λ events k w related known. subst (λ k. GoesAlong counts_pairing one_word kinds.Counts c events k w) (sym related.0) (along events w related.1);
       }
     where
       first_at : (call : counts.Call) → counts_law.call_at (counts.first call) ≡ call
@@ -184,10 +151,10 @@ module _ (c : ℕ) (some : 0 < c) where
       first_fits (counts.Set place) = tt
       first_fits counts.ResetAll = some
 
-      begins : (k : registries.Registry ℕ) (call : counts.Call)
-          → first_of kinds.Counts c (Bits (counts_bridge.counts_start call)) k ≡ Some (counts_flight 0 (counts.first call))
-      begins k (counts.Set place) = refl
-      begins k counts.ResetAll = refl
+      begins : (call : counts.Call)
+          → first_of kinds.Counts c (Bits (counts_bridge.counts_start call)) nothing ≡ Some (counts_flight 0 (counts.first call))
+      begins (counts.Set place) = refl
+      begins counts.ResetAll = refl
 
       refuses : (p : ℕ) (call : counts.Call) → counts.may c p call ≡ false
           → is_some (first_row (begin_rows kinds.Counts c nothing p (Bits (counts_bridge.counts_start call)))) ≡ true
@@ -207,49 +174,46 @@ module _ (c : ℕ) (some : 0 < c) where
       none_yet (counts.Set place) = tt
       none_yet counts.ResetAll = refl
 
-      -- a step of the model's call leads to where the page's call goes
-      steps : (events : List (Event ℕ)) (w : CountsPage) (beside : Option (ℕ × ℕ)) (p r : ℕ) (stage : counts.Stage)
-          → IsRead (counts.counting_bit_set c) counts_bridge.reading HandsAt events w → w.pending p ≡ Some stage → counts_bridge.Fits c stage
-          → StepsRight counts_pairing events w p stage
-          (step_of one_word w.words beside p (Bits (counts_bridge.counts_start (counts_law.call_at stage))) (counts_flight r stage)
-          (slice_index w.words (counts.does c stage).0) nothing)
-      steps events w beside p r stage read pending fits =
-          let old = slice_index w.words (counts.does c stage).0 in
-          let a = (counts.does c stage).2 old in
-          let is = ap (as_call flights.Bits (λ (answer : Answer ℕ). answer)) (counts_after c r stage old) ∙ counts_went old a in
+      along : (events : List (Event ℕ)) (w : CountsPage) → IsRead (counts.counting_bit_set c) counts_bridge.reading HandsAt events w
+          → GoesAlong counts_pairing one_word kinds.Counts c events nothing w
+      along events w read =
           record {
-            room = old;
-            after_is = is;
-            goes = λ next e. subst (CountsGoRight stage) e (counts_right stage old fits);
-            related = λ known. (
-              refl,
-              steps_on read counts_pairing (λ p start answer. refl) (writes p r stage old) stage old
-                  (reads stage old (handed counts_bridge.reading p events)
-                  (subst
-                  (λ o. Hands (counts.counting_bit_set c) counts_bridge.reading HandsAt o (handed counts_bridge.reading p events))
-                  pending (read.hands p))) is,
-            );
+            begins = begins;
+            keeps = λ p call. refl;
+            refuses = refuses;
+            admits = λ p call may free rule. admits p call may;
+            begun = λ p call may free rule. (refl, tellings.begins read p (Bits (counts_bridge.counts_start call)) (call_same call) (none_yet call));
+            rows = λ r stage. refl;
+            steps = steps;
           }
+        where
+          -- a step of the model's call leads to where the page's call goes
+          steps : (beside : Option (ℕ × ℕ)) (p r : ℕ) (stage : counts.Stage) → w.pending p ≡ Some stage → counts_bridge.Fits c stage
+              → StepsRight counts_pairing events w p stage
+              (step_of one_word w.words beside p (Bits (counts_bridge.counts_start (counts_law.call_at stage))) (counts_flight r stage)
+              (slice_index w.words (counts.does c stage).0) nothing)
+          steps beside p r stage pending fits =
+              let old = slice_index w.words (counts.does c stage).0 in
+              let a = (counts.does c stage).2 old in
+              let is = ap (as_call flights.Bits (λ (answer : Answer ℕ). answer)) (counts_after c r stage old) ∙ counts_went old a in
+              let hands =
+              subst (λ o. Hands (counts.counting_bit_set c) counts_bridge.reading HandsAt o (handed counts_bridge.reading p events))
+              pending (read.hands p) in
+              record {
+                room = old;
+                after_is = is;
+                goes = λ next e. subst (CountsGoRight stage) e (counts_right stage old fits);
+                related = λ known. (
+                  refl,
+                  steps_on read counts_pairing (λ p start answer. refl) (writes p r stage old) stage old
+                      (reads stage old (handed counts_bridge.reading p events) hands) is,
+                );
+              }
 
   -- the turns of the relation are those of the page's specification
-  counts_same_turns : (parties : ℕ) (turns : List (machine.Turn counts.Call))
-      → map (relates.as_turn counts_relation parties) turns
-      ≡ map counts_bridge.as_turn turns
-  counts_same_turns parties [] = refl
-  counts_same_turns parties (machine.Begin p call ∷ turns) = ap (λ ts. counts_bridge.as_turn (machine.Begin p call) ∷ ts) (counts_same_turns parties turns)
-  counts_same_turns parties (machine.Next p ∷ turns) = ap (λ ts. counts_bridge.as_turn (machine.Next p) ∷ ts) (counts_same_turns parties turns)
-
-  -- The turns are within the parties also as the relation says it.
-  counts_within : (parties : ℕ) (turns : List (machine.Turn counts.Call)) → bits_bridge.AreWithin parties turns
-      → AllByRecursion (IsWithin counts_relation parties) turns
-  counts_within parties [] within = tt
-  counts_within parties (machine.Begin p call ∷ turns) within = (within.0, counts_within parties turns within.1)
-  counts_within parties (machine.Next p ∷ turns) within = (tt, counts_within parties turns within.1)
-
-  counts_rules : (parties : ℕ) (turns : List (machine.Turn counts.Call)) (w : CountsPage)
-      → AllRules counts_relation parties w turns
-  counts_rules parties [] w = tt
-  counts_rules parties (turn ∷ turns) w = (tt, counts_rules parties turns (machine.turned (counts.counting_bit_set c) w turn))
+  counts_same_turn : (parties : ℕ) (turn : machine.Turn counts.Call) → relates.as_turn counts_relation parties turn ≡ counts_bridge.as_turn turn
+  counts_same_turn parties (machine.Begin p call) = refl
+  counts_same_turn parties (machine.Next p) = refl
 
   -- the model's opening meets the page's
   counts_opens : (parties : ℕ) → c < 2 ^ 32
@@ -264,7 +228,7 @@ module _ (c : ℕ) (some : 0 < c) where
         events = [];
         few = omega arith;
         is = refl;
-        reached = reached_opening one_word kinds.Counts c parties coded (grind (arith, nat_tests));
+        reached = reached_by one_word kinds.Counts c parties [] coded (grind (arith, nat_tests));
         related = (refl, record { history = refl; hands = λ p. tt });
         matches = λ p. refl;
       }
@@ -275,11 +239,8 @@ module _ (c : ℕ) (some : 0 < c) where
       (fold (machine.turned (counts.counting_bit_set c)) (machine.opening (counts.counting_bit_set c)) turns) (0 + length turns)
       (run (map counts_bridge.as_turn turns) (opening one_word kinds.Counts c parties))
   counts_meets parties turns few within small =
-      subst (λ ts. Meets counts_relation parties
-      (fold (machine.turned (counts.counting_bit_set c)) (machine.opening (counts.counting_bit_set c)) turns) (0 + length turns)
-      (run ts (opening one_word kinds.Counts c parties))) (counts_same_turns parties turns)
-      (all_turns counts_relation parties turns (counts_within parties turns within) (counts_rules parties turns (machine.opening (counts.counting_bit_set c)))
-      (omega arith) (counts_opens parties few))
+      meets_after counts_relation parties (counts_opens parties few) counts_bridge.as_turn (counts_same_turn parties) turns
+      (are_within counts_relation parties turns within) (no_rules counts_relation parties (λ w turn. tt) turns _) small
 
 -- what the page runs is what the model's machine runs, with what the events hand out
 pub counts_runs : counts_bridge.CountingRunsAsTheMachine

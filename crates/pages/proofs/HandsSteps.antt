@@ -33,7 +33,8 @@ use Rattle.pages.specs.Machine as machine
 use Rattle.pages.specs.Reading.{all_seen, asked}
 use Rattle.pages.proofs.Hands.{Held, Hands, Leaves, LeavesParty, OtherStep, OwnAt, Sim, Stands, StandsAt, both_ways, going, leaves_others}
 use Rattle.pages.proofs.Hands.{not_two, put_other, put_same, put_stands, started, still, still_held, told_more, trace, unseen_untold, world_with}
-use Rattle.pages.proofs.Simulates.{GoesRight, TieOf, went}
+use Rattle.pages.proofs.Relates.{went}
+use Rattle.pages.proofs.Simulates.{GoesRight, TieOf}
 use Rattle.pages.proofs.Turns.{words_same}
 
 module _ {T Call Stage Answer Room : Type 0} {of : machine.Structure Call Stage Answer} {by : Naming T Call Answer} {kind : Kind} {capacity : ℕ}
@@ -149,16 +150,14 @@ module _ {T Call Stage Answer Room : Type 0} {of : machine.Structure Call Stage 
       stands_apart : (o : Option Stage) (q : ℕ) → q ≢ p → Stands hands k (machine.put n o w.pending) q (party_of q latest)
       stands_apart o q ne = still hands (leaves_others hands k w.pending n o who_is ne) (party_of q latest) (inv.stands q)
 
-      -- After a step of the page's call that comes to `a` the machine's trace still runs the page's
-      -- world. The cases are whether the call goes on (`GoOn next`) or is done (`Done answer`).
-      finish : (room_now : Room) (back : Bool) (wrote : List (Event T)) → all_seen by.reading wrote ≡ []
-          → (a : machine.After Stage Answer) → GoesRight tie.call_at tie.fits call a
-          → Sim hands (machine.gone of w n words_now a)
-          (made p x since ask (record { after = went (tie.flight room_now) tie.answered a; back = back; wrote = wrote; kept = hands.registry k }))
-      finish room_now back wrote unseen (machine.GoOn next) right =
-          let x_now : Party T =
-          going (tie.start call) (steps + step_count ask) (backs + one_if back) (tie.flight room_now next) (since + change_of words ask) in
-          let place : by.number p (tie.call_at next) ≡ n = ap (by.number p) right.0 in
+      -- The machine's trace after a step runs the page's world of this history, in which the page's party of the call has the stage
+      -- `o`, if the party's call is then `x_now`, and stands where it may.
+      step_same : (o : Option Stage) (x_now : Party T) (more : List (Event T)) {history : List (machine.Event Call Answer)}
+          → all_told by (events ++ more) ≡ history → Stands hands k (machine.put n o w.pending) p (Some x_now)
+          → ((m : ℕ) (other : Stage) → machine.put n o w.pending m ≡ Some other → m ≡ n → Held hands k m other (put p x_now latest))
+          → Sim hands (record { words = words_now; pending = machine.put n o w.pending; history = history })
+          (trace hands (hands.registry k) (words_after words ask) (put p x_now latest) (changes + change_of words ask) (turns + 1) (events ++ more))
+      step_same o x_now more told_is here held_here =
           let wrote_words : words_after words ask ≡ slice_set words word (machine.written op old) = words_same words word op in
           record {
             k = k;
@@ -166,41 +165,51 @@ module _ {T Call Stage Answer Room : Type 0} {of : machine.Structure Call Stage 
             latest = put p x_now latest;
             changes = changes + change_of words ask;
             turns = turns + 1;
-            events = events ++ (wrote ++ []);
+            events = events ++ more;
             is = refl;
             inv =
                 record {
                   blanked = sym (ap hands.blank wrote_words ∙ leaves.new (machine.written op old));
                   tells = subst (hands.Tells k) (sym wrote_words) (leaves.tells (machine.written op old) inv.tells);
-                  told_is =
-                      told_more by events (wrote ++ []) inv.told_is (told_more by wrote [] (unseen_untold by wrote unseen) refl)
-                      ∙ append-nil w.history;
-                  stands =
-                      put_stands hands k (machine.put n (Some next) w.pending) p x_now latest
-                      (inl
-                      (record {
-                        stage = next;
-                        room = room_now;
-                        start_is = ap tie.start (sym right.0);
-                        flight_is = refl;
-                        fits = right.1;
-                        waits = ap (machine.put n (Some next) w.pending) place ∙ put_same n (Some next) w.pending;
-                        who_is = ap (hands.who k) place ∙ who_is;
-                      }))
-                      (stands_apart (Some next));
-                  held = λ m other e. ⊎_elim (same m other e) (held_apart x_now (Some next) m other e) (cases_eq m n);
+                  told_is = told_is;
+                  stands = put_stands hands k (machine.put n o w.pending) p x_now latest here (stands_apart o);
+                  held = λ m other e. ⊎_elim (held_here m other e) (held_apart x_now o m other e) (cases_eq m n);
                 };
           }
+
+      -- the party's call as it goes on at the stage `next`
+      abbrev going_on : Room → Bool → Stage → Party T
+      going_on room_now back next =
+          going (tie.start call) (steps + step_count ask) (backs + one_if back) (tie.flight room_now next) (since + change_of words ask)
+
+      -- After a step of the page's call that comes to `a` the machine's trace still runs the page's
+      -- world. The cases are whether the call goes on (`GoOn next`) or is done (`Done answer`).
+      finish : (room_now : Room) (back : Bool) (wrote : List (Event T)) → all_seen by.reading wrote ≡ []
+          → (a : machine.After Stage Answer) → GoesRight tie.call_at tie.fits call a
+          → Sim hands (machine.gone of w n words_now a)
+          (made p x since ask (record { after = went (tie.flight room_now) tie.answered a; back = back; wrote = wrote; kept = hands.registry k }))
+      finish room_now back wrote unseen (machine.GoOn next) right =
+          let place : by.number p (tie.call_at next) ≡ n = ap (by.number p) right.0 in
+          step_same (Some next) (going_on room_now back next) (wrote ++ [])
+          (told_more by events (wrote ++ []) inv.told_is (told_more by wrote [] (unseen_untold by wrote unseen) refl) ∙ append-nil w.history)
+          (inl
+          (record {
+            stage = next;
+            room = room_now;
+            start_is = ap tie.start (sym right.0);
+            flight_is = refl;
+            fits = right.1;
+            waits = ap (machine.put n (Some next) w.pending) place ∙ put_same n (Some next) w.pending;
+            who_is = ap (hands.who k) place ∙ who_is;
+          }))
+          same
         where
           -- the page's party whose call goes on: its stage is `next`
           same : (m : ℕ) (other : Stage) → machine.put n (Some next) w.pending m ≡ Some other → m ≡ n
-              → Held hands k m other
-              (put p (going (tie.start call) (steps + step_count ask) (backs + one_if back) (tie.flight room_now next) (since + change_of words ask)) latest)
+              → Held hands k m other (put p (going_on room_now back next) latest)
           same m other e is =
-              let x_now : Party T =
-              going (tie.start call) (steps + step_count ask) (backs + one_if back) (tie.flight room_now next) (since + change_of words ask) in
               let now : next ≡ other = the_same (sym (put_same n (Some next) w.pending) ∙ (ap (machine.put n (Some next) w.pending) (sym is) ∙ e)) in
-              subst (λ i. Held hands k m i (put p x_now latest)) now
+              subst (λ i. Held hands k m i (put p (going_on room_now back next) latest)) now
               (record {
                 party = p;
                 who_is = ap (hands.who k) is ∙ who_is;
@@ -209,14 +218,14 @@ module _ {T Call Stage Answer Room : Type 0} {of : machine.Structure Call Stage 
                 since = since + change_of words ask;
                 room = room_now;
                 found =
-                    party_put_same p x_now latest
+                    party_put_same p (going_on room_now back next) latest
                     ∙ ap (λ c. Some (going (tie.start c) (steps + step_count ask) (backs + one_if back) (tie.flight room_now next)
                     (since + change_of words ask))) (sym right.0);
                 number_is = ap (by.number p) right.0 ∙ sym is;
               })
             where
               -- equal options have equal values
-              the_same : {x_now y : Stage} → Some x_now ≡ Some y → x_now ≡ y
+              the_same : {x y : Stage} → Some x ≡ Some y → x ≡ y
               the_same e = cc
       finish room_now back wrote unseen (machine.Done answer) right =
           let start = tie.start call in
@@ -235,29 +244,9 @@ module _ {T Call Stage Answer Room : Type 0} {of : machine.Structure Call Stage 
           (tie.is_own call)
           ∙ (ap (λ c. machine.Responded (by.number p c) (by.reading.answer (tie.answered answer)) ∷ []) (tie.reads_start call)
           ∙ ap (λ a. machine.Responded n a ∷ []) (tie.reads_answer answer)) in
-          let wrote_words : words_after words ask ≡ slice_set words word (machine.written op old) = words_same words word op in
-          record {
-            k = k;
-            words = words_after words ask;
-            latest = put p x_now latest;
-            changes = changes + change_of words ask;
-            turns = turns + 1;
-            events = events ++ (wrote ++ end);
-            is = refl;
-            inv =
-                record {
-                  blanked = sym (ap hands.blank wrote_words ∙ leaves.new (machine.written op old));
-                  tells = subst (hands.Tells k) (sym wrote_words) (leaves.tells (machine.written op old) inv.tells);
-                  told_is = told_more by events (wrote ++ end) inv.told_is (told_more by wrote end (unseen_untold by wrote unseen) ends);
-                  stands = put_stands hands k (machine.put n None w.pending) p x_now latest tt (stands_apart None);
-                  held =
-                      λ m other e.
-                      ⊎_elim
-                      (λ (is : m ≡ n). none_some (sym (put_same n None w.pending) ∙ (ap (machine.put n None w.pending) (sym is) ∙ e)))
-                      (held_apart x_now None m other e)
-                      (cases_eq m n);
-                };
-          }
+          step_same None x_now (wrote ++ end)
+          (told_more by events (wrote ++ end) inv.told_is (told_more by wrote end (unseen_untold by wrote unseen) ends)) tt
+          (λ m other e is. none_some (sym (put_same n None w.pending) ∙ (ap (machine.put n None w.pending) (sym is) ∙ e)))
         where
           -- `None` is not `Some y`
           none_some : {A : Type 0} {y : Stage} → None ≡ Some y → A

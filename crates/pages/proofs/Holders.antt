@@ -198,14 +198,6 @@ module _ (c : ℕ) where
           × (holder_of j (events ++ Begun p (Indices (bridge.index_start (page.Release i l))) ∷ []) ≡ Some q)
       releasing q j m = go (q == p) refl
         where
-          index_of : page.Stage → ℕ
-          index_of (page.ReleaseClearsFlag i l) = i
-          index_of stage = 0
-
-          the_index : Option page.Stage → ℕ
-          the_index (Some stage) = index_of stage
-          the_index None = 0
-
           -- the cases are whether q is the party that begins the release
           go : (b : Bool) → (q == p) ≡ b → cond b (Some (page.ReleaseClearsFlag i l)) (pending q) ≡ Some (page.ReleaseClearsFlag j m)
               → (page.holder j (h ++ machine.Invoked p (page.Release i l) ∷ []) ≡ None)

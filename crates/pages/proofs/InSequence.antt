@@ -42,6 +42,18 @@ module _ {Call Answer : Type 0} where
   abbrev Sorted : Entry Call Answer → Entry Call Answer → Type 0
   Sorted x y = x.0.place < y.0.place
 
+  -- if one list, in the order of invocations, is in another whose first call is the same, what is behind the first entry of the one is
+  -- behind that of the other
+  rest_in : (x y : Entry Call Answer) (xs ys : List (Entry Call Answer)) → ((z : Entry Call Answer) → Contains xs z → Sorted x z)
+      → x.0.place ≡ y.0.place → ((z : Entry Call Answer) → Contains (x ∷ xs) z → Contains (y ∷ ys) z)
+      → (z : Entry Call Answer) → Contains xs z → Contains ys z
+  rest_in x y xs ys sorted same to z h =
+      ⊎_elim
+      (λ e. let lt = sorted z h in
+      let same_place : y.0.place ≡ z.0.place = ap (λ (z : Entry Call Answer). z.0.place) e in
+      absurd (omega arith))
+      (λ more. more) (split y z ys (to z (there x z xs h)))
+
   -- two lists in the order of invocations that contain the same entries are equal
   same_members : (xs ys : List (Entry Call Answer)) → AllLater Sorted xs → AllLater Sorted ys → ((z : Entry Call Answer) → Contains xs z → Contains ys z)
       → ((z : Entry Call Answer) → Contains ys z → Contains xs z) → xs ≡ ys
@@ -49,7 +61,7 @@ module _ {Call Answer : Type 0} where
   same_members [] (y ∷ ys) a b to from = absurd (none_there y (from y (here y y ys refl)))
   same_members (x ∷ xs) [] a b to from = absurd (none_there x (to x (here x x xs refl)))
   same_members (x ∷ xs) (y ∷ ys) a b to from =
-      ap (λ zs. x ∷ zs) (same_members xs ys a.1 b.1 to_rest from_rest) ∙ ap (λ z. z ∷ ys) first
+      ap (λ zs. x ∷ zs) (same_members xs ys a.1 b.1 (rest_in x y xs ys a.0 place_is to) (rest_in y x ys xs b.0 (sym place_is) from)) ∙ ap (λ z. z ∷ ys) first
     where
       first : x ≡ y
       first =
@@ -59,24 +71,6 @@ module _ {Call Answer : Type 0} where
 
       place_is : x.0.place ≡ y.0.place
       place_is = ap (λ (z : Entry Call Answer). z.0.place) first
-
-      -- what the one list contains behind its first entry the other contains behind its own
-      to_rest : (z : Entry Call Answer) → Contains xs z → Contains ys z
-      to_rest z h =
-          ⊎_elim (λ e. let lt = a.0 z h in
-          let same_place : y.0.place ≡ z.0.place = ap (λ (z : Entry Call Answer). z.0.place) e in
-          let same = place_is in
-          absurd (omega arith))
-          (λ more. more) (split y z ys (to z (there x z xs h)))
-
-      -- what the other contains behind its first entry the one contains behind its own
-      from_rest : (z : Entry Call Answer) → Contains ys z → Contains xs z
-      from_rest z h =
-          ⊎_elim (λ e. let lt = b.0 z h in
-          let same_place : x.0.place ≡ z.0.place = ap (λ (z : Entry Call Answer). z.0.place) e in
-          let same = place_is in
-          absurd (omega arith))
-          (λ more. more) (split x z xs (from z (there y z ys h)))
 
   -- what completed calls did
   module _ (at : Call → Answer → Option Act) where
@@ -234,6 +228,7 @@ module _ {Call Answer : Type 0} where
     all_respond [] sequential c h = absurd (none_there c h)
     all_respond (d ∷ cs) sequential c h = ⊎_elim (λ e. subst Responds e sequential.0) (λ more. all_respond cs sequential.1.1 c more) (split d c cs h)
 
-    pub in_sequence : (history : List (Event Call Answer)) (now : ℕ) → Sequential (calls_from history 0)
-        → ActsAt at history now → IsChain 0 (map (λ (x : Entry Call Answer). x.1) (acted (calls_from history 0))) now
-    in_sequence history now sequential h = by_order history now (one_by_one (calls_from history 0) sequential) (all_respond (calls_from history 0) sequential) h
+    pub in_sequence : {history : List (Event Call Answer)} {now : ℕ} → ActsAt at history now → Sequential (calls_from history 0)
+        → IsChain 0 (map (λ (x : Entry Call Answer). x.1) (acted (calls_from history 0))) now
+    in_sequence {history} {now} h sequential =
+        by_order history now (one_by_one (calls_from history 0) sequential) (all_respond (calls_from history 0) sequential) h

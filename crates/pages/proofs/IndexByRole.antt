@@ -1,9 +1,9 @@
 -- The index queue of the model, on which roles change hands, runs the page.
 use Rattle.std.proofs.Common.{◌*◌, ◌^◌, replicate}
-use Rattle.model.proofs.Names.{List, None, Some, [], ap, arith, false, first_of, first_row, kept_after_begin, one_word, opening}
+use Rattle.model.proofs.Names.{List, None, Some, ap, arith, first_of, first_row, one_word, opening}
 use Rattle.model.proofs.Names.{refl, true, ℕ, ◌<◌, ◌∷◌, ◌≡◌}
 use Rattle.model.specs.declared.event.Start.{Start}
-use Rattle.model.specs.declared.event.Start.TheVariants.{Container, Loan, Queues}
+use Rattle.model.specs.declared.event.Start.TheVariants.{Queues}
 use Rattle.model.specs.declared.families.Flight.{Flight}
 use Rattle.model.specs.declared.families.Registry.TheVariants as registries
 use Rattle.model.specs.declared.families.queues.QueueKind.TheVariants as queue_kinds
@@ -14,13 +14,11 @@ use Rattle.model.specs.Families.{begin_of}
 use Rattle.model.specs.Linearized.{is_push_or_pop}
 use Rattle.pages.specs.RolesBridge.{RunsByRole}
 use Rattle.pages.specs.IndexQueue as page
-use Rattle.pages.specs.IndexQueueBridge.{by_role}
-use Rattle.pages.specs.Machine as machine
-use Rattle.pages.proofs.ByRole as hands
-use Rattle.pages.proofs.Hands.{Hands, Leaves, OwnBegin, Sim}
+use Rattle.pages.specs.IndexQueueBridge.{by_role, number}
+use Rattle.pages.proofs.Hands.{Leaves, OwnBegin}
 use Rattle.pages.proofs.Queue.{goes, tie}
-use Rattle.pages.proofs.QueueHands.{Other, Tells, asks_nothing, at_cell, at_read, at_write, blank, goes_other}
-use Rattle.pages.proofs.QueueHands.{holder_is, not_own, other_begins, the_flight, who}
+use Rattle.pages.proofs.QueueHands.{Tells, at_cell, at_read, at_write, blank, holder_is, the_flight, who}
+use Rattle.pages.proofs.QueuesByRole.{QueueHands, queue_runs}
 
 module _ (c : ℕ) (few : c < 2 ^ 32) where
   -- a push or pop that the model lets begin is a call of the page, by the party of its role
@@ -36,22 +34,6 @@ module _ (c : ℕ) (few : c < 2 ^ 32) where
       record { call = page.Pop; start_is = refl; flight_is = the_flight named; who_is = holder_is k.consumer p rows; may = refl }
   own k p other flight mine named rows = absurd (cc)
 
-  -- any other call that it lets begin is one that the page has not
-  other : (k : Roles) (p : ℕ) (start : Start ℕ) (flight : Flight ℕ) → is_push_or_pop start ≡ false
-      → first_of kinds.IndexQueue c start (registries.Queues k) ≡ Some flight
-      → first_row ((begin_of kinds.IndexQueue c start).rows (registries.Queues k) p) ≡ None
-      → Other k p start flight
-  other k p (Queues start) flight mine named rows = other_begins queue_kinds.IndexQueue c k p start flight mine named rows
-  other k p start flight mine named rows = absurd (cc)
-
-  -- as a call begins the roles stay
-  keeps : (k : Roles) (p : ℕ) (start : Start ℕ) (flight : Flight ℕ)
-      → first_of kinds.IndexQueue c start (registries.Queues k) ≡ Some flight
-      → kept_after_begin one_word c start p (registries.Queues k) ≡ registries.Queues k
-  keeps k p (Container start) flight named = absurd (cc)
-  keeps k p (Loan start) flight named = absurd (cc)
-  keeps k p start flight named = refl
-
   -- a step of a call of the page leaves the words of the roles
   leaves : (k : Roles) (words : List ℕ) (stage : page.Stage) → Tells k words → Leaves blank (Tells k) words (page.does c stage).0
   leaves k words (page.PushLoadsWrite value) tells = at_write k words tells
@@ -64,48 +46,12 @@ module _ (c : ℕ) (few : c < 2 ^ 32) where
   leaves k words (page.PopStoresRead read value) tells = at_read k words tells
 
   -- what is to be shown of the index queue where its roles change hands
-  handed : Hands by_role (tie c few) Roles
+  handed : QueueHands number queue_kinds.IndexQueue (tie c few)
   unfolding tie
-  handed =
-      record {
-        registry = registries.Queues;
-        who = who;
-        blank = blank;
-        Tells = Tells;
-        Other = Other;
-        own = own;
-        other = other;
-        keeps = keeps;
-        goes = λ k words beside p r stage old fit. goes c k words beside p stage old;
-        leaves = λ k words stage fit t. leaves k words stage t;
-        not_own = not_own;
-        goes_other = λ k words beside p start flight h t. goes_other one_word k words beside p start flight h t;
-        asks_nothing = asks_nothing one_word;
-        no_owners = λ k. refl;
-      }
+  handed = record { own = own; goes = λ k words beside p r stage old fit. goes c k words beside p stage old; leaves = leaves }
 
-  -- at the opening the two machines are the same
-  opens : Sim handed (machine.opening (page.index_queue c)) (opening one_word kinds.IndexQueue c 0)
-  unfolding handed
-  opens =
-      let cells : c ≡ 1 * c = omega arith in
-      record {
-        k = record { producer = None; consumer = None };
-        words = 0 ∷ 0 ∷ 1 ∷ 1 ∷ replicate (1 * c) 0;
-        latest = [];
-        changes = 0;
-        turns = 0;
-        events = [];
-        is = refl;
-        inv =
-            record {
-              blanked = ap (λ n. 0 ∷ 0 ∷ 0 ∷ 0 ∷ replicate n 0) cells;
-              tells = record { write = 0; read = 0; cells = replicate (1 * c) 0; is = refl };
-              told_is = refl;
-              stands = λ p. tt;
-              held = λ n stage e. absurd (cc);
-            };
-      }
-
+  -- the model's machine, as it opens, runs the page
   pub runs_by_role : RunsByRole by_role (page.index_queue c) (opening one_word kinds.IndexQueue c 0)
-  runs_by_role = hands.by_role opens
+  runs_by_role =
+      let cells : c ≡ 1 * c = omega arith in
+      queue_runs number queue_kinds.IndexQueue (tie c few) handed (replicate (1 * c) 0) (ap (λ n. 0 ∷ 0 ∷ 0 ∷ 0 ∷ replicate n 0) cells) refl

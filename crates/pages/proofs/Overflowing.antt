@@ -1,12 +1,10 @@
 -- The theorem of the overflowing queue's page, from the model's.
-use Rattle.std.specs.List.{AllByRecursion}
 use Rattle.std.proofs.Common.{◌%◌, ◌*◌, ◌^◌, ◌-◌, drop, is_some, replicate}
 use Rattle.std.proofs.lemmas.Bool.Decides.{nat_tests}
 use Rattle.std.proofs.lemmas.List.{length-map, map-append}
-use Rattle.std.specs.Ordering.{is_eq, nat_cmp}
-use Rattle.model.proofs.Names.{fold, Bool, IsReached, List, None, Option, Some, Trace, [], answer_in, ap, arith}
+use Rattle.model.proofs.Names.{fold, Bool, List, None, Option, Some, [], answer_in, ap, arith}
 use Rattle.model.proofs.Names.{ask_of, capacity_error, cond, false, first_row, length, map, nat_lt, one_word, opening}
-use Rattle.model.proofs.Names.{refl, refusal_of, slice_get, step_of, subst, true, ℕ, ◌++◌, ◌+◌, ◌<◌, ◌==◌, ◌∙◌}
+use Rattle.model.proofs.Names.{refl, slice_get, step_of, true, ℕ, ◌++◌, ◌+◌, ◌<◌, ◌==◌, ◌∙◌}
 use Rattle.model.proofs.Names.{◌∷◌, ◌≡◌}
 use Rattle.model.proofs.Names as model
 use Rattle.model.specs.declared.event.Answer.{Answer}
@@ -20,7 +18,6 @@ use Rattle.model.specs.declared.families.queues.QueueKind.TheVariants as queue_k
 use Rattle.model.specs.declared.families.queues.Roles.{Roles}
 use Rattle.model.specs.declared.families.queues.QueueStart.TheVariants.{PushIndex, Push, Pop}
 use Rattle.model.specs.declared.turn.Kind.TheVariants as kinds
-use Rattle.model.specs.declared.turn.Turn.{Turn}
 use Rattle.model.specs.Families.{begin_rows}
 use Rattle.model.specs.Families.Queues.Calls.{after, want}
 use Rattle.model.specs.Families.Queues.Objects.{answer_of_item, cut, cut_off, overflow_after, overflow_answer}
@@ -29,7 +26,6 @@ use Rattle.model.specs.Linearized.{as_list, is_push_or_pop}
 use Rattle.model.specs.Step.{as_call}
 use Rattle.model.specs.Turns.{run}
 use Rattle.model.proofs.Linearizable.Kinds.{run_linearizable}
-use Rattle.model.proofs.Reached.{reached_more, reached_opening, run_keeps}
 use Rattle.laws_queues.proofs.Queues.Sound.{queue_keeps}
 use Rattle.pages.specs.OverflowingQueue as page
 use Rattle.pages.specs.Machine as machine
@@ -39,10 +35,14 @@ use Rattle.pages.specs.OverflowingQueueBridge.{OverflowingPushesByTable, Overflo
 use Rattle.pages.specs.OverflowingQueueBridge.{answer_seen, answered, as_turn, call_seen, flight, queue_start}
 use Rattle.pages.specs.OverflowingQueueBridge.{read_then, reading, went}
 use Rattle.pages.specs.Reading.{asked}
-use Rattle.pages.proofs.Seen.{IsObject, carried}
-use Rattle.pages.proofs.Simulates.{GoesRight, Sim, StepIs, Tie, all_turns, trace}
-use Rattle.pages.proofs.Simulates as simulates
-use Rattle.pages.proofs.Roles.{among, coded, effects_own, effects_unseen, held, holds_row, idle, kept, lacks_row, number, number_rest, within}
+use Rattle.pages.proofs.Seen.{IsObject}
+use Rattle.pages.proofs.Relates.{Meets}
+use Rattle.pages.proofs.Relates as relates
+use Rattle.pages.proofs.Runs.{reached_by}
+use Rattle.pages.proofs.Roles.{acquired_with, among, coded, effects_own, effects_unseen, held, holds_row, kept}
+use Rattle.pages.proofs.Roles.{lacks_row, meets_acquired, number, number_rest, within}
+use Rattle.pages.proofs.Simulates.{GoesRight, StepIs, Tie, linearizable_seen, reached_now, relation, run_now, same}
+use Rattle.pages.proofs.Turns.{either}
 
 -- ---- the tables are the same
 
@@ -64,56 +64,34 @@ comes c stage old = (page.does c stage).2 old
 
 -- a stage of the page asks for the operation that the code asks for
 pub asks_same : (c before : ℕ) (stage : page.Stage) → ask_of (want one_word (flight c before stage)) ≡ Some (asked (page.does c stage).0 (page.does c stage).1)
-asks_same c before (page.PushLoadsWrite value) = refl
-asks_same c before (page.PushLoadsRead value write) = refl
-asks_same c before (page.PushStoresCell value write read) = refl
-asks_same c before (page.PushStoresWrite value write read) = refl
-asks_same c before (page.PushMovesRead value read) = refl
-asks_same c before (page.PushLoadsOldest value read) = refl
 asks_same c before page.PopLoadsRead = refl
-asks_same c before (page.PopLoadsWrite read) = refl
-asks_same c before (page.PopLoadsCell read) = refl
-asks_same c before (page.PopMovesRead read value) = refl
+asks_same c before stage = refl
 
 -- a stage of the page goes on from each old word as the code does
 after_same : (c before : ℕ) (stage : page.Stage) (old : ℕ) → after one_word (flight c before stage) old ≡ went c (read_then before stage) (comes c stage old)
 after_same c before (page.PushLoadsWrite value) old = grind arith
-after_same c before (page.PushLoadsRead value write) old = refl
-after_same c before (page.PushStoresCell value write read) old = refl
 after_same c before (page.PushStoresWrite value write read) old = grind arith
 after_same c before (page.PushMovesRead value read) old = grind arith
-after_same c before (page.PushLoadsOldest value read) old = refl
-after_same c before page.PopLoadsRead old = refl
 after_same c before (page.PopLoadsWrite read) old = grind arith
-after_same c before (page.PopLoadsCell read) old = refl
 after_same c before (page.PopMovesRead read value) old = grind arith
+after_same c before stage old = refl
 
 abbrev fits : page.Stage → Bool
 fits stage = true
 
-done_or : (b : Bool) (call : page.Call) (answer : Option ℕ) (stage : page.Stage) → call_at stage ≡ call
-    → GoesRight call_at fits call (cond b (machine.Done answer) (machine.GoOn stage))
-done_or true call answer stage e = tt
-done_or false call answer stage e = (e, refl)
-
-on_or : (b : Bool) (call : page.Call) (answer : Option ℕ) (stage : page.Stage) → call_at stage ≡ call
-    → GoesRight call_at fits call (cond b (machine.GoOn stage) (machine.Done answer))
-on_or true call answer stage e = (e, refl)
-on_or false call answer stage e = tt
-
 -- where a call goes on it is the same call
 pub right : (c : ℕ) (stage : page.Stage) (old : ℕ) → GoesRight call_at fits (call_at stage) (comes c stage old)
-right c (page.PushLoadsWrite value) old = done_or (old == 2 ^ 64 - 1) (page.Push value) (Some value) (page.PushLoadsRead value old) refl
+right c (page.PushLoadsWrite value) old = either (GoesRight call_at fits (page.Push value)) (old == 2 ^ 64 - 1) _ _ tt (refl, refl)
 right c (page.PushLoadsRead value write) old = (refl, refl)
 right c (page.PushStoresCell value write read) old = (refl, refl)
 right c (page.PushStoresWrite value write read) old =
-    on_or ((write + 2 ^ 64 - read) % 2 ^ 64 == c) (page.Push value) None (page.PushMovesRead value read) refl
-right c (page.PushMovesRead value read) old = on_or (old == read) (page.Push value) None (page.PushLoadsOldest value read) refl
+    either (GoesRight call_at fits (page.Push value)) ((write + 2 ^ 64 - read) % 2 ^ 64 == c) _ _ (refl, refl) tt
+right c (page.PushMovesRead value read) old = either (GoesRight call_at fits (page.Push value)) (old == read) _ _ (refl, refl) tt
 right c (page.PushLoadsOldest value read) old = tt
 right c page.PopLoadsRead old = (refl, refl)
-right c (page.PopLoadsWrite read) old = done_or (old == read) page.Pop None (page.PopLoadsCell read) refl
+right c (page.PopLoadsWrite read) old = either (GoesRight call_at fits page.Pop) (old == read) _ _ tt (refl, refl)
 right c (page.PopLoadsCell read) old = (refl, refl)
-right c (page.PopMovesRead read value) old = done_or (old == read) page.Pop (Some value) (page.PopLoadsCell old) refl
+right c (page.PopMovesRead read value) old = either (GoesRight call_at fits page.Pop) (old == read) _ _ tt (refl, refl)
 
 -- ---- what a step does beside
 
@@ -124,7 +102,7 @@ roles_stay p page.Pop outcome roles = refl
 -- What a step came to is the same, told as of a call on queues and as of any call.
 went_same : (c before : ℕ) (a : (machine.After page.Stage (Option ℕ)))
     → as_call flights.Queues (λ (answer : Answer ℕ). answer) (went c before a)
-    ≡ simulates.went (λ stage. flights.Queues (flight c before stage)) answered a
+    ≡ relates.went (λ stage. flights.Queues (flight c before stage)) answered a
 went_same c before (machine.GoOn stage) = refl
 went_same c before (machine.Done answer) = refl
 
@@ -275,72 +253,35 @@ admitted c few = grind (arith, nat_tests)
 pub some_is : (c : ℕ) → 0 < c → (c == 0) ≡ false
 some_is c lt = grind (arith, nat_tests)
 
--- behind the two acquires the two machines are the same
-opens : (c : ℕ) (some : (c == 0) ≡ false) → Sim (tie c some) 2 roles_told (machine.opening (page.overflowing_queue c)) 0 (acquired c)
-opens c some =
-    let last = acquired c in
-    let cells : 1 * (c + 1) ≡ c + 1 = omega arith in
-    record {
-      now = record { latest = last.world.latest; changes = last.world.changes; turns = last.world.turns; events = [] };
-      few = omega arith;
-      is = ap (λ k. trace (tie c some) 2 roles_told (0 ∷ 0 ∷ 0 ∷ 0 ∷ replicate k 0) (record {
-        latest = last.world.latest;
-        changes = last.world.changes;
-        turns = last.world.turns;
-        events = [];
-      })) cells;
-      told = refl;
-      own = tt;
-      matches = λ p. idle _ _ refl refl (is_eq (nat_cmp p 0)) (is_eq (nat_cmp p 1));
-    }
-
 may_below : (p : ℕ) (call : page.Call) → page.may p call ≡ true → p < 2
 may_below p (page.Push value) allowed = grind (arith, nat_tests)
 may_below p page.Pop allowed = grind (arith, nat_tests)
 
-all_within : (c : ℕ) (some : (c == 0) ≡ false) (turns : List (machine.Turn page.Call)) → AllByRecursion (simulates.IsWithin (tie c some) 2 roles_told) turns
-all_within c some [] = tt
-all_within c some (machine.Begin p call ∷ turns) = (may_below p call, all_within c some turns)
-all_within c some (machine.Next p ∷ turns) = (tt, all_within c some turns)
-
 -- the turns are those of the page's specification
-same_turns : (c : ℕ) (some : (c == 0) ≡ false) (turns : List (machine.Turn page.Call))
-    → map (simulates.as_turn (tie c some) 2 roles_told) turns ≡ map as_turn turns
+same_turn : (c : ℕ) (some : (c == 0) ≡ false) (turn : machine.Turn page.Call)
+    → relates.as_turn (relation (tie c some) roles_told) 2 turn ≡ as_turn turn
 unfolding tie
-same_turns c some [] = refl
-same_turns c some (machine.Begin p call ∷ turns) = ap (λ ts. as_turn (machine.Begin p call) ∷ ts) (same_turns c some turns)
-same_turns c some (machine.Next p ∷ turns) = ap (λ ts. as_turn (machine.Next p) ∷ ts) (same_turns c some turns)
-
--- The run is one of the model's, since the opening is and each turn keeps that.
-reached : (c : ℕ) (turns : List (Turn ℕ)) → c < 2 ^ 32 → IsReached (run turns (acquired c))
-reached c turns few =
-    run_keeps refusal_of IsReached (λ t turn e r. reached_more t turn e r) turns (acquired c)
-    (run_keeps refusal_of IsReached (λ t turn e r. reached_more t turn e r) acquires (opening one_word kinds.Overflow c 2)
-    (reached_opening one_word kinds.Overflow c 2 coded (admitted c few)))
+same_turn c some (machine.Begin p call) = refl
+same_turn c some (machine.Next p) = refl
 
 abbrev world_of : ℕ → List (machine.Turn page.Call) → (machine.World page.Call page.Stage (Option ℕ))
 world_of c turns = fold (machine.turned (page.overflowing_queue c)) (machine.opening (page.overflowing_queue c)) turns
 
--- after a list of turns the two machines are the same
-simulated : (c : ℕ) (turns : List (machine.Turn page.Call)) (some : (c == 0) ≡ false) → length turns < 2 ^ 63
-    → Sim (tie c some) 2 roles_told (world_of c turns) (0 + length turns) (run (map as_turn turns) (acquired c))
-simulated c turns some small =
-    subst (λ ts. Sim (tie c some) 2 roles_told (world_of c turns) (0 + length turns) (run ts (acquired c))) (same_turns c some turns)
-    (all_turns (tie c some) 2 roles_told turns (all_within c some turns) (omega arith) (opens c some))
+-- after a list of turns the two machines meet
+met : (c : ℕ) (turns : List (machine.Turn page.Call)) (some : (c == 0) ≡ false) → c < 2 ^ 32 → length turns < 2 ^ 63
+    → Meets (relation (tie c some) roles_told) 2 (world_of c turns) (0 + length turns) (run (map as_turn turns) (acquired c))
+met c turns some few small =
+    let cells : 1 * (c + 1) ≡ c + 1 = omega arith in
+    meets_acquired (tie c some) (reached_by one_word kinds.Overflow c 2 acquires coded (admitted c few))
+    (ap (λ k. acquired_with (tie c some) (0 ∷ 0 ∷ 0 ∷ 0 ∷ replicate k 0)) cells) may_below as_turn (same_turn c some) turns small
 
 -- what the page runs is linearizable as the overflowing list
 pub linearizable : (c : ℕ) (turns : List (machine.Turn page.Call)) → 0 < c → c < 2 ^ 32 → length turns < 2 ^ 63
     → machine.IsLinearizable (page.overflowing_list c) (world_of c turns).history
 linearizable c turns more few small =
-    let some = some_is c more in
-    let meeting = simulated c turns some small in
-    let run_now = trace (tie c some) 2 roles_told (world_of c turns).words meeting.now in
-    let is_reached : IsReached run_now = subst IsReached meeting.is (reached c (map as_turn turns) few) in
-    let keeps = (queue_keeps {T = ℕ} queue_kinds.Overflow).kept run_now refl is_reached in
-    subst (machine.IsLinearizable (page.overflowing_list c)) meeting.told
-    (carried reading (is_list c) roles_told 4
-    meeting.now.events meeting.own (among meeting.now.events) (within meeting.now.events)
-    (run_linearizable run_now keeps))
+    let s = met c turns (some_is c more) few small in
+    let keeps = (queue_keeps {T = ℕ} queue_kinds.Overflow).kept (run_now s) refl (reached_now s) in
+    linearizable_seen s (is_list c) 4 among within (run_linearizable (run_now s) keeps)
 
 -- each stage asks for what the code's function asks for, and goes on as it does
 pub code : OverflowingDoesAsTheCode
@@ -348,14 +289,7 @@ code c before stage = (asks_same c before stage, after_same c before stage)
 
 -- the words, invocations and responses of the page's machine are those of the model's
 pub runs : OverflowingRunsAsTheMachine
-runs c turns more few small =
-    let meeting = simulated c turns (some_is c more) small in
-    record {
-      events = meeting.now.events;
-      is = ap (λ (t : Trace ℕ). t.events) meeting.is;
-      history = meeting.told;
-      words = ap (λ (t : Trace ℕ). t.world.words) meeting.is;
-    }
+runs c turns more few small = same (met c turns (some_is c more) few small)
 
 pub by_pushes : OverflowingPushesByTable
 by_pushes c value stage old = (refl, refl)

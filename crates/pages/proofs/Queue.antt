@@ -1,12 +1,10 @@
 -- The theorem of the index queue's page, from the model's.
-use Rattle.std.specs.List.{AllByRecursion}
 use Rattle.std.proofs.Common.{◌%◌, ◌*◌, ◌^◌, ◌||◌, ◌-◌, is_some, replicate, mod-lt}
 use Rattle.std.proofs.lemmas.Bool.Decides.{nat_tests}
 use Rattle.std.proofs.lemmas.List.{length-map, map-append}
-use Rattle.std.specs.Ordering.{is_eq, nat_cmp}
-use Rattle.model.proofs.Names.{fold, Bool, IsReached, List, None, Option, Some, Trace, [], answer_in, ap}
+use Rattle.model.proofs.Names.{fold, Bool, List, None, Option, Some, Trace, [], answer_in, ap}
 use Rattle.model.proofs.Names.{arith, ask_of, bounded_list, capacity_error, cond, false, first_row}
-use Rattle.model.proofs.Names.{length, map, nat_lt, not, one_word, opening, refl, refusal_of, slice_get}
+use Rattle.model.proofs.Names.{length, map, nat_lt, not, one_word, opening, refl, slice_get}
 use Rattle.model.proofs.Names.{step_of, subst, sym, true, ℕ, ◌++◌, ◌+◌, ◌<◌, ◌==◌, ◌∙◌, ◌∷◌, ◌≡◌}
 use Rattle.model.proofs.Names as model
 use Rattle.model.specs.declared.event.Answer.{Answer}
@@ -20,7 +18,6 @@ use Rattle.model.specs.declared.families.queues.QueueKind.TheVariants as queue_k
 use Rattle.model.specs.declared.families.queues.Roles.{Roles}
 use Rattle.model.specs.declared.families.queues.QueueStart.TheVariants.{PushIndex, Push, Pop}
 use Rattle.model.specs.declared.turn.Kind.TheVariants as kinds
-use Rattle.model.specs.declared.turn.Turn.{Turn}
 use Rattle.model.specs.Families.{begin_rows}
 use Rattle.model.specs.Families.Queues.Calls.{after, want}
 use Rattle.model.specs.Families.Queues.Objects.{appended, answer_of_item, list_after, list_answer}
@@ -29,7 +26,6 @@ use Rattle.model.specs.Linearized.{as_list, is_push_or_pop}
 use Rattle.model.specs.Step.{as_call}
 use Rattle.model.specs.Turns.{run}
 use Rattle.model.proofs.Linearizable.Kinds.{run_linearizable}
-use Rattle.model.proofs.Reached.{reached_more, reached_opening, run_keeps}
 use Rattle.laws_queues.proofs.Queues.Sound.{queue_keeps}
 use Rattle.steps.specs.declared.ask.Op.TheVariants.{Load, Store}
 use Rattle.steps.specs.Queues.Ring.{cell_word, word_at}
@@ -39,10 +35,14 @@ use Rattle.pages.specs.IndexQueueBridge.{DoesAsTheCode, Fits, PopsByTable, Pushe
 use Rattle.pages.specs.IndexQueueBridge.{acquires, answer_seen, answered, as_turn, call_seen, flight, queue_start}
 use Rattle.pages.specs.IndexQueueBridge.{reading, roles_told, went}
 use Rattle.pages.specs.Reading.{IsSame, asked}
-use Rattle.pages.proofs.Seen.{IsObject, carried}
-use Rattle.pages.proofs.Simulates.{GoesRight, Sim, StepIs, Tie, all_turns, trace}
-use Rattle.pages.proofs.Simulates as simulates
-use Rattle.pages.proofs.Roles.{among, coded, effects_own, effects_unseen, held, holds_row, idle, kept, lacks_row, number, number_rest, within}
+use Rattle.pages.proofs.Seen.{IsObject}
+use Rattle.pages.proofs.Relates.{Meets}
+use Rattle.pages.proofs.Relates as relates
+use Rattle.pages.proofs.Runs.{reached_by}
+use Rattle.pages.proofs.Roles.{acquired_with, among, coded, effects_own, effects_unseen, held, holds_row, kept}
+use Rattle.pages.proofs.Roles.{lacks_row, meets_acquired, number, number_rest, within}
+use Rattle.pages.proofs.Simulates.{GoesRight, StepIs, Tie, linearizable_seen, reached_now, relation, run_now, same}
+use Rattle.pages.proofs.Turns.{either, either_so, neither}
 
 -- ---- the tables are the same
 
@@ -65,14 +65,9 @@ fits c stage = true
 
 -- a stage that passes the test fits
 pub fits_so : (c : ℕ) (stage : page.Stage) → fits c stage ≡ true → Fits c stage
-fits_so c (page.PushLoadsWrite value) fitting = tt
-fits_so c (page.PushLoadsRead value write) fitting = tt
 fits_so c (page.PushStoresCell value write) fitting = grind arith
-fits_so c (page.PushStoresWrite value write) fitting = tt
-fits_so c page.PopLoadsRead fitting = tt
-fits_so c (page.PopLoadsWrite read) fitting = tt
 fits_so c (page.PopLoadsCell read) fitting = grind arith
-fits_so c (page.PopStoresRead read value) fitting = tt
+fits_so c stage fitting = tt
 
 abbrev comes : ℕ → page.Stage → ℕ → (machine.After page.Stage page.Answer)
 comes c stage old = (page.does c stage).2 old
@@ -91,53 +86,28 @@ cell_is c position few some =
 -- a stage of the page asks for the operation that the code asks for
 pub asks_same : (c : ℕ) (stage : page.Stage) → c < 2 ^ 32 → Fits c stage
     → ask_of (want one_word (flight c stage)) ≡ Some (asked (page.does c stage).0 (page.does c stage).1)
-asks_same c (page.PushLoadsWrite value) few fits = refl
-asks_same c (page.PushLoadsRead value write) few fits = refl
 asks_same c (page.PushStoresCell value write) few fits = ap (λ k. Some (record { word = k; op = Store value })) (cell_is c write few fits)
-asks_same c (page.PushStoresWrite value write) few fits = refl
-asks_same c page.PopLoadsRead few fits = refl
-asks_same c (page.PopLoadsWrite read) few fits = refl
 asks_same c (page.PopLoadsCell read) few fits = ap (λ k. Some (record { word = k; op = Load })) (cell_is c read few fits)
-asks_same c (page.PopStoresRead read value) few fits = refl
+asks_same c stage few fits = refl
 
 -- a stage of the page goes on from each old word as the code does
 after_same : (c : ℕ) (stage : page.Stage) (old : ℕ) → after one_word (flight c stage) old ≡ went c (comes c stage old)
 after_same c (page.PushLoadsWrite value) old = grind arith
 after_same c (page.PushLoadsRead value write) old = grind arith
-after_same c (page.PushStoresCell value write) old = refl
-after_same c (page.PushStoresWrite value write) old = refl
-after_same c page.PopLoadsRead old = refl
 after_same c (page.PopLoadsWrite read) old = grind arith
-after_same c (page.PopLoadsCell read) old = refl
-after_same c (page.PopStoresRead read value) old = refl
+after_same c stage old = refl
 
 -- where a call goes on it is the same call, and it goes to a cell only where there is one
 pub right : (c : ℕ) (stage : page.Stage) (old : ℕ) → GoesRight call_at (fits c) (call_at stage) (comes c stage old)
-right c (page.PushLoadsWrite value) old = go (old == 2 ^ 64 - 1)
-  where
-    go : (b : Bool) → GoesRight call_at (fits c) (page.Push value) (cond b (machine.Done (page.Pushed false)) (machine.GoOn (page.PushLoadsRead value old)))
-    go true = tt
-    go false = (refl, refl)
-right c (page.PushLoadsRead value write) old = go (c == 0) refl ((write + 2 ^ 64 - old) % 2 ^ 64 == c)
-  where
-    -- the cases are whether the queue has no room at all, and whether it is full
-    go : (a : Bool) → (c == 0) ≡ a → (d : Bool)
-        → GoesRight call_at (fits c) (page.Push value)
-        (cond (a || d) (machine.Done (page.Pushed false)) (machine.GoOn (page.PushStoresCell value write)))
-    go true t d = tt
-    go false t true = tt
-    go false t false = (refl, ap not t)
+right c (page.PushLoadsWrite value) old = either (GoesRight call_at (fits c) (page.Push value)) (old == 2 ^ 64 - 1) _ _ tt (refl, refl)
+right c (page.PushLoadsRead value write) old =
+    either_so (GoesRight call_at (fits c) (page.Push value)) ((c == 0) || ((write + 2 ^ 64 - old) % 2 ^ 64 == c)) _ _
+    (λ t. tt) (λ f. (refl, ap not (neither (c == 0) ((write + 2 ^ 64 - old) % 2 ^ 64 == c) f)))
 right c (page.PushStoresCell value write) old = (refl, refl)
 right c (page.PushStoresWrite value write) old = tt
 right c page.PopLoadsRead old = (refl, refl)
-right c (page.PopLoadsWrite read) old = go (c == 0) refl (old == read)
-  where
-    -- the cases are whether the queue has places at all and whether it is empty
-    go : (a : Bool) → (c == 0) ≡ a → (d : Bool)
-        → GoesRight call_at (fits c) page.Pop (cond (a || d) (machine.Done (page.Popped None)) (machine.GoOn (page.PopLoadsCell read)))
-    go true t d = tt
-    go false t true = tt
-    go false t false = (refl, ap not t)
+right c (page.PopLoadsWrite read) old =
+    either_so (GoesRight call_at (fits c) page.Pop) ((c == 0) || (old == read)) _ _ (λ t. tt) (λ f. (refl, ap not (neither (c == 0) (old == read) f)))
 right c (page.PopLoadsCell read) old = (refl, refl)
 right c (page.PopStoresRead read value) old = tt
 
@@ -150,7 +120,7 @@ roles_stay p page.Pop outcome roles = refl
 -- What a step came to is the same, told as of a call on queues and as of any call.
 went_same : (c : ℕ) (a : (machine.After page.Stage page.Answer))
     → as_call flights.Queues (λ (answer : Answer ℕ). answer) (went c a)
-    ≡ simulates.went (λ stage. flights.Queues (flight c stage)) answered a
+    ≡ relates.went (λ stage. flights.Queues (flight c stage)) answered a
 went_same c (machine.GoOn stage) = refl
 went_same c (machine.Done answer) = refl
 
@@ -292,69 +262,34 @@ is_list c = record { state = map number; opens = refl; after = one_after c; answ
 admitted : (c : ℕ) → c < 2 ^ 32 → capacity_error kinds.IndexQueue c ≡ None
 admitted c few = grind (arith, nat_tests)
 
--- behind the two acquires the two machines are the same
-opens : (c : ℕ) (few : c < 2 ^ 32) → Sim (tie c few) 2 roles_told (machine.opening (page.index_queue c)) 0 (acquired c)
-opens c few =
-    let last = acquired c in
-    let cells : 1 * c ≡ c = omega arith in
-    record {
-      now = record { latest = last.world.latest; changes = last.world.changes; turns = last.world.turns; events = [] };
-      few = omega arith;
-      is = ap (λ k. trace (tie c few) 2 roles_told (0 ∷ 0 ∷ 0 ∷ 0 ∷ replicate k 0) (record {
-        latest = last.world.latest;
-        changes = last.world.changes;
-        turns = last.world.turns;
-        events = [];
-      })) cells;
-      told = refl;
-      own = tt;
-      matches = λ p. idle _ _ refl refl (is_eq (nat_cmp p 0)) (is_eq (nat_cmp p 1));
-    }
-
 may_below : (p : ℕ) (call : page.Call) → page.may p call ≡ true → p < 2
 may_below p (page.Push value) allowed = grind (arith, nat_tests)
 may_below p page.Pop allowed = grind (arith, nat_tests)
 
-all_within : (c : ℕ) (few : c < 2 ^ 32) (turns : List (machine.Turn page.Call)) → AllByRecursion (simulates.IsWithin (tie c few) 2 roles_told) turns
-all_within c few [] = tt
-all_within c few (machine.Begin p call ∷ turns) = (may_below p call, all_within c few turns)
-all_within c few (machine.Next p ∷ turns) = (tt, all_within c few turns)
-
-same_turns : (c : ℕ) (few : c < 2 ^ 32) (turns : List (machine.Turn page.Call)) → map (simulates.as_turn (tie c few) 2 roles_told) turns ≡ map as_turn turns
+-- the turns are those of the page's specification
+same_turn : (c : ℕ) (few : c < 2 ^ 32) (turn : machine.Turn page.Call) → relates.as_turn (relation (tie c few) roles_told) 2 turn ≡ as_turn turn
 unfolding tie
-same_turns c few [] = refl
-same_turns c few (machine.Begin p call ∷ turns) = ap (λ ts. as_turn (machine.Begin p call) ∷ ts) (same_turns c few turns)
-same_turns c few (machine.Next p ∷ turns) = ap (λ ts. as_turn (machine.Next p) ∷ ts) (same_turns c few turns)
-
--- The run is one of the model's, since the opening is and each turn keeps that.
-reached : (c : ℕ) (turns : List (Turn ℕ)) → c < 2 ^ 32 → IsReached (run turns (acquired c))
-reached c turns few =
-    run_keeps refusal_of IsReached (λ t turn e r. reached_more t turn e r) turns (acquired c)
-    (run_keeps refusal_of IsReached (λ t turn e r. reached_more t turn e r) acquires (opening one_word kinds.IndexQueue c 2)
-    (reached_opening one_word kinds.IndexQueue c 2 coded (admitted c few)))
+same_turn c few (machine.Begin p call) = refl
+same_turn c few (machine.Next p) = refl
 
 abbrev world_of : ℕ → List (machine.Turn page.Call) → (machine.World page.Call page.Stage page.Answer)
 world_of c turns = fold (machine.turned (page.index_queue c)) (machine.opening (page.index_queue c)) turns
 
--- The model's run goes along with the page's machine after fewer than 2^63 turns.
-simulated : (c : ℕ) (turns : List (machine.Turn page.Call)) (few : c < 2 ^ 32) → length turns < 2 ^ 63
-    → Sim (tie c few) 2 roles_told (world_of c turns) (0 + length turns) (run (map as_turn turns) (acquired c))
-simulated c turns few small =
-    subst (λ ts. Sim (tie c few) 2 roles_told (world_of c turns) (0 + length turns) (run ts (acquired c))) (same_turns c few turns)
-    (all_turns (tie c few) 2 roles_told turns (all_within c few turns) (omega arith) (opens c few))
+-- after a list of turns the two machines meet
+met : (c : ℕ) (turns : List (machine.Turn page.Call)) (few : c < 2 ^ 32) → length turns < 2 ^ 63
+    → Meets (relation (tie c few) roles_told) 2 (world_of c turns) (0 + length turns) (run (map as_turn turns) (acquired c))
+met c turns few small =
+    let cells : 1 * c ≡ c = omega arith in
+    meets_acquired (tie c few) (reached_by one_word kinds.IndexQueue c 2 acquires coded (admitted c few))
+    (ap (λ k. acquired_with (tie c few) (0 ∷ 0 ∷ 0 ∷ 0 ∷ replicate k 0)) cells) may_below as_turn (same_turn c few) turns small
 
 -- what the page runs is linearizable as the bounded list
 pub linearizable : (c : ℕ) (turns : List (machine.Turn page.Call)) → c < 2 ^ 32 → length turns < 2 ^ 63
     → machine.IsLinearizable (page.bounded_list c) (world_of c turns).history
 linearizable c turns few small =
-    let meeting = simulated c turns few small in
-    let run_now = trace (tie c few) 2 roles_told (world_of c turns).words meeting.now in
-    let is_reached : IsReached run_now = subst IsReached meeting.is (reached c (map as_turn turns) few) in
-    let keeps = (queue_keeps {T = ℕ} queue_kinds.IndexQueue).kept run_now refl is_reached in
-    subst (machine.IsLinearizable (page.bounded_list c)) meeting.told
-    (carried reading (is_list c) roles_told 4
-    meeting.now.events meeting.own (among meeting.now.events) (within meeting.now.events)
-    (run_linearizable run_now keeps))
+    let s = met c turns few small in
+    let keeps = (queue_keeps {T = ℕ} queue_kinds.IndexQueue).kept (run_now s) refl (reached_now s) in
+    linearizable_seen s (is_list c) 4 among within (run_linearizable (run_now s) keeps)
 
 -- each stage asks for what the code's function asks for, and goes on as it does
 pub code : DoesAsTheCode
@@ -362,14 +297,7 @@ code c stage few fits = (asks_same c stage few fits, after_same c stage)
 
 -- the words, invocations and responses of the page's machine are those of the model's
 pub runs : RunsAsTheMachine
-runs c turns few small =
-    let meeting = simulated c turns few small in
-    record {
-      events = meeting.now.events;
-      is = ap (λ (t : Trace ℕ). t.events) meeting.is;
-      history = meeting.told;
-      words = ap (λ (t : Trace ℕ). t.world.words) meeting.is;
-    }
+runs c turns few small = same (met c turns few small)
 
 pub pushes : PushesByTable
 pushes c value stage old = (refl, refl)

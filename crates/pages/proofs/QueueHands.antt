@@ -32,7 +32,7 @@ use Rattle.steps.specs.declared.ask.After.{After}
 use Rattle.steps.specs.declared.ask.After.TheVariants as afters
 use Rattle.steps.specs.declared.queues.lengths.Len as lengths
 use Rattle.steps.specs.declared.queues.lengths.LenStage.{LenStage}
-use Rattle.steps.specs.declared.queues.lengths.LenStage.TheVariants.{LoadsWrite, LoadsRead, LoadsWriteAgain, LoadsReadAgain}
+use Rattle.steps.specs.declared.queues.lengths.LenStage.TheVariants.{LoadsWrite, LoadsRead}
 use Rattle.steps.specs.declared.queues.peek.PeekStage.{PeekStage}
 use Rattle.steps.specs.declared.queues.peek.PeekStage.TheVariants as peeks
 use Rattle.steps.specs.declared.routine.Running.{Running}
@@ -175,20 +175,10 @@ module _ {T : Type 0} where
 
   -- a call that the page has not is no push or pop
   pub not_own : (roles : Roles) (p : ℕ) (start : Start T) (flight : Flight T) → Other roles p start flight → is_push_or_pop start ≡ false
-  not_own roles p (Queues AcquireProducer) flight h = refl
-  not_own roles p (Queues ReleaseProducer) flight h = refl
-  not_own roles p (Queues AcquireConsumer) flight h = refl
-  not_own roles p (Queues ReleaseConsumer) flight h = refl
-  not_own roles p (Queues HasProducer) flight h = refl
-  not_own roles p (Queues HasConsumer) flight h = refl
-  not_own roles p (Queues Peek) flight h = refl
-  not_own roles p (Queues Len) flight h = refl
-  not_own roles p (Queues IsEmpty) flight h = refl
-  not_own roles p (Queues IsFull) flight h = refl
   not_own roles p (Queues (PushIndex value)) flight h = absurd h
   not_own roles p (Queues (Push value)) flight h = absurd h
   not_own roles p (Queues Pop) flight h = absurd h
-  not_own roles p other flight h = absurd h
+  not_own roles p other flight h = refl
 
   module _ (code : Coding T) where
     -- a length asks for a load, and puts no question
@@ -198,9 +188,7 @@ module _ {T : Type 0} where
       where
         go : (stage : LenStage) → is_question (len_asks stage) ≡ false
         go LoadsWrite = refl
-        go (LoadsRead write) = refl
-        go (LoadsWriteAgain write read) = refl
-        go (LoadsReadAgain write read) = refl
+        go stage = refl
 
     no_question : (flight : Flight T) → IsLength flight → is_question (want_of code flight) ≡ false
     no_question flight length =
@@ -208,8 +196,7 @@ module _ {T : Type 0} where
 
     peek_loads : (stage : PeekStage) → is_question (peek_asks stage) ≡ false
     peek_loads peeks.LoadsRead = refl
-    peek_loads (peeks.LoadsWrite read) = refl
-    peek_loads (peeks.LoadsCell cell at) = refl
+    peek_loads stage = refl
 
     peek_asks_nothing : (flight : Flight T) → IsPeek flight → is_question (want_of code flight) ≡ false
     peek_asks_nothing (flights.Queues (Indices (rings.Peek run))) peek = peek_loads run.call.stage
@@ -228,9 +215,6 @@ module _ {T : Type 0} where
     asks_nothing roles p (Queues Len) flight h = no_question flight h
     asks_nothing roles p (Queues IsEmpty) flight h = no_question flight h
     asks_nothing roles p (Queues IsFull) flight h = no_question flight h
-    asks_nothing roles p (Queues (PushIndex value)) flight h = absurd h
-    asks_nothing roles p (Queues (Push value)) flight h = absurd h
-    asks_nothing roles p (Queues Pop) flight h = absurd h
     asks_nothing roles p other flight h = absurd h
 
     -- ---- their steps
@@ -246,20 +230,9 @@ module _ {T : Type 0} where
     -- a call that the page has not stays where it stands as long as its party keeps its roles
     others_stay : (k next : Roles) (q : ℕ) → (k.producer ≡ Some q → next.producer ≡ Some q) → (k.consumer ≡ Some q → next.consumer ≡ Some q)
         → (start : Start T) (flight : Flight T) → Other k q start flight → Other next q start flight
-    others_stay k next q produces consumes (Queues AcquireProducer) flight h = h
     others_stay k next q produces consumes (Queues ReleaseProducer) flight h = (h.0, produces h.1)
-    others_stay k next q produces consumes (Queues AcquireConsumer) flight h = h
     others_stay k next q produces consumes (Queues ReleaseConsumer) flight h = (h.0, consumes h.1)
-    others_stay k next q produces consumes (Queues HasProducer) flight h = h
-    others_stay k next q produces consumes (Queues HasConsumer) flight h = h
-    others_stay k next q produces consumes (Queues Peek) flight h = h
-    others_stay k next q produces consumes (Queues Len) flight h = h
-    others_stay k next q produces consumes (Queues IsEmpty) flight h = h
-    others_stay k next q produces consumes (Queues IsFull) flight h = h
-    others_stay k next q produces consumes (Queues (PushIndex value)) flight h = absurd h
-    others_stay k next q produces consumes (Queues (Push value)) flight h = absurd h
-    others_stay k next q produces consumes (Queues Pop) flight h = absurd h
-    others_stay k next q produces consumes other flight h = absurd h
+    others_stay k next q produces consumes start flight h = h
 
     no_one : {A : Type 0} {q : ℕ} → None ≡ Some q → A
     no_one e = absurd (cc)
@@ -279,6 +252,30 @@ module _ {T : Type 0} where
 
       abbrev both : Option ℕ → Option ℕ → Roles
       both producer consumer = record { producer = producer; consumer = consumer }
+
+      -- a step that leaves the roles
+      module _ (start : Start T) (flight : Flight T) (pr co : Option ℕ) where
+        abbrev loading : Step (Flight T) (Registry T) T
+        loading =
+            step_of code (words_of pr co) beside p start flight (old_of (words_of pr co) (ask_of (want_of code flight))) (registries.Queues (both pr co))
+
+        -- a step that leaves the words and the roles, writes nothing, and goes on as a call that the page has
+        -- not, is as `StepOf` asks
+        loads : words_after (words_of pr co) (ask_of (want_of code flight)) ≡ words_of pr co
+            → loading.kept ≡ registries.Queues (both pr co) → loading.wrote ≡ []
+            → ((then : Flight T) → loading.after ≡ afters.GoOn then → Other (both pr co) p start then)
+            → StepOf (both pr co) p start flight (words_of pr co) beside
+        loads alone kept_is silent stays =
+            record {
+              next = both pr co;
+              kept_is = kept_is;
+              silent = silent;
+              blank_is = ap blank alone;
+              tells = subst (Tells (both pr co)) (sym alone) (told (both pr co));
+              stays = stays;
+              who_is = λ n. inl refl;
+              others = λ q start flight ne h. h;
+            }
 
       -- a step of an acquire of the producer's role takes it where it is free, and tells the page nothing
       acquires_producer : (pr co : Option ℕ)
@@ -301,16 +298,7 @@ module _ {T : Type 0} where
           who_is (suc zero) = inl refl
           who_is (suc (suc n)) = inl refl
       acquires_producer (Some r) co =
-          record {
-            next = both (Some r) co;
-            kept_is = refl;
-            silent = refl;
-            blank_is = refl;
-            tells = told (both (Some r) co);
-            stays = λ then e. ended e;
-            who_is = λ n. inl refl;
-            others = λ q start flight ne h. h;
-          }
+          loads (Queues AcquireProducer) (flights.Queues (acquire_of producer_word)) (Some r) co refl refl refl (λ then e. ended e)
 
       -- a step of an acquire of the consumer's role takes it where it is free, and tells the page nothing
       acquires_consumer : (pr co : Option ℕ)
@@ -333,16 +321,7 @@ module _ {T : Type 0} where
           who_is (suc zero) = inr (inl refl)
           who_is (suc (suc n)) = inl refl
       acquires_consumer pr (Some r) =
-          record {
-            next = both pr (Some r);
-            kept_is = refl;
-            silent = refl;
-            blank_is = refl;
-            tells = told (both pr (Some r));
-            stays = λ then e. ended e;
-            who_is = λ n. inl refl;
-            others = λ q start flight ne h. h;
-          }
+          loads (Queues AcquireConsumer) (flights.Queues (acquire_of consumer_word)) pr (Some r) refl refl refl (λ then e. ended e)
 
       -- a step of a release of the producer's role frees it, and tells the page nothing
       releases_producer : (pr co : Option ℕ) → pr ≡ Some p
@@ -387,9 +366,7 @@ module _ {T : Type 0} where
       -- A length loads, so it leaves the words.
       loads_alone : (pr co : Option ℕ) (stage : LenStage) → words_after (words_of pr co) (ask_of (len_asks stage)) ≡ words_of pr co
       loads_alone pr co LoadsWrite = refl
-      loads_alone pr co (LoadsRead at) = refl
-      loads_alone pr co (LoadsWriteAgain at other) = refl
-      loads_alone pr co (LoadsReadAgain at other) = refl
+      loads_alone pr co stage = refl
 
       peeks_alone : (pr co : Option ℕ) (stage : PeekStage) → words_after (words_of pr co) (ask_of (peek_asks stage)) ≡ words_of pr co
       peeks_alone pr co peeks.LoadsRead = refl
@@ -408,30 +385,6 @@ module _ {T : Type 0} where
           the_next : {x y : Flight T} → on x ≡ on y → y ≡ x
           the_next e = cc
       goes_on_so IsSuch call_of such answer end given room (afters.Done number) then e = ended e
-
-      -- a step that loads a word, and leaves the roles
-      module _ (start : Start T) (flight : Flight T) (pr co : Option ℕ) where
-        abbrev loading : Step (Flight T) (Registry T) T
-        loading =
-            step_of code (words_of pr co) beside p start flight (old_of (words_of pr co) (ask_of (want_of code flight))) (registries.Queues (both pr co))
-
-        -- a step that leaves the words and the roles, writes nothing, and goes on as a call that the page has
-        -- not, is as `StepOf` asks
-        loads : words_after (words_of pr co) (ask_of (want_of code flight)) ≡ words_of pr co
-            → loading.kept ≡ registries.Queues (both pr co) → loading.wrote ≡ []
-            → ((then : Flight T) → loading.after ≡ afters.GoOn then → Other (both pr co) p start then)
-            → StepOf (both pr co) p start flight (words_of pr co) beside
-        loads alone kept_is silent stays =
-            record {
-              next = both pr co;
-              kept_is = kept_is;
-              silent = silent;
-              blank_is = ap blank alone;
-              tells = subst (Tells (both pr co)) (sym alone) (told (both pr co));
-              stays = stays;
-              who_is = λ n. inl refl;
-              others = λ q start flight ne h. h;
-            }
 
       of_length : (which : LengthOf) (run : Running lengths.Len (Unit {0}) (Unit {0})) → IsLength (flights.Queues (Length which run))
       of_length which run = record { which = which; run = run; is = refl }
@@ -481,9 +434,7 @@ module _ {T : Type 0} where
           (loads (Queues IsFull) (flights.Queues (Length h.which h.run)) roles.producer roles.consumer
           (loads_alone roles.producer roles.consumer h.run.call.stage) refl refl (λ then e. length_on h.which _ _ then e))
       -- pushes and pops are calls of the page
-      by_start roles (PushIndex value) flight h = absurd h
-      by_start roles (Push value) flight h = absurd h
-      by_start roles Pop flight h = absurd h
+      by_start roles start flight h = absurd h
 
     -- a step of a call that the page has not is as `StepOf` asks
     pub goes_other : (roles : Roles) (words : List ℕ) (beside : Option (ℕ × ℕ)) (p : ℕ) (start : Start T) (flight : Flight T)

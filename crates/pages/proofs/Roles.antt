@@ -1,9 +1,10 @@
--- What the pages of both queues of indices share: the roles, the effects of a step, and the two acquires before the page begins.
+-- What the pages of the three queues share: the roles, the effects of a step, and the two acquires before the page begins.
 use Rattle.std.specs.List.{AllByRecursion, Contains}
-use Rattle.std.proofs.Common.{drop, is_some}
+use Rattle.std.proofs.Common.{◌^◌, drop, is_some}
 use Rattle.std.proofs.lemmas.Bool.Decides.{nat_tests}
-use Rattle.model.proofs.Names.{Bool, IsCoding, List, None, Option, Some, [], ap, arith, cond, doing_of, false}
-use Rattle.model.proofs.Names.{first_row, flight_of, map, not, one_word, refl, true, ℕ, ⊎_elim, ◌++◌, ◌==◌, ◌∷◌, ◌≡◌}
+use Rattle.std.specs.Ordering.{is_eq, nat_cmp}
+use Rattle.model.proofs.Names.{Bool, Coding, IsCoding, IsReached, List, None, Option, Some, Trace, [], ap, arith, cond, doing_of, false, fold}
+use Rattle.model.proofs.Names.{first_row, flight_of, length, map, not, one_word, refl, true, ℕ, ⊎_elim, ◌++◌, ◌+◌, ◌<◌, ◌==◌, ◌∷◌, ◌≡◌}
 use Rattle.model.proofs.Names as model
 use Rattle.model.specs.declared.event.Answer.{Answer}
 use Rattle.model.specs.declared.event.Answer.TheVariants.{Truth}
@@ -18,15 +19,23 @@ use Rattle.model.specs.declared.families.queues.QueueStart.TheVariants.{AcquireP
 use Rattle.model.specs.declared.families.queues.Roles.{Roles}
 use Rattle.model.specs.declared.families.queues.effects.Effect.{Effect}
 use Rattle.model.specs.declared.families.queues.effects.Effect.TheVariants.{Quiet, Acts, Publishes, PublishesAndActs, HandsOut, TakesOut, MakesRoom}
+use Rattle.model.specs.declared.party.Doing.TheVariants.{Over}
 use Rattle.model.specs.declared.party.Party.{Party}
+use Rattle.model.specs.declared.turn.Kind.{Kind}
 use Rattle.model.specs.declared.turn.Refusal.TheVariants.{NoRole, WrongCall}
+use Rattle.model.specs.declared.turn.Turn.{Turn}
 use Rattle.model.specs.Families.Queues.Steps.{effects_of}
 use Rattle.model.specs.Linearizable.{calls_from, calls_of}
 use Rattle.model.specs.Linearized.{is_push_or_pop}
+use Rattle.model.specs.Turns.{run}
 use Rattle.model.proofs.Linearizable.Members.{split, there}
 use Rattle.pages.specs.IndexQueueBridge.{roles_told}
+use Rattle.pages.specs.Machine as machine
 use Rattle.pages.specs.Reading.{ReadingOf, all_seen}
+use Rattle.pages.proofs.Relates.{Meets, as_turn, trace}
+use Rattle.pages.proofs.Runs.{all_within, meets_after, no_rules}
 use Rattle.pages.proofs.Seen.{IsOwn}
+use Rattle.pages.proofs.Simulates.{TieOf, relation}
 
 -- ---- the roles
 
@@ -118,3 +127,48 @@ pub idle : {T : Type 0} → (x y : Party T) → flight_of (doing_of (Some x)) �
 idle x y free too true b = free
 idle x y free too false true = too
 idle x y free too false false = refl
+
+-- a party whose acquire of a role is over
+abbrev had : {T : Type 0} → QueueStart T → Party T
+had start = record { start = Queues start; steps = 1; backs = 0; doing = Over 0 }
+
+module _ {T Call Stage Answered Room : Type 0} {of : machine.Structure Call Stage Answered} {read : ReadingOf T Call Answered} {kind : Kind}
+    {capacity : ℕ} {code : Coding T} (tie : TieOf Room of read is_push_or_pop kind capacity kept code)
+  where
+    -- the model's machine with these words once parties 0 and 1 have acquired the roles
+    abbrev pub acquired_with : List ℕ → Trace T
+    acquired_with words =
+        trace (relation tie roles_told) 2
+        (record {
+          kept = kept;
+          words = words;
+          latest = (0, had AcquireProducer) ∷ (1, had AcquireConsumer) ∷ [];
+          changes = 2;
+          turns = 4;
+          events = roles_told;
+        })
+
+    -- If the model's machine has the page's words once the roles are acquired, fewer than 2^63 turns of the two parties lead to
+    -- where the two machines meet.
+    pub meets_acquired : {t : Trace T} → IsReached t → t ≡ acquired_with of.words → ((p : ℕ) (call : Call) → of.may p call ≡ true → p < 2)
+        → (named : machine.Turn Call → Turn T) → ((turn : machine.Turn Call) → as_turn (relation tie roles_told) 2 turn ≡ named turn)
+        → (turns : List (machine.Turn Call)) → length turns < 2 ^ 63
+        → Meets (relation tie roles_told) 2 (fold (machine.turned of) (machine.opening of) turns) (0 + length turns) (run (map named turns) t)
+    meets_acquired {t} reached is below named same turns small =
+        let law = relation tie roles_told in
+        meets_after law 2 opens named same turns (all_within law 2 below turns) (no_rules law 2 (λ w turn. tt) turns (machine.opening of)) small
+      where
+        opens : Meets (relation tie roles_told) 2 (machine.opening of) 0 t
+        opens =
+            record {
+              latest = (0, had AcquireProducer) ∷ (1, had AcquireConsumer) ∷ [];
+              changes = 2;
+              turns = 4;
+              kept = kept;
+              events = roles_told;
+              few = omega arith;
+              is = is;
+              reached = reached;
+              related = record { kept_is = refl; later = []; is = refl; told = refl; own = tt };
+              matches = λ p. idle (had AcquireProducer) (had AcquireConsumer) refl refl (is_eq (nat_cmp p 0)) (is_eq (nat_cmp p 1));
+            }

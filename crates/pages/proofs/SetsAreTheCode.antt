@@ -19,25 +19,15 @@ use Rattle.pages.specs.Reading.{asked}
 -- a stage of the bit set's page asks for the operation that the code asks for
 pub bits_asks : (c found : ℕ) (stage : bits.Stage) → bits_bridge.Fits c stage
     → ask_of (want (bits_bridge.flight c found stage)) ≡ Some (asked (bits.does c stage).0 (bits.does c stage).1)
-bits_asks c found (bits.SetLoadsElement place) fits = refl
-bits_asks c found (bits.SetExchangesElement place element) fits = refl
-bits_asks c found bits.NextLoadsPosition fits = refl
-bits_asks c found (bits.NextLoadsElement start passed) fits = refl
-bits_asks c found (bits.NextExchangesElement start passed element) fits = refl
-bits_asks c found (bits.NextStoresPosition place) fits = refl
 bits_asks c found (bits.AllSwapsElement word places) fits =
     let yes : nat_lt word (1 + elements c) ≡ true = grind (arith, nat_tests) in rw yes refl
+bits_asks c found stage fits = refl
 
 -- a stage of the bit set's page goes on from each old word as the code does
 pub bits_after : (c found : ℕ) (stage : bits.Stage) (old : ℕ)
     → after (bits_bridge.flight c found stage) old ≡ bits_bridge.went c old ((bits.does c stage).2 old)
-bits_after c found (bits.SetLoadsElement place) old = grind arith
-bits_after c found (bits.SetExchangesElement place element) old = grind arith
-bits_after c found bits.NextLoadsPosition old = grind arith
-bits_after c found (bits.NextLoadsElement start passed) old = grind arith
-bits_after c found (bits.NextExchangesElement start passed element) old = grind arith
 bits_after c found (bits.NextStoresPosition place) old = refl
-bits_after c found (bits.AllSwapsElement word places) old = grind arith
+bits_after c found stage old = grind arith
 
 pub bits_code : bits_bridge.BitSetDoesAsTheCode
 bits_code c found stage fits = (bits_asks c found stage fits, bits_after c found stage)

@@ -12,8 +12,7 @@ use Rattle.std.specs.Prelude.{slice_index}
 use Rattle.steps.specs.declared.ask.After as steps
 use Rattle.pages.specs.Handed.{HandedReading, handed, handed_after, handed_with, seen, told}
 use Rattle.pages.specs.Machine as machine
-use Rattle.pages.proofs.Relates.{Pairing}
-use Rattle.pages.proofs.Simulates.{went}
+use Rattle.pages.proofs.Relates.{Pairing, went}
 
 module _ {Call Answer Item : Type 0} (read : HandedReading Call Answer Item) where
   -- what is told of two runs of events, one behind the other, is what is told of the one and then of the other
@@ -94,7 +93,7 @@ module _ {Call Stage Answer Item : Type 0} {of : machine.Structure Call Stage An
 
     -- a step that writes these events leads the page to where the call goes: to a stage, with the items handed out, or
     -- to its response
-    pub steps_on : {Room : Type 0} → (pairing : Pairing Room of) {p : ℕ} {wrote : List (Event ℕ)} {items : List Item}
+    pub steps_on : {Room : Type 0} → (pairing : Pairing ℕ Room of) {p : ℕ} {wrote : List (Event ℕ)} {items : List Item}
         → EndsQuiet read → Writes read p wrote items → (stage : Stage) (room : Room)
         → Reads of read HandsAt pairing.answered (handed read p events ++ items) ((of.does stage).2 (slice_index w.words (of.does stage).0))
         → {z : steps.After (Flight ℕ) (answers.Answer ℕ)}

@@ -1,6 +1,6 @@
 -- When a turn of the model is taken and when it is refused, and what an operation makes of the words.
 use Rattle.std.specs.List.{AllByRecursion}
-use Rattle.std.proofs.Common.{◌^◌, is_some, nat_le}
+use Rattle.std.proofs.Common.{◌^◌, ◌||◌, is_some, nat_le}
 use Rattle.std.proofs.lemmas.Bool.Decides.{nat_tests}
 use Rattle.model.proofs.Names.{Bool, List, None, Option, Some, Trace, []}
 use Rattle.model.proofs.Names.{after_turn, ap, arith, ask_of}
@@ -22,6 +22,23 @@ use Rattle.model.specs.declared.turn.Turn.{Turn}
 use Rattle.pages.specs.Machine as machine
 use Rattle.pages.specs.Reading.{asked}
 use Rattle.pages.proofs.Seen.{IsOwn}
+
+-- ---- tests
+
+-- what holds of both holds of either
+pub either : {A : Type 0} (P : A → Type 0) (b : Bool) (x y : A) → P x → P y → P (cond b x y)
+either P true x y one two = one
+either P false x y one two = two
+
+-- what holds of the one where the test says so, and of the other where it does not, holds of either
+pub either_so : {A : Type 0} (P : A → Type 0) (b : Bool) (x y : A) → (b ≡ true → P x) → (b ≡ false → P y) → P (cond b x y)
+either_so P true x y one two = one refl
+either_so P false x y one two = two refl
+
+-- where neither is so the first is not
+pub neither : (a b : Bool) → (a || b) ≡ false → a ≡ false
+neither true b e = absurd (cc)
+neither false b e = refl
 
 -- ---- rows
 
@@ -62,13 +79,7 @@ asks_no_question wants.Nothing ask e = refl
 pub words_same : (words : List ℕ) (word : ℕ) (op : machine.Operation)
     → words_after words (Some (asked word op)) ≡ slice_set words word (machine.written op (slice_index words word))
 words_same words word machine.Load = refl
-words_same words word (machine.Store new) = refl
-words_same words word (machine.Add by) = refl
-words_same words word (machine.Exchange from to) = refl
-words_same words word (machine.Swap new) = refl
-words_same words word (machine.Sub by) = refl
-words_same words word (machine.And bits) = refl
-words_same words word (machine.Or bits) = refl
+words_same words word op = refl
 
 pub own_more : {T : Type 0} → (is_call : Start T → Bool) (es more : List (Event T)) → AllByRecursion (IsOwn is_call) es
     → AllByRecursion (IsOwn is_call) more → AllByRecursion (IsOwn is_call) (es ++ more)

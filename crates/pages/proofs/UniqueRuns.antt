@@ -1,12 +1,10 @@
 -- The page of the unique index set is about machines, turn by turn, and so no index has two holders.
-use Rattle.std.specs.List.{AllByRecursion}
 use Rattle.std.specs.Prelude.{replicate, slice_index_or}
 use Rattle.std.proofs.Common.{nat_le, nat_lt, slice_set, ◌^◌, ◌%◌, ◌/◌}
 use Rattle.std.proofs.lemmas.Bool.Decides.{nat_tests}
 use Rattle.model.proofs.Names.{Bool, IsCoding, IsReached, List, None, Option, Some, Trace, [], answer_in, ap, append-nil, append_assoc, arith}
-use Rattle.model.proofs.Names.{cond, false, first_of, first_row, fold, length, map, not, one_word, opening, refl, slice_index, step_of, subst, sym, true}
+use Rattle.model.proofs.Names.{false, first_of, first_row, fold, length, map, not, one_word, opening, refl, slice_index, step_of, subst, sym, true}
 use Rattle.model.proofs.Names.{ℕ, ◌++◌, ◌+◌, ◌-◌, ◌<◌, ◌==◌, ◌∙◌, ◌∷◌, ◌≡◌, ◌≤◌}
-use Rattle.model.proofs.Reached.{reached_opening}
 use Rattle.model.specs.declared.event.Answer.{Answer}
 use Rattle.model.specs.declared.event.Event.{Event}
 use Rattle.model.specs.declared.event.Event.TheVariants.{Begun, Freed}
@@ -21,7 +19,7 @@ use Rattle.model.specs.Families.{begin_rows}
 use Rattle.model.specs.Families.Indices.Calls.{after}
 use Rattle.model.specs.Families.Indices.Promises.{HoldsRight, IsIndexSet}
 use Rattle.model.specs.Families.Indices.Steps.{effects, frees, wrote}
-use Rattle.model.specs.Families.Queues.Opening.{holds}
+use Rattle.model.specs.Families.Queues.Opening as queues
 use Rattle.model.specs.Promises.Families.{promise_of}
 use Rattle.model.specs.Reading as readings
 use Rattle.model.specs.Step.{as_call}
@@ -33,9 +31,10 @@ use Rattle.pages.specs.Reading.{IsSame}
 use Rattle.pages.specs.UniqueIndexSet as page
 use Rattle.pages.specs.UniqueIndexSetBridge as bridge
 use Rattle.pages.proofs.Holders.{History, Knows, Page, Rel, Related, begins_acquire, begins_release, frees_it, goes_on, no_end, responds, told_of}
-use Rattle.pages.proofs.Relates.{AllRules, IsWithin, Meets, Pairing, Relation, StepsRight, all_turns}
+use Rattle.pages.proofs.Relates.{AllRules, GoesAlong, Meets, Pairing, Relation, StepsRight, went}
 use Rattle.pages.proofs.Relates as relates
-use Rattle.pages.proofs.Simulates.{went}
+use Rattle.pages.proofs.Runs.{are_within, meets_after, reached_by}
+use Rattle.pages.proofs.Turns.{either}
 use Rattle.pages.proofs.UniqueIndexSet.{after_same, asks_same}
 
 -- ---- turn by turn
@@ -68,57 +67,28 @@ module _ (c : ℕ) where
 
   -- an acquire that has seen the head goes on as an acquire
   sees_right : (stage : page.Stage) (old : ℕ) → call_at stage ≡ page.Acquire → GoesRight stage (page.sees c old)
-  sees_right stage old is = go (old % 2 ^ 24 == 2 ^ 24 - 1) (old % 2 ^ 24 == c) (nat_lt (old / 2 ^ 40) c)
-    where
-      -- the cases are what the three tests answer
-      go : (x y z : Bool)
-          → GoesRight stage
-          (cond x (machine.Done page.IsLocked) (cond y (machine.Done page.OutOfIndices)
-          (cond z (machine.GoOn (page.AcquireLoadsNext old)) (machine.GoOn (page.AcquireExchangesHead old (old / 2 ^ 40))))))
-      go true y z = tt
-      go false true z = tt
-      go false false true = (sym is, refl)
-      go false false false = (sym is, refl)
+  sees_right stage old is =
+      let P = GoesRight stage in
+      either P (old % 2 ^ 24 == 2 ^ 24 - 1) _ _ tt
+      (either P (old % 2 ^ 24 == c) _ _ tt (either P (nat_lt (old / 2 ^ 40) c) _ _ (sym is, refl) (sym is, refl)))
 
   -- a call that goes on is the same call, and clears no flag next
   right : (stage : page.Stage) (old : ℕ) → GoesRight stage ((page.does c stage).2 old)
   right page.AcquireLoadsHead old = sees_right page.AcquireLoadsHead old refl
   right (page.AcquireLoadsNext head) old = (refl, refl)
-  right (page.AcquireExchangesHead head next) old = go (old == head) (nat_lt (head / 2 ^ 40) c) (sees_right (page.AcquireExchangesHead head next) old refl)
-    where
-      -- the cases are whether the acquire's exchange found the head, and whether an index is left
-      go : (x y : Bool) → GoesRight (page.AcquireExchangesHead head next) (page.sees c old)
-          → GoesRight (page.AcquireExchangesHead head next)
-          (cond x (machine.GoOn (cond y (page.AcquireClaims (head / 2 ^ 40)) (page.AcquireScans 0))) (page.sees c old))
-      go true true more = (refl, refl)
-      go true false more = (refl, refl)
-      go false y more = more
-  right (page.AcquireClaims index) old = go (page.has_flag old index)
-    where
-      go : (x : Bool) → GoesRight (page.AcquireClaims index) (cond x (machine.GoOn (page.AcquireScans 0)) (machine.Done (page.Acquired index)))
-      go true = (refl, refl)
-      go false = tt
-  right (page.AcquireScans index) old = go (page.has_flag old index)
-    where
-      -- the cases are whether the index has its flag
-      go : (x : Bool)
-          → GoesRight (page.AcquireScans index)
-          (cond x (machine.GoOn (page.AcquireScans (cond (nat_lt (index + 1) c) (index + 1) 0))) (machine.Done (page.Acquired index)))
-      go true = (refl, refl)
-      go false = tt
+  right (page.AcquireExchangesHead head next) old =
+      let P = GoesRight (page.AcquireExchangesHead head next) in
+      either P (old == head) _ _ (either (λ then. P (machine.GoOn then)) (nat_lt (head / 2 ^ 40) c) _ _ (refl, refl) (refl, refl))
+      (sees_right (page.AcquireExchangesHead head next) old refl)
+  right (page.AcquireClaims index) old = either (GoesRight (page.AcquireClaims index)) (page.has_flag old index) _ _ (refl, refl) tt
+  right (page.AcquireScans index) old = either (GoesRight (page.AcquireScans index)) (page.has_flag old index) _ _ (refl, refl) tt
   right (page.ReleaseClearsFlag index l) old = (refl, refl)
   right (page.ReleaseLoadsHead index l) old = (refl, refl)
   right (page.ReleaseStoresNext index l head) old = (refl, refl)
-  right (page.ReleaseExchangesHead index l head) old = go (old == head) l
-    where
-      -- the cases are whether the release's exchange found the head, and whether it locks
-      go : (x l : Bool)
-          → GoesRight (page.ReleaseExchangesHead index l head)
-          (cond x (machine.Done (page.Released (page.locks l head)))
-          (cond l (machine.GoOn (page.ReleaseStoresNext index l old)) (machine.GoOn (page.ReleaseSubtracts index))))
-      go true l = tt
-      go false true = (refl, refl)
-      go false false = (refl, refl)
+  right (page.ReleaseExchangesHead index true head) old =
+      either (GoesRight (page.ReleaseExchangesHead index true head)) (old == head) _ _ tt (refl, refl)
+  right (page.ReleaseExchangesHead index false head) old =
+      either (GoesRight (page.ReleaseExchangesHead index false head)) (old == head) _ _ tt (refl, refl)
   right (page.ReleaseSubtracts index) old = tt
 
   -- what a step writes: the index that it frees, or what its answer says
@@ -135,11 +105,8 @@ module _ (c : ℕ) where
   effects_same : (p : ℕ) (o : Option ℕ) (a : machine.After page.Stage page.Answer) → effects p o (answer_in (bridge.went c a)) ≡ wrote_of p o a
   effects_same p (Some index) a = refl
   effects_same p None (machine.GoOn next) = refl
-  effects_same p None (machine.Done (page.Acquired index)) = refl
-  effects_same p None (machine.Done page.OutOfIndices) = refl
-  effects_same p None (machine.Done page.IsLocked) = refl
   effects_same p None (machine.Done (page.Released true)) = refl
-  effects_same p None (machine.Done (page.Released false)) = refl
+  effects_same p None (machine.Done answer) = refl
 
   -- a stage frees an index by the model where it clears its flag
   frees_same : (stage : page.Stage) → frees (bridge.flight c stage) ≡ freed_by stage
@@ -214,18 +181,7 @@ module _ (c : ℕ) where
   -- one step frees an index: the release that clears its flag
   related_then events w p (page.ReleaseClearsFlag index l) words old r here knows = frees_it c events w.history w.pending p index l r here
   -- every other step frees none, and goes on at no such stage
-  related_then events w p page.AcquireLoadsHead words old r here knows = frees_none w p page.AcquireLoadsHead words old r knows
-  related_then events w p (page.AcquireLoadsNext head) words old r here knows = frees_none w p (page.AcquireLoadsNext head) words old r knows
-  related_then events w p (page.AcquireExchangesHead head next) words old r here knows =
-      frees_none w p (page.AcquireExchangesHead head next) words old r knows
-  related_then events w p (page.AcquireClaims index) words old r here knows = frees_none w p (page.AcquireClaims index) words old r knows
-  related_then events w p (page.AcquireScans index) words old r here knows = frees_none w p (page.AcquireScans index) words old r knows
-  related_then events w p (page.ReleaseLoadsHead index l) words old r here knows = frees_none w p (page.ReleaseLoadsHead index l) words old r knows
-  related_then events w p (page.ReleaseStoresNext index l head) words old r here knows =
-      frees_none w p (page.ReleaseStoresNext index l head) words old r knows
-  related_then events w p (page.ReleaseExchangesHead index l head) words old r here knows =
-      frees_none w p (page.ReleaseExchangesHead index l head) words old r knows
-  related_then events w p (page.ReleaseSubtracts index) words old r here knows = frees_none w p (page.ReleaseSubtracts index) words old r knows
+  related_then events w p stage words old r here knows = frees_none w p stage words old r knows
 
   -- ---- the relation
 
@@ -241,7 +197,7 @@ module _ (c : ℕ) where
   Rule w turn = Unit {0}
 
   -- how the calls of the page are the model's, and what relates them: who holds which index
-  abbrev pairing : Pairing (Unit {0}) (page.unique_index_set c)
+  abbrev pairing : Pairing ℕ (Unit {0}) (page.unique_index_set c)
   pairing =
       record {
         call_at = call_at;
@@ -265,7 +221,7 @@ module _ (c : ℕ) where
   holds_row : (a b : Bool) → a ≡ false → b ≡ true → first_row ((false, WrongCall) ∷ (a, BadIndex) ∷ (not b, NotHeld) ∷ []) ≡ None
   holds_row a b e f = rw (e, f) refl
 
-  is_holder : (o : Option ℕ) (p : ℕ) → o ≡ Some p → holds o p ≡ true
+  is_holder : (o : Option ℕ) (p : ℕ) → o ≡ Some p → queues.holds o p ≡ true
   is_holder o p e = rw e (grind (arith, nat_tests))
 
   -- a step of the model's call leads to where the page's call goes
@@ -290,21 +246,8 @@ module _ (c : ℕ) where
       }
 
   -- the page of the unique index set goes along with the model's machine by who holds which index
-  relation : Relation pairing kinds.Indices c
-  relation =
-      record {
-        known = knows_of;
-        first_at = first_at;
-        first_fits = λ call. tt;
-        begins = begins;
-        keeps = λ k p call. refl;
-        refuses = λ events k w p call related may. absurd (cc);
-        admits = admits;
-        begun = begun;
-        asks = λ r stage fits. asks_same c stage;
-        rows = λ k r stage. refl;
-        steps = λ events k w beside p r stage related known pending fits. steps events k w beside p stage related known pending;
-      }
+  relation : Relation pairing one_word kinds.Indices c
+  relation = record { known = knows_of; first_at = first_at; first_fits = λ call. tt; asks = λ r stage fits. asks_same c stage; along = along }
     where
       first_at : (call : page.Call) → call_at (page.first call) ≡ call
       first_at page.Acquire = refl
@@ -317,31 +260,40 @@ module _ (c : ℕ) where
       begins k (page.Release index true) = refl
       begins k (page.Release index false) = refl
 
-      -- a call that the page lets begin is not refused by the model, if a release is of an index that its party holds
-      admits : (events : List (Event ℕ)) (k : Registry ℕ) (w : Page c) (p : ℕ) (call : page.Call) → Related c events k w → Knows c events k
-          → true ≡ true → w.pending p ≡ None → Rule w (machine.Begin p call)
-          → first_row (begin_rows kinds.Indices c k p (Indices (bridge.index_start call))) ≡ None
-      admits events (registries.Indices holders) w p page.Acquire related known may free rule = refl
-      admits events (registries.Indices holders) w p (page.Release index true) related known may free rule =
-          let had = related.held index p (rule free) in
-          holds_row (nat_le c index) (holds (slice_index_or holders index None) p) (grind (arith, nat_tests, had.1))
-          (is_holder (slice_index_or holders index None) p (known.keeps index ∙ had.0))
-      admits events (registries.Indices holders) w p (page.Release index false) related known may free rule =
-          let had = related.held index p (rule free) in
-          holds_row (nat_le c index) (holds (slice_index_or holders index None) p) (grind (arith, nat_tests, had.1))
-          (is_holder (slice_index_or holders index None) p (known.keeps index ∙ had.0))
-      admits events k w p call related known may free rule = absurd (known.keeps)
+      along : (events : List (Event ℕ)) (k : Registry ℕ) (w : Page c) → Related c events k w → Knows c events k
+          → GoesAlong pairing one_word kinds.Indices c events k w
+      along events (registries.Indices holders) w related known =
+          record {
+            begins = begins (registries.Indices holders);
+            keeps = λ p call. refl;
+            refuses = λ p call may. absurd (cc);
+            admits = admits;
+            begun = begun;
+            rows = λ r stage. refl;
+            steps = λ beside p r stage pending fits. step_by events w p stage beside holders related pending;
+          }
+        where
+          -- a release of an index that its party holds is not refused by the model
+          holds : (p index : ℕ) → page.holder index w.history ≡ Some p
+              → first_row ((false, WrongCall) ∷ (nat_le c index, BadIndex) ∷ (not (queues.holds (slice_index_or holders index None) p), NotHeld) ∷ []) ≡ None
+          holds p index holder =
+              let had = related.held index p holder in
+              holds_row (nat_le c index) (queues.holds (slice_index_or holders index None) p) (grind (arith, nat_tests, had.1))
+              (is_holder (slice_index_or holders index None) p (known.keeps index ∙ had.0))
 
-      begun : (events : List (Event ℕ)) (k : Registry ℕ) (w : Page c) (p : ℕ) (call : page.Call) → Related c events k w → true ≡ true
-          → w.pending p ≡ None → Rule w (machine.Begin p call)
-          → Related c (events ++ Begun p (Indices (bridge.index_start call)) ∷ []) k (machine.begun (page.unique_index_set c) w p call true None)
-      begun events k w p page.Acquire related may free rule = begins_acquire c events w.history w.pending p related
-      begun events k w p (page.Release index l) related may free rule = begins_release c events w.history w.pending p index l related (rule free)
+          -- a call that the page lets begin is not refused by the model, if a release is of an index that its party holds
+          admits : (p : ℕ) (call : page.Call) → true ≡ true → w.pending p ≡ None → Rule w (machine.Begin p call)
+              → first_row (begin_rows {T = ℕ} kinds.Indices c (registries.Indices holders) p (Indices (bridge.index_start call))) ≡ None
+          admits p page.Acquire may free rule = refl
+          admits p (page.Release index true) may free rule = holds p index (rule free)
+          admits p (page.Release index false) may free rule = holds p index (rule free)
 
-      steps : (events : List (Event ℕ)) (k : Registry ℕ) (w : Page c) (beside : Option (ℕ × ℕ)) (p : ℕ) (stage : page.Stage)
-          → Related c events k w → Knows c events k → w.pending p ≡ Some stage → StepIs events w p stage beside k
-      steps events (registries.Indices holders) w beside p stage related known here = step_by events w p stage beside holders related here
-      steps events k w beside p stage related known here = absurd (known.keeps)
+          begun : (p : ℕ) (call : page.Call) → true ≡ true → w.pending p ≡ None → Rule w (machine.Begin p call)
+              → Related c (events ++ Begun p (Indices (bridge.index_start call)) ∷ []) (registries.Indices holders)
+              (machine.begun (page.unique_index_set c) w p call true None)
+          begun p page.Acquire may free rule = begins_acquire c events w.history w.pending p related
+          begun p (page.Release index l) may free rule = begins_release c events w.history w.pending p index l related (rule free)
+      along events k w related known = absurd (known.keeps)
 
   -- ---- the rule of the callers, from the history at the end
 
@@ -401,17 +353,9 @@ module _ (c : ℕ) where
   world_of turns = fold (machine.turned (page.unique_index_set c)) (machine.opening (page.unique_index_set c)) turns
 
   -- the turns of the relation are those of the page's specification
-  same_turns : (parties : ℕ) (turns : List (machine.Turn page.Call))
-      → map (relates.as_turn relation parties) turns ≡ map bridge.as_turn turns
-  same_turns parties [] = refl
-  same_turns parties (machine.Begin p call ∷ turns) = ap (λ ts. bridge.as_turn (machine.Begin p call) ∷ ts) (same_turns parties turns)
-  same_turns parties (machine.Next p ∷ turns) = ap (λ ts. bridge.as_turn (machine.Next p) ∷ ts) (same_turns parties turns)
-
-  within_of : (parties : ℕ) (turns : List (machine.Turn page.Call)) → AreWithin parties turns
-      → AllByRecursion (IsWithin relation parties) turns
-  within_of parties [] within = tt
-  within_of parties (machine.Begin p call ∷ turns) within = (within.0, within_of parties turns within.1)
-  within_of parties (machine.Next p ∷ turns) within = (tt, within_of parties turns within.1)
+  same_turn : (parties : ℕ) (turn : machine.Turn page.Call) → relates.as_turn relation parties turn ≡ bridge.as_turn turn
+  same_turn parties (machine.Begin p call) = refl
+  same_turn parties (machine.Next p) = refl
 
   coded : IsCoding one_word
   coded = grind arith
@@ -429,7 +373,7 @@ module _ (c : ℕ) where
         events = [];
         few = omega arith;
         is = refl;
-        reached = reached_opening one_word kinds.Indices c parties coded (grind (arith, nat_tests));
+        reached = reached_by one_word kinds.Indices c parties [] coded (grind (arith, nat_tests));
         related = record {
           told = refl;
           held = λ i p e. absurd (cc);
@@ -446,10 +390,8 @@ module _ (c : ℕ) where
       → Meets relation parties (world_of turns) (0 + length turns)
       (run (map bridge.as_turn turns) (opening one_word kinds.Indices c parties))
   meets parties turns some few within small own =
-      subst (λ ts. Meets relation parties (world_of turns) (0 + length turns)
-      (run ts (opening one_word kinds.Indices c parties))) (same_turns parties turns)
-      (all_turns relation parties turns (within_of parties turns within) (rules_of parties turns (machine.opening (page.unique_index_set c)) own)
-      (omega arith) (opens parties some few))
+      meets_after relation parties (opens parties some few) bridge.as_turn (same_turn parties) turns
+      (are_within relation parties turns within) (rules_of parties turns (machine.opening (page.unique_index_set c)) own) small
 
 -- what the page runs is what the model's machine runs
 pub runs : bridge.UniqueRunsAsTheMachine

@@ -2,10 +2,10 @@
 use Rattle.std.specs.List.{AllByRecursion, Contains}
 use Rattle.std.proofs.Common.{◌%◌, ◌^◌, ◌-◌, is_some, mod-lt}
 use Rattle.std.specs.Ordering.{is_eq, nat_cmp}
-use Rattle.model.proofs.Names.{fold, Bool, IsCoding, IsReached, List, None, Option, Some, Trace, World, [], after_turn}
+use Rattle.model.proofs.Names.{fold, Bool, IsCoding, List, None, Option, Some, Trace, World, [], after_turn}
 use Rattle.model.proofs.Names.{answer_in, ap, arith, ask_of, cond, doing_of, false, first_row}
-use Rattle.model.proofs.Names.{flight_of, length, map, one_word, opening, refl, refusal_of, step_of}
-use Rattle.model.proofs.Names.{subst, true, ℕ, ⊎_elim, ◌++◌, ◌+◌, ◌<◌, ◌==◌, ◌∙◌, ◌∷◌, ◌≡◌, ◌≤◌}
+use Rattle.model.proofs.Names.{flight_of, length, map, one_word, opening, refl, step_of}
+use Rattle.model.proofs.Names.{true, ℕ, ⊎_elim, ◌++◌, ◌+◌, ◌<◌, ◌==◌, ◌∙◌, ◌∷◌, ◌≡◌, ◌≤◌}
 use Rattle.model.proofs.Names as model
 use Rattle.model.specs.declared.event.Answer.{Answer}
 use Rattle.model.specs.declared.event.Answer.TheVariants as answers
@@ -32,7 +32,6 @@ use Rattle.model.specs.Step.{as_call}
 use Rattle.model.specs.Turns.{attempt, run}
 use Rattle.model.proofs.Linearizable.Kinds.{run_linearizable}
 use Rattle.model.proofs.Linearizable.Members.{split, there}
-use Rattle.model.proofs.Reached.{reached_more, reached_opening, run_keeps}
 use Rattle.laws_value.proofs.Sound.{value_keeps}
 use Rattle.steps.specs.declared.ask.Op.TheVariants.{Load, Store}
 use Rattle.steps.specs.Atomic.{cell_word}
@@ -43,11 +42,13 @@ use Rattle.pages.specs.ValueBridge.{LoadsByTable, StoresByTable, ValueDoesAsTheC
 use Rattle.pages.specs.ValueBridge.{acquires, answer_seen, answered, as_turn, call_seen, flight, parties_of, read_then}
 use Rattle.pages.specs.ValueBridge.{reading, role_told, value_start, went}
 use Rattle.pages.specs.Reading.{all_seen, asked}
-use Rattle.pages.proofs.Seen.{IsObject, IsOwn, carried}
-use Rattle.pages.proofs.Simulates.{GoesRight, Sim, StepIs, Tie, all_turns, trace}
-use Rattle.pages.proofs.Turns.{not_past, taken}
-use Rattle.pages.proofs.Simulates as simulates
+use Rattle.pages.proofs.Seen.{IsObject, IsOwn}
+use Rattle.pages.proofs.Relates.{Meets, Relation}
+use Rattle.pages.proofs.Relates as relates
+use Rattle.pages.proofs.Runs.{meets_after, no_rules, reached_by}
 use Rattle.pages.proofs.Roles.{holds_row, lacks_row}
+use Rattle.pages.proofs.Simulates.{GoesRight, StepIs, Tie, linearizable_seen, pairing, reached_now, relation, run_now, same}
+use Rattle.pages.proofs.Turns.{either, not_past, taken}
 
 -- ---- the tables are the same
 
@@ -70,40 +71,24 @@ cell_is k =
 
 -- a stage of the page asks for the operation that the code asks for
 pub asks_same : (before : ℕ) (stage : page.Stage) → ask_of (want one_word (flight before stage)) ≡ Some (asked (page.does stage).0 (page.does stage).1)
-asks_same before (page.StoreLoadsVersion value) = refl
 asks_same before (page.StoreStoresCell value version) = ap (λ k. Some (record { word = k; op = Store value })) (cell_is version)
-asks_same before (page.StoreAddsVersion value) = refl
-asks_same before page.LoadLoadsVersion = refl
 asks_same before (page.LoadLoadsCell version) = ap (λ k. Some (record { word = k; op = Load })) (cell_is ((version + 2 ^ 64 - 1) % 2 ^ 64))
-asks_same before (page.LoadChecksVersion version value) = refl
+asks_same before stage = refl
 
 -- a stage of the page goes on from each old word as the code does
 after_same : (before : ℕ) (stage : page.Stage) (old : ℕ) → after one_word (flight before stage) old ≡ went (read_then before stage) (comes stage old)
 after_same before (page.StoreLoadsVersion value) old = grind arith
-after_same before (page.StoreStoresCell value version) old = refl
-after_same before (page.StoreAddsVersion value) old = refl
-after_same before page.LoadLoadsVersion old = refl
-after_same before (page.LoadLoadsCell version) old = refl
 after_same before (page.LoadChecksVersion version value) old = grind arith
+after_same before stage old = refl
 
 -- where a call goes on it is the same call
 pub right : (stage : page.Stage) (old : ℕ) → GoesRight call_at (λ stage. true) (call_at stage) (comes stage old)
-right (page.StoreLoadsVersion value) old = go (old == 2 ^ 64 - 1)
-  where
-    -- the cases are whether the version is at its end
-    go : (b : Bool) → GoesRight call_at (λ stage. true) (page.StoreValue value)
-        (cond b (machine.Done (page.Stored false)) (machine.GoOn (page.StoreStoresCell value old)))
-    go true = tt
-    go false = (refl, refl)
+right (page.StoreLoadsVersion value) old = either (GoesRight call_at (λ stage. true) (page.StoreValue value)) (old == 2 ^ 64 - 1) _ _ tt (refl, refl)
 right (page.StoreStoresCell value version) old = (refl, refl)
 right (page.StoreAddsVersion value) old = tt
 right page.LoadLoadsVersion old = (refl, refl)
 right (page.LoadLoadsCell version) old = (refl, refl)
-right (page.LoadChecksVersion version value) old = go (old == version)
-  where
-    go : (b : Bool) → GoesRight call_at (λ stage. true) page.LoadValue (cond b (machine.Done (page.Loaded value)) (machine.GoOn (page.LoadLoadsCell old)))
-    go true = tt
-    go false = (refl, refl)
+right (page.LoadChecksVersion version value) old = either (GoesRight call_at (λ stage. true) page.LoadValue) (old == version) _ _ tt (refl, refl)
 
 -- ---- what a step does beside
 
@@ -127,7 +112,7 @@ kept = registries.Atomic (Some 0)
 -- What a step came to is the same, told as of a call on a value and as of any call.
 went_same : (before : ℕ) (a : (machine.After page.Stage page.Answer))
     → as_call flights.Atomic (λ (answer : Answer ℕ). answer) (went before a)
-    ≡ simulates.went (λ stage. flights.Atomic (flight before stage)) answered a
+    ≡ relates.went (λ stage. flights.Atomic (flight before stage)) answered a
 went_same before (machine.GoOn stage) = refl
 went_same before (machine.Done answer) = refl
 
@@ -272,16 +257,24 @@ acquires_then n lt =
 acquired_is : (n : ℕ) → 0 < n → acquired n ≡ after_turn (begun n) (Next 0)
 acquired_is n lt = ap (λ t. attempt t (Next 0)) (begins_acquire n lt) ∙ acquires_then n lt
 
--- behind the acquire the two machines are the same
-opens : (n : ℕ) → 0 < n → Sim tie n role_told (machine.opening page.value) 0 (acquired n)
+-- the page goes along with the model's machine behind the acquire
+abbrev law : Relation (pairing tie role_told) one_word kinds.Atomic 1
+law = relation tie role_told
+
+-- behind the acquire the two machines meet
+opens : (n : ℕ) → 0 < n → Meets law n (machine.opening page.value) 0 (acquired n)
 opens n lt =
     let last = after_turn (begun n) (Next 0) in
     record {
-      now = record { latest = last.world.latest; changes = last.world.changes; turns = last.world.turns; events = [] };
+      latest = last.world.latest;
+      changes = last.world.changes;
+      turns = last.world.turns;
+      kept = kept;
+      events = role_told;
       few = omega arith;
       is = acquired_is n lt;
-      told = refl;
-      own = tt;
+      reached = reached_by one_word kinds.Atomic 1 n acquires coded refl;
+      related = record { kept_is = refl; later = []; is = refl; told = refl; own = tt };
       matches = λ p. idle _ refl (is_eq (nat_cmp p 0));
     }
   where
@@ -294,61 +287,41 @@ at_least_one [] = omega arith
 at_least_one (machine.Begin p call ∷ turns) = let more = at_least_one turns in omega arith
 at_least_one (machine.Next p ∷ turns) = at_least_one turns
 
-all_within : (n : ℕ) (turns : List (machine.Turn page.Call)) → parties_of turns ≤ n → AllByRecursion (simulates.IsWithin tie n role_told) turns
+all_within : (n : ℕ) (turns : List (machine.Turn page.Call)) → parties_of turns ≤ n → AllByRecursion (relates.IsWithin law n) turns
 all_within n [] le = tt
 all_within n (machine.Begin p call ∷ turns) le = ((λ m. omega arith), all_within n turns (omega arith))
 all_within n (machine.Next p ∷ turns) le = (tt, all_within n turns le)
 
-same_turns : (n : ℕ) (turns : List (machine.Turn page.Call)) → map (simulates.as_turn tie n role_told) turns ≡ map as_turn turns
+-- the turns are those of the page's specification
+same_turn : (n : ℕ) (turn : machine.Turn page.Call) → relates.as_turn law n turn ≡ as_turn turn
 unfolding tie
-same_turns n [] = refl
-same_turns n (machine.Begin p call ∷ turns) = ap (λ ts. as_turn (machine.Begin p call) ∷ ts) (same_turns n turns)
-same_turns n (machine.Next p ∷ turns) = ap (λ ts. as_turn (machine.Next p) ∷ ts) (same_turns n turns)
-
--- The run is one of the model's, since the opening is and each turn keeps that.
-reached : (n : ℕ) (turns : List (Turn ℕ)) → IsReached (run turns (acquired n))
-reached n turns =
-    run_keeps refusal_of IsReached (λ t turn e r. reached_more t turn e r) turns (acquired n)
-    (run_keeps refusal_of IsReached (λ t turn e r. reached_more t turn e r) acquires (opened n)
-    (reached_opening one_word kinds.Atomic 1 n coded refl))
+same_turn n (machine.Begin p call) = refl
+same_turn n (machine.Next p) = refl
 
 abbrev world_of : List (machine.Turn page.Call) → (machine.World page.Call page.Stage page.Answer)
 world_of turns = fold (machine.turned page.value) (machine.opening page.value) turns
 
--- after a list of turns the two machines are the same
-simulated : (n : ℕ) (turns : List (machine.Turn page.Call)) → parties_of turns ≤ n → length turns < 2 ^ 63
-    → Sim tie n role_told (world_of turns) (0 + length turns) (run (map as_turn turns) (acquired n))
-simulated n turns le small =
+-- after a list of turns the two machines meet
+met : (n : ℕ) (turns : List (machine.Turn page.Call)) → parties_of turns ≤ n → length turns < 2 ^ 63
+    → Meets law n (world_of turns) (0 + length turns) (run (map as_turn turns) (acquired n))
+met n turns le small =
     let one = at_least_one turns in
-    subst (λ ts. Sim tie n role_told (world_of turns) (0 + length turns) (run ts (acquired n))) (same_turns n turns)
-    (all_turns tie n role_told turns (all_within n turns le) (omega arith) (opens n (omega arith)))
+    meets_after law n (opens n (omega arith)) as_turn (same_turn n) turns (all_within n turns le) (no_rules law n (λ w turn. tt) turns _) small
 
 -- what the page runs is linearizable as the register
 pub linearizable : (turns : List (machine.Turn page.Call)) → length turns < 2 ^ 63
     → machine.IsLinearizable page.register (world_of turns).history
 linearizable turns small =
-    let n = parties_of turns in
-    let meeting = simulated n turns (omega arith) small in
-    let run_now = trace tie n role_told (world_of turns).words meeting.now in
-    let is_reached : IsReached run_now = subst IsReached meeting.is (reached n (map as_turn turns)) in
-    let keeps = (value_keeps {T = ℕ}).kept run_now refl is_reached in
-    subst (machine.IsLinearizable page.register) meeting.told
-    (carried reading is_register role_told 2 meeting.now.events meeting.own (among meeting.now.events) (within meeting.now.events)
-    (run_linearizable run_now keeps))
+    let s = met (parties_of turns) turns (omega arith) small in
+    let keeps = (value_keeps {T = ℕ}).kept (run_now s) refl (reached_now s) in
+    linearizable_seen s is_register 2 among within (run_linearizable (run_now s) keeps)
 
 pub code : ValueDoesAsTheCode
 code before stage = (asks_same before stage, after_same before stage)
 
 -- the words, invocations and responses of the page's machine are those of the model's
 pub runs : ValueRunsAsTheMachine
-runs turns n le small =
-    let meeting = simulated n turns le small in
-    record {
-      events = meeting.now.events;
-      is = ap (λ (t : Trace ℕ). t.events) meeting.is;
-      history = meeting.told;
-      words = ap (λ (t : Trace ℕ). t.world.words) meeting.is;
-    }
+runs turns n le small = same (met n turns le small)
 
 pub by_stores : StoresByTable
 by_stores value stage old = (refl, refl)

@@ -1,19 +1,21 @@
 -- The single value of the model, on which the role changes hands, runs the page.
 use Rattle.std.proofs.Common.{◌⊎◌, inl, inr, subst, suc, zero}
 use Rattle.std.specs.Prelude.{slice_set}
-use Rattle.model.proofs.Names.{List, None, Option, Some, [], arith, ask_of, false, first_of, first_row, is_question, kept_after_begin, old_of}
-use Rattle.model.proofs.Names.{one_word, opening, refl, step_of, sym, true, want_of, ℕ, ◌+◌, ◌∷◌, ◌≡◌}
+use Rattle.model.proofs.Names.{List, None, Option, Some, [], ap, arith, ask_of, false, first_of, first_row, is_question, kept_after_begin, old_of}
+use Rattle.model.proofs.Names.{one_word, opening, refl, step_of, sym, true, want_of, words_after, ℕ, ◌+◌, ◌∷◌, ◌≡◌}
 use Rattle.model.specs.declared.event.Answer.{Answer}
 use Rattle.model.specs.declared.event.Start.{Start}
 use Rattle.model.specs.declared.event.Start.TheVariants.{Atomic, Container, Loan}
 use Rattle.model.specs.declared.families.Flight.{Flight}
 use Rattle.model.specs.declared.families.Flight.TheVariants as flights
+use Rattle.model.specs.declared.families.Registry.{Registry}
 use Rattle.model.specs.declared.families.Registry.TheVariants as registries
 use Rattle.model.specs.declared.families.atomic.AtomicStart.TheVariants.{AcquireProducer, HasProducer, Load, ReleaseProducer, Store, Version}
 use Rattle.model.specs.declared.turn.Kind.TheVariants as kinds
 use Rattle.model.specs.Families.{begin_of}
 use Rattle.model.specs.Families.Atomic.Calls as calls
 use Rattle.model.specs.Linearized.{is_store_or_load}
+use Rattle.model.specs.Step.{Step}
 use Rattle.steps.specs.declared.ask.After.TheVariants as afters
 use Rattle.pages.specs.RolesBridge.{RunsByRole}
 use Rattle.pages.specs.Machine as machine
@@ -73,13 +75,8 @@ StepOf role p start flight words beside =
 -- a call that the page has not stays where it stands as long as its party keeps the role
 others_stay : (k next : Option ℕ) (q : ℕ) → (k ≡ Some q → next ≡ Some q)
     → (start : Start ℕ) (flight : Flight ℕ) → Other k q start flight → Other next q start flight
-others_stay k next q holds (Atomic AcquireProducer) flight h = h
 others_stay k next q holds (Atomic ReleaseProducer) flight h = (h.0, holds h.1)
-others_stay k next q holds (Atomic HasProducer) flight h = h
-others_stay k next q holds (Atomic Version) flight h = h
-others_stay k next q holds (Atomic (Store value)) flight h = absurd h
-others_stay k next q holds (Atomic Load) flight h = absurd h
-others_stay k next q holds other flight h = absurd h
+others_stay k next q holds start flight h = h
 
 no_one : {A : Type 0} {q : ℕ} → None ≡ Some q → A
 no_one e = absurd (cc)
@@ -88,6 +85,29 @@ ended : {A : Type 0} {answer : Answer ℕ} {then : Flight ℕ} → afters.Done a
 ended e = absurd (cc)
 
 module _ (p version : ℕ) (cells : List ℕ) (beside : Option (ℕ × ℕ)) where
+  -- a step that leaves the words and the role, and writes nothing, is as `StepOf` asks, if it ends the call or goes on as one that
+  -- the page has not
+  module _ (role : Option ℕ) (start : Start ℕ) (flight : Flight ℕ) where
+    abbrev words_now : List ℕ
+    words_now = version ∷ free role ∷ cells
+
+    abbrev step : Step (Flight ℕ) (Registry ℕ) ℕ
+    step = step_of one_word words_now beside p start flight (old_of words_now (ask_of (want_of one_word flight))) (registries.Atomic role)
+
+    leaves_all : words_after words_now (ask_of (want_of one_word flight)) ≡ words_now → step.kept ≡ registries.Atomic role → step.wrote ≡ []
+        → ((then : Flight ℕ) → step.after ≡ afters.GoOn then → Other role p start then) → StepOf role p start flight words_now beside
+    leaves_all alone kept_is silent stays =
+        record {
+          next = role;
+          kept_is = kept_is;
+          silent = silent;
+          blank_is = ap blank alone;
+          tells = subst (Tells role) (sym alone) (record { version = version; cells = cells; is = refl });
+          stays = stays;
+          who_is = λ n. inl refl;
+          others = λ q start flight ne h. h;
+        }
+
   -- a step of an acquire takes the role where it is free, and tells the page nothing
   acquire : (role : Option ℕ) → StepOf role p (Atomic AcquireProducer) acquires (version ∷ free role ∷ cells) beside
   acquire None =
@@ -106,17 +126,7 @@ module _ (p version : ℕ) (cells : List ℕ) (beside : Option (ℕ × ℕ)) whe
       who_is : (n : ℕ) → (who (Some p) n ≡ who None n) ⊎ ((who None n ≡ None) ⊎ (who None n ≡ Some p))
       who_is zero = inr (inl refl)
       who_is (suc n) = inl refl
-  acquire (Some r) =
-      record {
-        next = Some r;
-        kept_is = refl;
-        silent = refl;
-        blank_is = refl;
-        tells = record { version = version; cells = cells; is = refl };
-        stays = λ then e. ended e;
-        who_is = λ n. inl refl;
-        others = λ q start flight ne h. h;
-      }
+  acquire (Some r) = leaves_all (Some r) (Atomic AcquireProducer) acquires refl refl refl (λ then e. ended e)
 
   -- a step of a release frees the role, and tells the page nothing
   release : (role : Option ℕ) → role ≡ Some p → StepOf role p (Atomic ReleaseProducer) releases (version ∷ free role ∷ cells) beside
@@ -138,31 +148,11 @@ module _ (p version : ℕ) (cells : List ℕ) (beside : Option (ℕ × ℕ)) whe
 
   -- a call that changes nothing
   look : (role : Option ℕ) → StepOf role p (Atomic HasProducer) looks (version ∷ free role ∷ cells) beside
-  look role =
-      record {
-        next = role;
-        kept_is = refl;
-        silent = refl;
-        blank_is = refl;
-        tells = record { version = version; cells = cells; is = refl };
-        stays = λ then e. ended e;
-        who_is = λ n. inl refl;
-        others = λ q start flight ne h. h;
-      }
+  look role = leaves_all role (Atomic HasProducer) looks refl refl refl (λ then e. ended e)
 
   -- a step that loads the version changes nothing, and tells the page nothing
   count : (role : Option ℕ) → StepOf role p (Atomic Version) counts (version ∷ free role ∷ cells) beside
-  count role =
-      record {
-        next = role;
-        kept_is = refl;
-        silent = refl;
-        blank_is = refl;
-        tells = record { version = version; cells = cells; is = refl };
-        stays = λ then e. ended e;
-        who_is = λ n. inl refl;
-        others = λ q start flight ne h. h;
-      }
+  count role = leaves_all role (Atomic Version) counts refl refl refl (λ then e. ended e)
 
 -- a step of a call that the page has not comes to what it may
 goes_other : (role : Option ℕ) (words : List ℕ) (beside : Option (ℕ × ℕ)) (p : ℕ) (start : Start ℕ) (flight : Flight ℕ)
@@ -181,19 +171,13 @@ goes_other role words beside p (Atomic HasProducer) flight h tells =
 goes_other role words beside p (Atomic Version) flight h tells =
     subst (λ ws. StepOf role p (Atomic Version) flight ws beside) (sym tells.is)
     (subst (λ f. StepOf role p (Atomic Version) f (tells.version ∷ free role ∷ tells.cells) beside) (sym h) (count p tells.version tells.cells beside role))
-goes_other role words beside p (Atomic (Store value)) flight h tells = absurd h
-goes_other role words beside p (Atomic Load) flight h tells = absurd h
 goes_other role words beside p other flight h tells = absurd h
 
 -- a call that the page has not is no store or load
 not_own : (role : Option ℕ) (p : ℕ) (start : Start ℕ) (flight : Flight ℕ) → Other role p start flight → is_store_or_load start ≡ false
-not_own role p (Atomic AcquireProducer) flight h = refl
-not_own role p (Atomic ReleaseProducer) flight h = refl
-not_own role p (Atomic HasProducer) flight h = refl
-not_own role p (Atomic Version) flight h = refl
 not_own role p (Atomic (Store value)) flight h = absurd h
 not_own role p (Atomic Load) flight h = absurd h
-not_own role p other flight h = absurd h
+not_own role p other flight h = refl
 
 -- a call that the page has not puts no question
 asks_nothing : (role : Option ℕ) (p : ℕ) (start : Start ℕ) (flight : Flight ℕ) → Other role p start flight → is_question (want_of one_word flight) ≡ false
@@ -201,8 +185,6 @@ asks_nothing role p (Atomic AcquireProducer) flight h = subst (λ f. is_question
 asks_nothing role p (Atomic ReleaseProducer) flight h = subst (λ f. is_question (want_of one_word f) ≡ false) (sym h.0) refl
 asks_nothing role p (Atomic HasProducer) flight h = subst (λ f. is_question (want_of one_word f) ≡ false) (sym h) refl
 asks_nothing role p (Atomic Version) flight h = subst (λ f. is_question (want_of one_word f) ≡ false) (sym h) refl
-asks_nothing role p (Atomic (Store value)) flight h = absurd h
-asks_nothing role p (Atomic Load) flight h = absurd h
 asks_nothing role p other flight h = absurd h
 
 -- ---- the calls of the page
@@ -229,8 +211,6 @@ other k p (Atomic AcquireProducer) flight mine named rows = the_flight named
 other k p (Atomic ReleaseProducer) flight mine named rows = (the_flight named, holder_is k p rows)
 other k p (Atomic HasProducer) flight mine named rows = the_flight named
 other k p (Atomic Version) flight mine named rows = the_flight named
-other k p (Atomic (Store value)) flight mine named rows = absurd (cc)
-other k p (Atomic Load) flight mine named rows = absurd (cc)
 other k p start flight mine named rows = absurd (cc)
 
 -- as a call begins the role stays

@@ -1,15 +1,13 @@
 -- The theorem of the page of the queue of values, from the model's.
-use Rattle.std.specs.List.{AllByRecursion}
 use Rattle.std.proofs.Common.{◌%◌, ◌*◌, ◌^◌, ◌||◌, ◌-◌, drop, is_some, replicate, mod-lt, nat_lt, take, suc}
 use Rattle.std.proofs.Math.Nat.{mul-le-mul_left}
 use Rattle.std.proofs.Math.Seq.{set-append_seam, take-append_seam}
 use Rattle.std.proofs.lemmas.Bool.Decides.{nat_tests}
 use Rattle.std.proofs.lemmas.List.{length-append, length-map, length-replicate, map-append}
-use Rattle.std.specs.Ordering.{is_eq, nat_cmp}
 use Rattle.std.specs.Prelude.{slice_index}
-use Rattle.model.proofs.Names.{fold, Bool, IsCoding, IsReached, List, None, Option, Some, Trace, [], answer_in, ap, append_assoc}
-use Rattle.model.proofs.Names.{arith, ask_of, capacity_error, cond, false, first_row, length, map, opening, refl, refusal_of}
-use Rattle.model.proofs.Names.{slice_get, step_of, subst, sym, true, ℕ, ◌++◌, ◌+◌, ◌<◌, ◌==◌, ◌∙◌, ◌∷◌, ◌≡◌, ◌≤◌}
+use Rattle.model.proofs.Names.{fold, Bool, IsCoding, List, None, Option, Some, [], answer_in, ap, append_assoc}
+use Rattle.model.proofs.Names.{arith, ask_of, capacity_error, cond, false, first_row, length, map, opening, refl}
+use Rattle.model.proofs.Names.{slice_get, step_of, sym, true, ℕ, ◌++◌, ◌+◌, ◌<◌, ◌==◌, ◌∙◌, ◌∷◌, ◌≡◌, ◌≤◌}
 use Rattle.model.proofs.Names as model
 use Rattle.model.specs.declared.event.Answer.{Answer}
 use Rattle.model.specs.declared.event.Answer.TheVariants.{Popped, Truth}
@@ -26,7 +24,6 @@ use Rattle.model.specs.declared.families.queues.calls.QueueFlight.{QueueFlight}
 use Rattle.model.specs.declared.families.queues.calls.QueueFlight.TheVariants.{Values}
 use Rattle.model.specs.declared.families.queues.calls.RingCall.TheVariants as rings
 use Rattle.model.specs.declared.turn.Kind.TheVariants as kinds
-use Rattle.model.specs.declared.turn.Turn.{Turn}
 use Rattle.model.specs.Families.{begin_rows}
 use Rattle.model.specs.Families.Queues.Calls.{after, as_it_is, kept_at, popped_value, read_in, want}
 use Rattle.model.specs.Families.Queues.Objects.{appended, answer_of_item, list_after, list_answer}
@@ -35,7 +32,6 @@ use Rattle.model.specs.Linearized.{as_list, is_push_or_pop}
 use Rattle.model.specs.Step.{as_call}
 use Rattle.model.specs.Turns.{run}
 use Rattle.model.proofs.Linearizable.Kinds.{run_linearizable}
-use Rattle.model.proofs.Reached.{reached_more, reached_opening, run_keeps}
 use Rattle.laws_queues.proofs.Queues.Sound.{queue_keeps}
 use Rattle.steps.specs.declared.ask.After.{After}
 use Rattle.steps.specs.declared.ask.After.TheVariants.{Done, GoOn}
@@ -52,10 +48,13 @@ use Rattle.pages.specs.QueueBridge.{Fits, QueueDoesAsTheCode, QueuePopsByTable, 
 use Rattle.pages.specs.QueueBridge.{acquired, answer_seen, answered, as_turn, call_seen, code_of, flight, queue_start}
 use Rattle.pages.specs.QueueBridge.{reading, room_of, went}
 use Rattle.pages.specs.Reading.{asked}
-use Rattle.pages.proofs.Seen.{IsObject, carried}
-use Rattle.pages.proofs.Simulates.{GoesRight, Sim, StepIs, TieOf, all_turns, trace}
-use Rattle.pages.proofs.Simulates as simulates
-use Rattle.pages.proofs.Roles.{among, effects_own, effects_unseen, held, holds_row, idle, kept, lacks_row, within}
+use Rattle.pages.proofs.Seen.{IsObject}
+use Rattle.pages.proofs.Relates.{Meets}
+use Rattle.pages.proofs.Relates as relates
+use Rattle.pages.proofs.Runs.{reached_by}
+use Rattle.pages.proofs.Roles.{among, effects_own, effects_unseen, held, holds_row, kept, lacks_row, meets_acquired, within}
+use Rattle.pages.proofs.Simulates.{GoesRight, StepIs, TieOf, linearizable_seen, reached_now, relation, run_now, same}
+use Rattle.pages.proofs.Turns.{either, either_so, neither}
 
 -- ---- the words of a cell, and of a room
 
@@ -126,14 +125,10 @@ module _ {T : Type 0} (how : page.Written T) where
       go false false f e = absurd (cc)
 
   pub fits_so : (c : ℕ) (stage : page.Stage T) → fits c stage ≡ true → Fits how c stage
-  fits_so c (page.PushLoadsWrite value) fitting = tt
-  fits_so c (page.PushLoadsRead value write) fitting = tt
   fits_so c (page.PushStoresCell value write stored) fitting = both_fit c stored how.size fitting
-  fits_so c (page.PushStoresWrite value write) fitting = tt
-  fits_so c page.PopLoadsRead fitting = tt
-  fits_so c (page.PopLoadsWrite read) fitting = tt
   fits_so c (page.PopLoadsCell read loaded) fitting = both_fit c (length loaded) how.size fitting
   fits_so c (page.PopStoresRead read loaded) fitting = grind (arith, nat_tests)
+  fits_so c stage fitting = tt
 
   abbrev comes : ℕ → page.Stage T → ℕ → machine.After (page.Stage T) (page.Answer T)
   comes c stage old = (page.does how c stage).2 old
@@ -141,16 +136,11 @@ module _ {T : Type 0} (how : page.Written T) where
   -- a stage of the page asks for the operation that the code asks for
   pub asks_same : (c : ℕ) (stage : page.Stage T) → c < 2 ^ 32 → Fits how c stage
       → ask_of (want (code_of how) (flight how c stage)) ≡ Some (asked (page.does how c stage).0 (page.does how c stage).1)
-  asks_same c (page.PushLoadsWrite value) few fit = refl
-  asks_same c (page.PushLoadsRead value write) few fit = refl
   asks_same c (page.PushStoresCell value write stored) few fit =
       ap (λ k. Some (record { word = k; op = Store (slice_index (how.words_of value) stored) })) (cell_is how.size c write stored how.fits.1 few fit.0 fit.1)
-  asks_same c (page.PushStoresWrite value write) few fit = refl
-  asks_same c page.PopLoadsRead few fit = refl
-  asks_same c (page.PopLoadsWrite read) few fit = refl
   asks_same c (page.PopLoadsCell read loaded) few fit =
       ap (λ k. Some (record { word = k; op = Load })) (cell_is how.size c read (length loaded) how.fits.1 few fit.0 fit.1)
-  asks_same c (page.PopStoresRead read loaded) few fit = refl
+  asks_same c stage few fit = refl
 
   -- ---- from word to word
 
@@ -225,11 +215,6 @@ module _ {T : Type 0} (how : page.Written T) where
   abbrev IsSo : ℕ → page.Call T → page.Stage T → Type 0
   IsSo c call stage = (call_at stage ≡ call) × (fits c stage ≡ true)
 
-  done_or : (c : ℕ) (b : Bool) (call : page.Call T) (answer : page.Answer T) (stage : page.Stage T)
-      → (b ≡ false → IsSo c call stage) → GoesRight call_at (fits c) call (cond b (machine.Done answer) (machine.GoOn stage))
-  done_or c true call answer stage so = tt
-  done_or c false call answer stage so = so refl
-
   stores_right : (c : ℕ) (value : T) (write at : ℕ) → (c == 0) ≡ false → at ≤ how.size → IsSo c (page.Push value) (page.stores how c value write at)
   stores_right c value write at some le = go (nat_lt at how.size) refl
     where
@@ -244,23 +229,18 @@ module _ {T : Type 0} (how : page.Written T) where
       go true e = (refl, rw (some, e) refl)
       go false e = (refl, grind (arith, nat_tests))
 
-  neither : (a b : Bool) → (a || b) ≡ false → a ≡ false
-  neither true b e = absurd (cc)
-  neither false b e = refl
-
   -- a call that goes on is the same call, at a stage that fits
   pub right : (c : ℕ) (stage : page.Stage T) (old : ℕ) → Fits how c stage → GoesRight call_at (fits c) (call_at stage) (comes c stage old)
-  right c (page.PushLoadsWrite value) old fit =
-      done_or c (old == 2 ^ 64 - 1) (page.Push value) (page.Pushed false) (page.PushLoadsRead value old) (λ e. (refl, refl))
+  right c (page.PushLoadsWrite value) old fit = either (GoesRight call_at (fits c) (page.Push value)) (old == 2 ^ 64 - 1) _ _ tt (refl, refl)
   right c (page.PushLoadsRead value write) old fit =
-      done_or c ((c == 0) || ((write + 2 ^ 64 - old) % 2 ^ 64 == c)) (page.Push value) (page.Pushed false) (page.stores how c value write 0)
+      either_so (GoesRight call_at (fits c) (page.Push value)) ((c == 0) || ((write + 2 ^ 64 - old) % 2 ^ 64 == c)) _ _ (λ t. tt)
       (λ e. stores_right c value write 0 (neither (c == 0) ((write + 2 ^ 64 - old) % 2 ^ 64 == c) e) (omega arith))
   right c (page.PushStoresCell value write word) old fit =
       stores_right c value write (word + 1) fit.0 (omega (arith, fit.1))
   right c (page.PushStoresWrite value write) old fit = tt
   right c page.PopLoadsRead old fit = (refl, refl)
   right c (page.PopLoadsWrite read) old fit =
-      done_or c ((c == 0) || (old == read)) page.Pop (page.Popped None) (page.loads how c read [])
+      either_so (GoesRight call_at (fits c) page.Pop) ((c == 0) || (old == read)) _ _ (λ t. tt)
       (λ e. loads_right c read [] (neither (c == 0) (old == read) e) (omega arith))
   right c (page.PopLoadsCell read loaded) old fit =
       let long = length-append loaded (old ∷ []) in
@@ -275,7 +255,7 @@ module _ {T : Type 0} (how : page.Written T) where
 
   went_same : (c : ℕ) (a : machine.After (page.Stage T) (page.Answer T))
       → as_call flights.Queues (λ (answer : Answer T). answer) (went how c a)
-      ≡ simulates.went (λ stage. flights.Queues (flight how c stage)) answered a
+      ≡ relates.went (λ stage. flights.Queues (flight how c stage)) answered a
   went_same c (machine.GoOn stage) = refl
   went_same c (machine.Done answer) = refl
 
@@ -424,71 +404,39 @@ module _ {T : Type 0} (how : page.Written T) where
   admitted : (c : ℕ) → c < 2 ^ 32 → capacity_error kinds.Queue c ≡ None
   admitted c few = grind (arith, nat_tests)
 
-  opens : (c : ℕ) (few : c < 2 ^ 32) → Sim (tie c few) 2 roles_told (machine.opening (page.queue how c)) 0 (acquired how c)
-  opens c few =
-      let last = acquired how c in
-      record {
-        now = record { latest = last.world.latest; changes = last.world.changes; turns = last.world.turns; events = [] };
-        few = omega arith;
-        is = refl;
-        told = refl;
-        own = tt;
-        matches = λ p. idle _ _ refl refl (is_eq (nat_cmp p 0)) (is_eq (nat_cmp p 1));
-      }
-
   may_below : (p : ℕ) (call : page.Call T) → page.may p call ≡ true → p < 2
   may_below p (page.Push value) allowed = grind (arith, nat_tests)
   may_below p page.Pop allowed = grind (arith, nat_tests)
 
-  all_within : (c : ℕ) (few : c < 2 ^ 32) (turns : List (machine.Turn (page.Call T)))
-      → AllByRecursion (simulates.IsWithin (tie c few) 2 roles_told) turns
-  all_within c few [] = tt
-  all_within c few (machine.Begin p call ∷ turns) = (may_below p call, all_within c few turns)
-  all_within c few (machine.Next p ∷ turns) = (tt, all_within c few turns)
-
-  same_turns : (c : ℕ) (few : c < 2 ^ 32) (turns : List (machine.Turn (page.Call T)))
-      → map (simulates.as_turn (tie c few) 2 roles_told) turns ≡ map as_turn turns
+  -- the turns are those of the page's specification
+  same_turn : (c : ℕ) (few : c < 2 ^ 32) (turn : machine.Turn (page.Call T)) → relates.as_turn (relation (tie c few) roles_told) 2 turn ≡ as_turn turn
   unfolding tie
-  same_turns c few [] = refl
-  same_turns c few (machine.Begin p call ∷ turns) = ap (λ ts. as_turn (machine.Begin p call) ∷ ts) (same_turns c few turns)
-  same_turns c few (machine.Next p ∷ turns) = ap (λ ts. as_turn (machine.Next p) ∷ ts) (same_turns c few turns)
-
-  reached : (c : ℕ) (turns : List (Turn T)) → c < 2 ^ 32 → IsReached (run turns (acquired how c))
-  reached c turns few =
-      run_keeps refusal_of IsReached (λ t turn e r. reached_more t turn e r) turns (acquired how c)
-      (run_keeps refusal_of IsReached (λ t turn e r. reached_more t turn e r) acquires (opening (code_of how) kinds.Queue c 2)
-      (reached_opening (code_of how) kinds.Queue c 2 coded (admitted c few)))
+  same_turn c few (machine.Begin p call) = refl
+  same_turn c few (machine.Next p) = refl
 
   abbrev world_of : ℕ → List (machine.Turn (page.Call T)) → machine.World (page.Call T) (page.Stage T) (page.Answer T)
   world_of c turns = fold (machine.turned (page.queue how c)) (machine.opening (page.queue how c)) turns
 
-  simulated : (c : ℕ) (turns : List (machine.Turn (page.Call T))) (few : c < 2 ^ 32) → length turns < 2 ^ 63
-      → Sim (tie c few) 2 roles_told (world_of c turns) (0 + length turns) (run (map as_turn turns) (acquired how c))
-  simulated c turns few small =
-      subst (λ ts. Sim (tie c few) 2 roles_told (world_of c turns) (0 + length turns) (run ts (acquired how c))) (same_turns c few turns)
-      (all_turns (tie c few) 2 roles_told turns (all_within c few turns) (omega arith) (opens c few))
+  -- after a list of turns the two machines meet
+  met : (c : ℕ) (turns : List (machine.Turn (page.Call T))) (few : c < 2 ^ 32) → length turns < 2 ^ 63
+      → Meets (relation (tie c few) roles_told) 2 (world_of c turns) (0 + length turns) (run (map as_turn turns) (acquired how c))
+  met c turns few small =
+      meets_acquired (tie c few) (reached_by (code_of how) kinds.Queue c 2 acquires coded (admitted c few)) refl may_below as_turn (same_turn c few) turns small
 
   -- what the page runs is linearizable as the bounded list
   pub linearizable : (c : ℕ) (turns : List (machine.Turn (page.Call T))) → c < 2 ^ 32 → length turns < 2 ^ 63
       → machine.IsLinearizable (page.bounded_list c) (world_of c turns).history
   linearizable c turns few small =
-      let meeting = simulated c turns few small in
-      let run_now = trace (tie c few) 2 roles_told (world_of c turns).words meeting.now in
-      let is_reached : IsReached run_now = subst IsReached meeting.is (reached c (map as_turn turns) few) in
-      let keeps = (queue_keeps {T = T} queue_kinds.Queue).kept run_now refl is_reached in
-      subst (machine.IsLinearizable (page.bounded_list c)) meeting.told
-      (carried (reading how) (is_list c) roles_told 4
-      meeting.now.events meeting.own (among meeting.now.events) (within meeting.now.events)
-      (run_linearizable run_now keeps))
+      let s = met c turns few small in
+      let keeps = (queue_keeps {T = T} queue_kinds.Queue).kept (run_now s) refl (reached_now s) in
+      linearizable_seen s (is_list c) 4 among within (run_linearizable (run_now s) keeps)
 
 module _ {T : Type 0} where
   pub code : QueueDoesAsTheCode T
   code how c stage few fit = (asks_same how c stage few fit, λ old. after_same how c stage old fit)
 
   pub runs : QueueRunsAsTheMachine T
-  runs how c turns few small =
-      let met = simulated how c turns few small in
-      record { events = met.now.events; is = ap (λ (t : Trace T). t.events) met.is; history = met.told; words = ap (λ (t : Trace T). t.world.words) met.is }
+  runs how c turns few small = same (met how c turns few small)
 
   pub by_pushes : QueuePushesByTable T
   by_pushes coding c value stage old = (refl, refl)

@@ -3,16 +3,32 @@ use Rattle.std.proofs.Common.{◌%◌}
 use Rattle.model.proofs.Names.{fold, Bool, List, None, Option, Some, false, [], ap, arith, refl, true, ℕ, ◌+◌, ◌∷◌, ◌≡◌}
 use Rattle.std.specs.Prelude.{slice_index}
 use Rattle.pages.specs.IndexQueue as index
-use Rattle.pages.specs.Machine.{After, Begin, Done, GoOn, IsLinearizable, Load, Next, Operation, Store, Structure, Turn, World, opening, turned}
+use Rattle.pages.specs.Machine.{After, Begin, Done, Event, GoOn, IsLinearizable, Load, Next, Operation, Store}
+use Rattle.pages.specs.Machine.{Structure, Turn, World, calls_from, opening, turned}
 use Rattle.pages.specs.OverflowingQueue as overflowing
 use Rattle.pages.specs.Queue as values
 use Rattle.pages.specs.Value as single
-use Rattle.pages.proofs.TwoCalls.{in_turn_alone, neither_order}
+use Rattle.pages.proofs.TwoCalls.{HasTwo, in_turn_alone, neither_order}
 use Rattle.pages.proofs.WorkedQueue.{pairs}
 
 -- what a machine does over these turns
 abbrev after : {Call Stage Answer : Type 0} → Structure Call Stage Answer → List (Turn Call) → World Call Stage Answer
 after of turns = fold (turned of) (opening of) turns
+
+-- the history has a call of party 0, and behind it one of party p, and both have ended
+abbrev two_of : {Call Answer : Type 0} {history : List (Event Call Answer)} (one : Call) (first : Answer) (p : ℕ) (two : Call) (second : Answer)
+    → calls_from history 0
+    ≡ record { place = 0; party = 0; call = one; response = Some (1, first) }
+    ∷ record { place = 2; party = p; call = two; response = Some (3, second) }
+    ∷ []
+    → HasTwo history
+two_of one first p two second calls =
+    record {
+      first = record { place = 0; party = 0; call = one; end = 1; answer = first };
+      second = record { place = 2; party = p; call = two; end = 3; answer = second };
+      calls = calls;
+      in_order = omega arith;
+    }
 
 -- ---- the index queue
 
@@ -29,12 +45,7 @@ next_cell stage = index.does 2 stage
 -- The pop finds 0 in the cell of the push.
 not_next_cell : IsLinearizable (index.bounded_list 2) (after (record (index.index_queue 2) { does = next_cell }) push_pop).history → ⊥
 not_next_cell =
-    in_turn_alone (index.bounded_list 2) (record {
-      first = record { place = 0; party = 0; call = index.Push 5; end = 1; answer = index.Pushed true };
-      second = record { place = 2; party = 1; call = index.Pop; end = 3; answer = index.Popped (Some 0) };
-      calls = refl;
-      in_order = omega arith;
-    })
+    in_turn_alone (index.bounded_list 2) (two_of (index.Push 5) (index.Pushed true) 1 index.Pop (index.Popped (Some 0)) refl)
     (λ legal. let front : index.Popped (Some 5) ≡ index.Popped (Some 0) = legal.1.0 in absurd (cc)) (omega arith)
 
 -- a push answers, and has not published
@@ -45,12 +56,7 @@ unpublished stage = index.does 2 stage
 -- The pop finds the queue empty, though the push before it has answered.
 not_unpublished : IsLinearizable (index.bounded_list 2) (after (record (index.index_queue 2) { does = unpublished }) push_pop).history → ⊥
 not_unpublished =
-    in_turn_alone (index.bounded_list 2) (record {
-      first = record { place = 0; party = 0; call = index.Push 5; end = 1; answer = index.Pushed true };
-      second = record { place = 2; party = 1; call = index.Pop; end = 3; answer = index.Popped None };
-      calls = refl;
-      in_order = omega arith;
-    })
+    in_turn_alone (index.bounded_list 2) (two_of (index.Push 5) (index.Pushed true) 1 index.Pop (index.Popped None) refl)
     (λ legal. let front : index.Popped (Some 5) ≡ index.Popped None = legal.1.0 in absurd (cc)) (omega arith)
 
 -- the producer's role is for whoever likes: two pushes fill the one cell
@@ -99,12 +105,7 @@ next_pair stage = pair_does stage
 -- the pop answers what no push has stored
 not_next_pair : IsLinearizable (values.bounded_list 2) (after (record (values.queue pairs 2) { does = next_pair }) push_pop_pair).history → ⊥
 not_next_pair =
-    in_turn_alone (values.bounded_list 2) (record {
-      first = record { place = 0; party = 0; call = values.Push (5, 6); end = 1; answer = values.Pushed true };
-      second = record { place = 2; party = 1; call = values.Pop; end = 3; answer = values.Popped (Some (0, 0)) };
-      calls = refl;
-      in_order = omega arith;
-    })
+    in_turn_alone (values.bounded_list 2) (two_of (values.Push (5, 6)) (values.Pushed true) 1 values.Pop (values.Popped (Some (0, 0))) refl)
     (λ legal. let word : 6 ≡ 0 = second_word {v = (5, 6)} {w = (0, 0)} legal.1.0 in absurd (omega arith)) (omega arith)
 
 -- a push publishes once it has stored one word: the value is torn
@@ -116,12 +117,7 @@ torn stage = pair_does stage
 -- the pop answers half of the value
 not_torn : IsLinearizable (values.bounded_list 2) (after (record (values.queue pairs 2) { does = torn }) push_pop_pair).history → ⊥
 not_torn =
-    in_turn_alone (values.bounded_list 2) (record {
-      first = record { place = 0; party = 0; call = values.Push (5, 6); end = 1; answer = values.Pushed true };
-      second = record { place = 2; party = 1; call = values.Pop; end = 3; answer = values.Popped (Some (5, 0)) };
-      calls = refl;
-      in_order = omega arith;
-    })
+    in_turn_alone (values.bounded_list 2) (two_of (values.Push (5, 6)) (values.Pushed true) 1 values.Pop (values.Popped (Some (5, 0))) refl)
     (λ legal. let word : 6 ≡ 0 = second_word {v = (5, 6)} {w = (5, 0)} legal.1.0 in absurd (omega arith)) (omega arith)
 
 -- ---- the overflowing queue
@@ -139,12 +135,7 @@ newest stage = overflowing.does 1 stage
 -- The second push hands back its own value, and the oldest was 1.
 not_newest : IsLinearizable (overflowing.overflowing_list 1) (after (record (overflowing.overflowing_queue 1) { does = newest }) push_twice).history → ⊥
 not_newest =
-    in_turn_alone (overflowing.overflowing_list 1) (record {
-      first = record { place = 0; party = 0; call = overflowing.Push 1; end = 1; answer = None };
-      second = record { place = 2; party = 0; call = overflowing.Push 2; end = 3; answer = Some 2 };
-      calls = refl;
-      in_order = omega arith;
-    })
+    in_turn_alone (overflowing.overflowing_list 1) (two_of (overflowing.Push 1) None 0 (overflowing.Push 2) (Some 2) refl)
     (λ legal. let oldest : Some 1 ≡ Some 2 = legal.1.0 in absurd (cc)) (omega arith)
 
 -- ---- the single value
@@ -160,12 +151,7 @@ unversioned stage = single.does stage
 -- The load answers 0 after a store of 7.
 not_unversioned : IsLinearizable single.register (after (record single.value { does = unversioned }) store_load).history → ⊥
 not_unversioned =
-    in_turn_alone single.register (record {
-      first = record { place = 0; party = 0; call = single.StoreValue 7; end = 1; answer = single.Stored true };
-      second = record { place = 2; party = 1; call = single.LoadValue; end = 3; answer = single.Loaded 0 };
-      calls = refl;
-      in_order = omega arith;
-    })
+    in_turn_alone single.register (two_of (single.StoreValue 7) (single.Stored true) 1 single.LoadValue (single.Loaded 0) refl)
     (λ legal. let held : single.Loaded 7 ≡ single.Loaded 0 = legal.1.0 in absurd (cc)) (omega arith)
 
 -- a store goes to the cell of the version before
@@ -176,10 +162,5 @@ next_version stage = single.does stage
 -- The load answers 0 after a store of 7.
 not_next_version : IsLinearizable single.register (after (record single.value { does = next_version }) store_load).history → ⊥
 not_next_version =
-    in_turn_alone single.register (record {
-      first = record { place = 0; party = 0; call = single.StoreValue 7; end = 1; answer = single.Stored true };
-      second = record { place = 2; party = 1; call = single.LoadValue; end = 3; answer = single.Loaded 0 };
-      calls = refl;
-      in_order = omega arith;
-    })
+    in_turn_alone single.register (two_of (single.StoreValue 7) (single.Stored true) 1 single.LoadValue (single.Loaded 0) refl)
     (λ legal. let held : single.Loaded 7 ≡ single.Loaded 0 = legal.1.0 in absurd (cc)) (omega arith)

@@ -50,8 +50,7 @@ next_element stage = bits.does 70 stage
 
 not_next_element : BitsAct next_element set_3 → ⊥
 not_next_element bits_act =
-    unequal_back 0 1 (omega arith) (in_sequence (bits.at 3) (over next_element set_3).history (bits.now (over next_element set_3).words 3)
-    (((1, bits.WasSet true), refl), (tt, tt)) bits_act).1
+    unequal_back 0 1 (omega arith) (in_sequence (bits.at 3) bits_act (((1, bits.WasSet true), refl), (tt, tt))).1
 
 -- a set answers true, and has not written
 abbrev unwritten : Bits
@@ -60,8 +59,7 @@ unwritten stage = bits.does 70 stage
 
 not_unwritten : BitsAct unwritten set_3 → ⊥
 not_unwritten bits_act =
-    unequal_back 0 1 (omega arith) (in_sequence (bits.at 3) (over unwritten set_3).history (bits.now (over unwritten set_3).words 3)
-    (((1, bits.WasSet true), refl), (tt, tt)) bits_act).1
+    unequal_back 0 1 (omega arith) (in_sequence (bits.at 3) bits_act (((1, bits.WasSet true), refl), (tt, tt))).1
 
 -- a reset of the next place hands it out untested
 abbrev untested : Bits
@@ -73,8 +71,7 @@ reset_next = Begin 0 bits.ResetNext ∷ Next 0 ∷ Next 0 ∷ Next 0 ∷ []
 
 not_untested : BitsAct untested reset_next → ⊥
 not_untested bits_act =
-    unequal_back 0 1 (omega arith) (in_sequence (bits.at 3) (over untested reset_next).history (bits.now (over untested reset_next).words 3)
-    (((1, bits.WasReset (Some 3)), refl), (tt, tt)) bits_act).0
+    unequal_back 0 1 (omega arith) (in_sequence (bits.at 3) bits_act (((1, bits.WasReset (Some 3)), refl), (tt, tt))).0
 
 -- a reset of all loads the elements, and swaps none
 abbrev loads_all : Bits
@@ -90,8 +87,9 @@ set_reset = set_3 ++ Begin 0 bits.ResetAll ∷ Next 0 ∷ Next 0 ∷ []
 
 not_loads_all : BitsAct loads_all set_reset → ⊥
 not_loads_all bits_act =
-    unequal 0 1 (omega arith) (in_sequence (bits.at 3) (over loads_all set_reset).history (bits.now (over loads_all set_reset).words 3)
-    (((1, bits.WasSet true), refl), (((below 0 2 refl, below 1 2 refl), tt), (((3, bits.WereReset (3 ∷ [])), refl), (tt, tt)))) bits_act).1.1
+    unequal 0 1 (omega arith)
+    (in_sequence (bits.at 3) bits_act
+    (((1, bits.WasSet true), refl), (((below 0 2 refl, below 1 2 refl), tt), (((3, bits.WereReset (3 ∷ [])), refl), (tt, tt))))).1.1
 
 -- a reset of all hands out the places of the last element alone
 abbrev last_alone : Bits
@@ -104,8 +102,9 @@ last_alone stage = bits.does 70 stage
 
 not_last_alone : BitsAct last_alone set_reset → ⊥
 not_last_alone bits_act =
-    unequal 0 1 (omega arith) (in_sequence (bits.at 3) (over last_alone set_reset).history (bits.now (over last_alone set_reset).words 3)
-    (((1, bits.WasSet true), refl), (((below 0 2 refl, below 1 2 refl), tt), (((3, bits.WereReset []), refl), (tt, tt)))) bits_act).1.0
+    unequal 0 1 (omega arith)
+    (in_sequence (bits.at 3) bits_act
+    (((1, bits.WasSet true), refl), (((below 0 2 refl, below 1 2 refl), tt), (((3, bits.WereReset []), refl), (tt, tt))))).1.0
 
 -- a search does not go on at 0 behind the last place
 abbrev no_wrap : Bits
@@ -127,7 +126,7 @@ of_two = record (bits.bit_set 2) { does = no_wrap }
 -- the second search finds none, though the bit of place 0 stands all the while
 not_no_wrap : ActsAt (bits.at 0) (after of_two searches).history (bits.now (after of_two searches).words 0) → ⊥
 not_no_wrap h =
-    unequal 0 1 (omega arith) (in_sequence (bits.at 0) (after of_two searches).history (bits.now (after of_two searches).words 0) (
+    unequal 0 1 (omega arith) (in_sequence (bits.at 0) h (
       ((1, bits.WasSet true), refl),
       (
         ((below 0 2 refl, below 1 2 refl), ((below 0 4 refl, below 1 4 refl), ((below 0 6 refl, below 1 6 refl), tt))),
@@ -145,7 +144,7 @@ not_no_wrap h =
           ),
         ),
       ),
-    ) h).1.0
+    )).1.0
 
 -- ---- the counting bit set
 
@@ -170,8 +169,7 @@ next_place stage = counts.does 2 stage
 
 not_next_place : CountsAct next_place count_0 → ⊥
 not_next_place counts_act =
-    unequal_back 0 1 (omega arith) (in_sequence (counts.at 0) (counted next_place count_0).history (slice_index (counted next_place count_0).words 0)
-    (((1, counts.Counted 0), refl), (tt, tt)) counts_act).1
+    unequal_back 0 1 (omega arith) (in_sequence (counts.at 0) counts_act (((1, counts.Counted 0), refl), (tt, tt))).1
 
 -- a set answers the count after it
 abbrev count_after : Counts
@@ -180,8 +178,7 @@ count_after stage = counts.does 2 stage
 
 not_count_after : CountsAct count_after count_0 → ⊥
 not_count_after counts_act =
-    unequal_back 0 1 (omega arith) (in_sequence (counts.at 0) (counted count_after count_0).history (slice_index (counted count_after count_0).words 0)
-    (((1, counts.Counted 1), refl), (tt, tt)) counts_act).0
+    unequal_back 0 1 (omega arith) (in_sequence (counts.at 0) counts_act (((1, counts.Counted 1), refl), (tt, tt))).0
 
 -- a reset of all leaves the counts
 abbrev loads_counts : Counts
@@ -194,8 +191,10 @@ count_reset = count_0 ++ Begin 0 counts.ResetAll ∷ Next 0 ∷ Next 0 ∷ []
 
 not_loads_counts : CountsAct loads_counts count_reset → ⊥
 not_loads_counts counts_act =
-    unequal 0 1 (omega arith) (in_sequence (counts.at 0) (counted loads_counts count_reset).history (slice_index (counted loads_counts count_reset).words 0)
-    (((1, counts.Counted 0), refl), (((below 0 2 refl, below 1 2 refl), tt), (((3, counts.WereReset ((0, 1) ∷ [])), refl), (tt, tt)))) counts_act).1.1
+    unequal 0 1 (omega arith) (in_sequence (counts.at 0) counts_act (
+      ((1, counts.Counted 0), refl),
+      (((below 0 2 refl, below 1 2 refl), tt), (((3, counts.WereReset ((0, 1) ∷ [])), refl), (tt, tt))),
+    )).1.1
 
 -- ---- the unique index set
 

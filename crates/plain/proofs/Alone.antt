@@ -3,7 +3,6 @@
 use Rattle.std.proofs.Common.{◌≡◌, ℕ, zero, suc, ◌+◌, ◌^◌, ◌-◌, ◌≤◌, List, sym, subst, arith}
 use Rattle.plain.proofs.Names.{Want, After, GoOn, Done}
 use Rattle.plain.specs.declared.drive.Stop.{Stop}
-use Rattle.plain.specs.declared.drive.Stop.TheVariants.{Asked, Ended}
 use Rattle.plain.specs.Alone.{answer_in, words_then, room_then, stepped, StopsFrom, StopsIn, CanStop, StopsAlike, EndsIn, CanEnd, EndsAlike}
 use Rattle.plain.specs.FirstSteps.{StopsOn}
 
@@ -49,7 +48,7 @@ module _ {C G M E : Type 0} (want_of : C → G → Want (Unit {0})) (after : C �
     pub alike : StopsAlso first room₀ words₀ call room words
 
   -- where the next step lets the call go on, a stop within n steps is one within n - 1 steps from there
-  step_on : (n : ℕ) (s : Stop C E) (r : M) (ws : List ℕ) (call d : C) (room : M) (words : List ℕ)
+  step_on : {n : ℕ} {s : Stop C E} {r : M} {ws : List ℕ} (call : C) {d : C} (room : M) (words : List ℕ)
       → Stops n s r ws call room words → next call words ≡ GoOn d
       → (k : ℕ) × (n ≡ k + 1) × Stops k s r ws d (next_room call room words) (next_words call words)
   step_on = grind arith
@@ -60,7 +59,7 @@ module _ {C G M E : Type 0} (want_of : C → G → Want (Unit {0})) (after : C �
       (words : List ℕ) → Going first room₀ words₀ done call room words → next call words ≡ GoOn d
       → Going first room₀ words₀ (done + 1) d (next_room call room words) (next_words call words)
   goes_on first room₀ words₀ done call d room words going goes =
-      let u = step_on going.left going.stop going.last_room going.last_words call d room words going.stops goes in
+      let u = step_on call room words going.stops goes in
       record {
         left = u.0;
         few = omega (arith, going.few, u.1);
@@ -70,7 +69,7 @@ module _ {C G M E : Type 0} (want_of : C → G → Want (Unit {0})) (after : C �
         stops = u.2;
         alike = λ n s r ws t.
             let k = going.alike n s r ws t in
-            let v = step_on k.0 s r ws call d room words k.1 goes in (v.0, v.2);
+            let v = step_on call room words k.1 goes in (v.0, v.2);
       }
 
   -- where the next step stops the call, each stop of the call is that one, with the room and
@@ -81,22 +80,12 @@ module _ {C G M E : Type 0} (want_of : C → G → Want (Unit {0})) (after : C �
   stopped = grind arith
 
   -- where the next step stops the call, this is the stop of the call as it began
-  pub stops : (first : C) (room₀ : M) (words₀ : List ℕ) (done : ℕ) (call : C) (f : Stop C E)
-      (room : M) (words : List ℕ) → Going first room₀ words₀ done call room words
+  pub stops : {first : C} {room₀ : M} {words₀ : List ℕ} {done : ℕ} {call : C} {f : Stop C E}
+      {room : M} {words : List ℕ} → Going first room₀ words₀ done call room words
       → next call words ≡ Done f
       → StopsAlike want_of after kept given first room₀ words₀ f (next_room call room words)
       (next_words call words)
   stops = grind (arith, stopped)
-
-  -- where a call stops within n steps, n is at least 1
-  some_left : (n : ℕ) (s : Stop C E) (r : M) (ws : List ℕ) (call : C) (room : M) (words : List ℕ)
-      → Stops n s r ws call room words → 1 ≤ n
-  some_left = grind arith
-
-  -- a driver that is under way has not done 2^64 - 1 steps yet
-  pub stops_in_time : (first : C) (room₀ : M) (words₀ : List ℕ) (done : ℕ) (call : C) (room : M)
-      (words : List ℕ) → Going first room₀ words₀ done call room words → 2 ^ 64 - 1 ≤ done → ⊥
-  stops_in_time = grind (arith, some_left)
 
   -- ---- the first steps of a call, which a driver takes outside its loop
 
@@ -125,16 +114,16 @@ module _ {C G M E : Type 0} (want_of : C → G → Want (Unit {0})) (after : C �
       (λ d x y u. (n, omega arith, u)) (next call words) (next_room call room words) (next_words call words) s r ws t
 
   -- one step is a beginning, where a, x and y are what the step has made of call, room and words
-  pub one_step : (call : C) (room : M) (words : List ℕ) (a : After C (Stop C E)) (x : M) (y : List ℕ)
+  pub one_step : (call : C) (room : M) (words : List ℕ) {a : After C (Stop C E)} {x : M} {y : List ℕ}
       → a ≡ next call words → x ≡ next_room call room words → y ≡ next_words call words → LeadsTo call room words a x y
-  one_step call room words a x y goes keeps writes =
+  one_step call room words goes keeps writes =
       subst (λ (z : After C (Stop C E) × M × List ℕ). LeadsTo call room words z.0 z.1 z.2)
       (λ i. (sym goes i, sym keeps i, sym writes i)) (step_on_from call room words)
 
   -- first steps of a call, and further ones from where these have led, are together first steps of the call
-  pub more_steps : (call d : C) (room x x₁ : M) (words y y₁ : List ℕ) (b a : After C (Stop C E)) → b ≡ GoOn d
+  pub more_steps : {call d : C} {room x : M} {words y : List ℕ} {b : After C (Stop C E)} (a : After C (Stop C E)) (x₁ : M) (y₁ : List ℕ) → b ≡ GoOn d
       → LeadsTo call room words b x y → LeadsTo d x y a x₁ y₁ → LeadsTo call room words a x₁ y₁
-  more_steps call d room x x₁ words y y₁ b a goes first later n s r ws t =
+  more_steps {call} {d} {room} {x} {words} {y} {b} a x₁ y₁ goes first later n s r ws t =
       let u = subst (λ c. LeadsTo call room words c x y) goes first n s r ws t in
       let few = u.1 in
       from_also (λ d x y. (k : ℕ) × (k ≤ u.0) × Stops k s r ws d x y) (λ d x y. (k : ℕ) × (k ≤ n) × Stops k s r ws d x y)
@@ -142,9 +131,9 @@ module _ {C G M E : Type 0} (want_of : C → G → Want (Unit {0})) (after : C �
 
   -- where first steps of a call that can stop let it go on, a driver is under way from there, with no step of
   -- its loop done
-  pub begins_later : (call d : C) (room x : M) (words y : List ℕ) (a : After C (Stop C E)) → a ≡ GoOn d
+  pub begins_later : {call d : C} {room x : M} {words y : List ℕ} {a : After C (Stop C E)} → a ≡ GoOn d
       → CanStop want_of after kept given call room words → LeadsTo call room words a x y → Going call room words 0 d x y
-  begins_later call d room x words y a goes may_stop leads =
+  begins_later {call} {d} {room} {x} {words} {y} goes may_stop leads =
       let so = subst (λ c. LeadsTo call room words c x y) goes leads in
       let u = so may_stop.steps may_stop.stop may_stop.last_room may_stop.last_words may_stop.stops in
       record {
@@ -158,43 +147,10 @@ module _ {C G M E : Type 0} (want_of : C → G → Want (Unit {0})) (after : C �
       }
 
   -- where first steps of a call have stopped it, this is its stop
-  pub stops_early : (call : C) (f : Stop C E) (room x : M) (words y : List ℕ) (a : After C (Stop C E)) → a ≡ Done f
+  pub stops_early : {call : C} {f : Stop C E} {room x : M} {words y : List ℕ} {a : After C (Stop C E)} → a ≡ Done f
       → LeadsTo call room words a x y → StopsAlike want_of after kept given call room words f x y
-  stops_early call f room x words y a ends leads n s r ws t =
+  stops_early {call} {f} {room} {x} {words} {y} ends leads n s r ws t =
       let u = subst (λ c. LeadsTo call room words c x y) ends leads n s r ws t in (sym u.0, sym u.1, sym u.2)
-
-  -- ---- of a call that puts no question
-
-  -- a call that puts no question and can end can stop
-  pub end_is_stop : (call : C) (room : M) (words : List ℕ)
-      → CanEnd want_of after kept given call room words
-      → CanStop want_of after kept given call room words
-  end_is_stop call room words ends_alone =
-      record {
-        steps = ends_alone.steps;
-        few = ends_alone.few;
-        stop = Ended ends_alone.end;
-        last_room = ends_alone.last_room;
-        last_words = ends_alone.last_words;
-        stops = ends_alone.ends;
-      }
-
-  -- the call has ended, and has not stopped at a question
-  abbrev has_ended : Stop C E → Type 0
-  has_ended (Ended f) = Unit {0}
-  has_ended (Asked question call) = ⊥
-
-  -- where the stop of a call is an end, this is the end of each run of the call alone
-  pub ends_alike : (call : C) (room : M) (words : List ℕ) (e : E) (r : M) (ws : List ℕ)
-      → StopsAlike want_of after kept given call room words (Ended e) r ws
-      → EndsAlike want_of after kept given call room words e r ws
-  ends_alike = grind arith
-
-  -- a call that can end stops at no question
-  pub never_asks : (call : C) (room : M) (words : List ℕ)
-      → CanEnd want_of after kept given call room words → (s : Stop C E) (r : M) (ws : List ℕ)
-      → StopsAlike want_of after kept given call room words s r ws → has_ended s
-  never_asks = grind arith
 
 -- ---- what comes of a call that runs alone
 
@@ -240,6 +196,12 @@ module _ {C G M E : Type 0} {want_of : C → G → Want (Unit {0})} {after : C �
         last_words = runs_so.last_words;
         ends = runs_so.ends;
       }
+
+  -- a call that ends in its first step can end
+  pub ends_at_once : (end : E) (last_room : M) (last_words : List ℕ) → EndsIn want_of after kept given 1 end last_room last_words call room words
+      → CanEnd want_of after kept given call room words
+  ends_at_once end last_room last_words ends =
+      record { steps = 1; few = omega arith; end = end; last_room = last_room; last_words = last_words; ends = ends }
 
   -- where `Runs` holds of a call, P holds of the end to which a driver has brought it
   pub ends_so : {P : E → M → List ℕ → Type 0} {e : E} {r : M} {ws : List ℕ}

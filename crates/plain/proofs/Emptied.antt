@@ -2,38 +2,10 @@
 -- called with each count.
 use Rattle.std.proofs.Common.{◌≡◌, ◌≢◌, ℕ, zero, suc, ◌+◌, ◌<◌, ◌≤◌, ⊎_elim, List, [], ◌∷◌, length, drop}
 use Rattle.std.proofs.Common.{replicate, refl, sym, ap, subst, ◌∙◌, arith, slice_index, slice_set, eq-eqb, ne_eqb}
-use Rattle.plain.proofs.Names.{FoldsTo, cases_lt, nat_tests, GoOn, ResetAll}
-use Rattle.steps.specs.Bits.ResetAll.{reset_all_want, reset_all_after, reset_all_kept}
+use Rattle.plain.proofs.Names.{FoldsTo, cases_lt, ResetAll}
 use Rattle.steps.specs.Objects.Counts.{states_from, states, uncounted}
-use Rattle.steps.specs.declared.ask.Op.TheVariants.{Swap}
-use Rattle.steps.specs.declared.ask.Want.TheVariants as wants
 use Rattle.steps.specs.declared.bits.counting_bit_set.BitState.{BitState}
-use Rattle.steps.specs.declared.copied.OneWord.{OneWord}
-use Rattle.plain.specs.Alone.{answer_in, words_then, room_then, stepped}
 use Rattle.plain.specs.Visits.{Takes, WasCalled}
-
--- ---- one step of the call
-
-module _ (call : ResetAll) (low : call.word < call.end) (words : List ℕ) where
-  -- a `reset_all` that is not done asks to swap its word with 0
-  asks : reset_all_want call ≡ wants.Ask (record { word = call.word; op = Swap 0 })
-  asks = grind (arith, nat_tests)
-
-  -- after the step the room has what stood in the word
-  pub room_is : (room : OneWord)
-      → room_then (reset_all_want call) room (reset_all_kept room (answer_in words (reset_all_want call)))
-      ≡ record { 0 = slice_index words call.word }
-  room_is room = ap (λ w. room_then w room (reset_all_kept room (answer_in words w))) asks
-
-  -- after the step the word is 0, and all others are as before
-  pub words_are : words_then words (reset_all_want call) ≡ slice_set words call.word 0
-  words_are = ap (words_then words) asks
-
-  -- where it is not the last word, it goes on to the next
-  pub goes_on : (n : ℕ) → call.word + 1 < call.end
-      → stepped (reset_all_want call) call (reset_all_after call n)
-      ≡ GoOn (record { word = call.word + 1; end = call.end })
-  goes_on = grind (arith, stepped, asks, nat_tests)
 
 -- ---- the words after the first few steps
 
@@ -54,12 +26,6 @@ swept_more : (n : ℕ) (xs : List ℕ) → n < length xs → slice_set (swept n 
 swept_more n [] within = absurd (omega arith)
 swept_more zero (x ∷ xs) within = refl
 swept_more (suc n) (x ∷ xs) within = ap (λ ys. 0 ∷ ys) (swept_more n xs (omega arith))
-
--- as many words are left
-pub swept_length : (n : ℕ) (xs : List ℕ) → length (swept n xs) ≡ length xs
-swept_length zero xs = refl
-swept_length (suc n) [] = refl
-swept_length (suc n) (x ∷ xs) = ap suc (swept_length n xs)
 
 -- once all words are swept, all are 0
 pub swept_all : (xs : List ℕ) → swept (length xs) xs ≡ replicate (length xs) 0
@@ -105,11 +71,6 @@ module _ {F : Type 0} (case : EmptyCase F) where
     pub calls : (last : F)
         → FoldsTo (λ p x q. step p x tt q) visit (states_from place (drop place before)) last
         → FoldsTo (λ p x q. step p x tt q) first (states before) last
-
-  -- an emptying that begins has come to place 0
-  pub begins : length before ≡ capacity → Takes pre step (states before) first
-      → (call : ResetAll) → call ≡ record { word = 0; end = capacity } → Emptying 0 call before first
-  begins = grind (arith, words_are)
 
   -- a place without a count is not among those left
   left_none : (place : ℕ) → place < length before → slice_index before place ≡ 0

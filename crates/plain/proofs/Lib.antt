@@ -1,6 +1,7 @@
 pub mod Alone
 pub mod Elements
 pub mod Emptied
+pub mod Found
 pub mod Fronts
 pub mod Lists
 mod Names

@@ -24,7 +24,7 @@ use Rattle.plain.proofs.Words.{Room, words_same, words_all, stored_length, store
 cell_within : (size p : ℕ) → cell_word size p + size ≤ 2 + 2 * size
 cell_within = grind (arith, mul-le-mul_left)
 
-module _ {V : Type 0} (words_of : V → List ℕ) (value_of : List ℕ → V) (size : ℕ)
+module _ {V : Type 0} {words_of : V → List ℕ} (value_of : List ℕ → V) {size : ℕ}
     (sized : (x : V) → length (words_of x) ≡ size) (given_back : (x : V) → value_of (words_of x) ≡ x)
     (some : 1 ≤ size) (few : size ≤ 128) (value : V) where
   -- the store, run alone from these words, ends within n steps with this answer and these last words
@@ -160,8 +160,7 @@ module _ {V : Type 0} (words_of : V → List ℕ) (value_of : List ℕ → V) (s
         }
 
   -- a store, run alone, does what a store to the versioned value does
-  pub store_runs : (call : Store V) → call ≡ first_store → (ws : List ℕ) → Represents size ws
-      → StoreRuns call ws
+  pub store_runs : {call : Store V} → call ≡ first_store → {ws : List ℕ} → Represents size ws → StoreRuns call ws
   store_runs = grind (arith, at_end, stores_one)
 
 -- ---- load

@@ -26,10 +26,10 @@ came_as flight (Some answer) run next came_to = ap (as_call flight (λ answer. a
 
 -- where a family's call came to what its step says, the call of any family came to what the step of a
 -- machine's call says
-pub passed : {R K T : Type 0} (flight : R → Flight T) (keeps : K → Registry T) (s : Step R K T) (went : Went T) (run : R) (kept : K)
-    (old new : List (Event T)) → CameTo went.done run s.after → went.back ≡ s.back → kept ≡ s.kept → new ≡ old ++ s.wrote
+pub passed : {R K T : Type 0} (flight : R → Flight T) (keeps : K → Registry T) (s : Step R K T) {went : Went T} {run : R} {kept : K}
+    {old new : List (Event T)} → CameTo went.done run s.after → went.back ≡ s.back → kept ≡ s.kept → new ≡ old ++ s.wrote
     → IsOfStep (as_step flight keeps s) went (flight run) (keeps kept) old new
-passed flight keeps s went run kept old new after back same wrote =
+passed flight keeps s {went} {run} after back same wrote =
     record {
       after = came_as flight went.done run s.after after;
       back = back;
@@ -38,102 +38,41 @@ passed flight keeps s went run kept old new after back same wrote =
     }
 
 -- the step that does nothing: the call stands where it stood, what is kept stays, and no event is written
-abbrev pub rest : {T : Type 0} → Flight T → Registry T → Step (Flight T) (Registry T) T
+abbrev rest : {T : Type 0} → Flight T → Registry T → Step (Flight T) (Registry T) T
 rest flight kept = record { after = GoOn flight; back = false; wrote = []; kept = kept }
 
--- a step that does nothing is told as one that leaves its call, what is kept and the events
-pub rests : {T : Type 0} (s : Step (Flight T) (Registry T) T) (flight : Flight T) (kept : Registry T) (events : List (Event T))
-    → s ≡ rest flight kept → IsOfStep s (record { back = false; done = None }) flight kept events events
-rests s flight kept events e =
+-- The name of a call, the call and what is kept are not of one family: if the name is of the call's family, then what is kept is
+-- of another.
+abbrev pub AreApart : {T : Type 0} → Start T → Flight T → Registry T → Type 0
+AreApart start (flights.Queues run) kept = (x y : _) → start ≡ starts.Queues x → kept ≡ registries.Queues y → ⊥
+AreApart start (flights.Atomic run) kept = (x y : _) → start ≡ starts.Atomic x → kept ≡ registries.Atomic y → ⊥
+AreApart start (flights.Bits run) kept = (x : _) → start ≡ starts.Bits x → kept ≡ registries.Nothing → ⊥
+AreApart start (flights.Indices run) kept = (x y : _) → start ≡ starts.Indices x → kept ≡ registries.Indices y → ⊥
+AreApart start (flights.Robust run) kept = (x y : _) → start ≡ starts.Robust x → kept ≡ registries.Owners y → ⊥
+AreApart start (flights.Container run) kept = (x dead states : _) → start ≡ starts.Container x → kept ≡ registries.Container dead states → ⊥
+AreApart start (flights.Loan run) kept = (x y : _) → start ≡ starts.Loan x → kept ≡ registries.Loan y → ⊥
+
+-- A step whose name, call and kept things are not of one family does nothing.
+apart : {T : Type 0} (code : Coding T) (words : List ℕ) (beside : Option (ℕ × ℕ)) (p : ℕ) (start : Start T) (flight : Flight T) (old : ℕ)
+    (kept : Registry T) → AreApart start flight kept → step_of code words beside p start flight old kept ≡ rest flight kept
+apart code words beside p (starts.Queues x) (flights.Queues run) old (registries.Queues y) other = absurd (other x y refl refl)
+apart code words beside p (starts.Atomic x) (flights.Atomic run) old (registries.Atomic y) other = absurd (other x y refl refl)
+apart code words beside p (starts.Bits x) (flights.Bits run) old registries.Nothing other = absurd (other x refl refl)
+apart code words beside p (starts.Indices x) (flights.Indices run) old (registries.Indices y) other = absurd (other x y refl refl)
+apart code words beside p (starts.Robust x) (flights.Robust run) old (registries.Owners y) other = absurd (other x y refl refl)
+apart code words beside p (starts.Container x) (flights.Container run) old (registries.Container dead states) other = absurd (other x dead states refl refl)
+apart code words beside p (starts.Loan x) (flights.Loan run) old (registries.Loan y) other = absurd (other x y refl refl)
+apart code words beside p start flight old kept other = refl
+
+-- Such a step is told as one that leaves its call, what is kept and the events.
+pub rests : {T : Type 0} (code : Coding T) (words : List ℕ) (beside : Option (ℕ × ℕ)) (p old : ℕ) (kept : Registry T) (events : List (Event T))
+    (start : Start T) (flight : Flight T) → AreApart start flight kept
+    → IsOfStep (step_of code words beside p start flight old kept) (record { back = false; done = None }) flight kept events events
+rests code words beside p old kept events start flight other =
+    let nothing = apart code words beside p start flight old kept other in
     record {
-      after = ap (λ x. x.after) e;
-      back = sym (ap (λ x. x.back) e);
-      kept = sym (ap (λ x. x.kept) e);
-      wrote = sym (ap (λ x. events ++ x.wrote) e ∙ append-nil events);
+      after = ap (λ x. x.after) nothing;
+      back = sym (ap (λ x. x.back) nothing);
+      kept = sym (ap (λ x. x.kept) nothing);
+      wrote = sym (ap (λ x. events ++ x.wrote) nothing ∙ append-nil events);
     }
-
--- a step whose call and whose name are of two families, or whose call and what is kept are, does nothing
-module _ {T : Type 0} (code : Coding T) (words : List ℕ) (beside : Option (ℕ × ℕ)) (p : ℕ) where
-  -- a call of a queue under the name of another family's call does nothing
-  pub queues_start : (start : Start T) (run : _) (old : ℕ) (kept : Registry T) → ((x : _) → start ≡ starts.Queues x → ⊥)
-      → step_of code words beside p start (flights.Queues run) old kept ≡ rest (flights.Queues run) kept
-  queues_start (starts.Queues x) run old kept other = absurd (other x refl)
-  queues_start start run old kept other = refl
-
-  -- a call of a queue on what another family keeps does nothing
-  pub queues_kept : (x : _) (run : _) (old : ℕ) (kept : Registry T) → ((roles : _) → kept ≡ registries.Queues roles → ⊥)
-      → step_of code words beside p (starts.Queues x) (flights.Queues run) old kept ≡ rest (flights.Queues run) kept
-  queues_kept x run old (registries.Queues roles) other = absurd (other roles refl)
-  queues_kept x run old kept other = refl
-
-  -- a call of the single value under the name of another family's call does nothing
-  pub atomic_start : (start : Start T) (run : _) (old : ℕ) (kept : Registry T) → ((x : _) → start ≡ starts.Atomic x → ⊥)
-      → step_of code words beside p start (flights.Atomic run) old kept ≡ rest (flights.Atomic run) kept
-  atomic_start (starts.Atomic x) run old kept other = absurd (other x refl)
-  atomic_start start run old kept other = refl
-
-  -- a call of the single value on what another family keeps does nothing
-  pub atomic_kept : (x : _) (run : _) (old : ℕ) (kept : Registry T) → ((producer : _) → kept ≡ registries.Atomic producer → ⊥)
-      → step_of code words beside p (starts.Atomic x) (flights.Atomic run) old kept ≡ rest (flights.Atomic run) kept
-  atomic_kept x run old (registries.Atomic producer) other = absurd (other producer refl)
-  atomic_kept x run old kept other = refl
-
-  -- a call of a bit set under the name of another family's call does nothing
-  pub bits_start : (start : Start T) (run : _) (old : ℕ) (kept : Registry T) → ((x : _) → start ≡ starts.Bits x → ⊥)
-      → step_of code words beside p start (flights.Bits run) old kept ≡ rest (flights.Bits run) kept
-  bits_start (starts.Bits x) run old kept other = absurd (other x refl)
-  bits_start start run old kept other = refl
-
-  -- a call of a bit set on what another family keeps does nothing (bit sets keep nothing)
-  pub bits_kept : (x : _) (run : _) (old : ℕ) (kept : Registry T) → (kept ≡ registries.Nothing → ⊥)
-      → step_of code words beside p (starts.Bits x) (flights.Bits run) old kept ≡ rest (flights.Bits run) kept
-  bits_kept x run old registries.Nothing other = absurd (other refl)
-  bits_kept x run old kept other = refl
-
-  -- a call of a unique index set under the name of another family's call does nothing
-  pub indices_start : (start : Start T) (run : _) (old : ℕ) (kept : Registry T) → ((x : _) → start ≡ starts.Indices x → ⊥)
-      → step_of code words beside p start (flights.Indices run) old kept ≡ rest (flights.Indices run) kept
-  indices_start (starts.Indices x) run old kept other = absurd (other x refl)
-  indices_start start run old kept other = refl
-
-  -- a call of a unique index set on what another family keeps does nothing
-  pub indices_kept : (x : _) (run : _) (old : ℕ) (kept : Registry T) → ((holders : _) → kept ≡ registries.Indices holders → ⊥)
-      → step_of code words beside p (starts.Indices x) (flights.Indices run) old kept ≡ rest (flights.Indices run) kept
-  indices_kept x run old (registries.Indices holders) other = absurd (other holders refl)
-  indices_kept x run old kept other = refl
-
-  -- a call of a robust index set under the name of another family's call does nothing
-  pub robust_start : (start : Start T) (run : _) (old : ℕ) (kept : Registry T) → ((x : _) → start ≡ starts.Robust x → ⊥)
-      → step_of code words beside p start (flights.Robust run) old kept ≡ rest (flights.Robust run) kept
-  robust_start (starts.Robust x) run old kept other = absurd (other x refl)
-  robust_start start run old kept other = refl
-
-  -- a call of a robust index set on what another family keeps does nothing
-  pub robust_kept : (x : _) (run : _) (old : ℕ) (kept : Registry T) → ((dead : _) → kept ≡ registries.Owners dead → ⊥)
-      → step_of code words beside p (starts.Robust x) (flights.Robust run) old kept ≡ rest (flights.Robust run) kept
-  robust_kept x run old (registries.Owners dead) other = absurd (other dead refl)
-  robust_kept x run old kept other = refl
-
-  -- a call of a container under the name of another family's call does nothing
-  pub container_start : (start : Start T) (run : _) (old : ℕ) (kept : Registry T) → ((x : _) → start ≡ starts.Container x → ⊥)
-      → step_of code words beside p start (flights.Container run) old kept ≡ rest (flights.Container run) kept
-  container_start (starts.Container x) run old kept other = absurd (other x refl)
-  container_start start run old kept other = refl
-
-  -- a call of a container on what another family keeps does nothing
-  pub container_kept : (x : _) (run : _) (old : ℕ) (kept : Registry T) → ((dead : _) → (states : _) → kept ≡ registries.Container dead states → ⊥)
-      → step_of code words beside p (starts.Container x) (flights.Container run) old kept ≡ rest (flights.Container run) kept
-  container_kept x run old (registries.Container dead states) other = absurd (other dead states refl)
-  container_kept x run old kept other = refl
-
-  -- a call of a loan channel under the name of another family's call does nothing
-  pub loan_start : (start : Start T) (run : _) (old : ℕ) (kept : Registry T) → ((x : _) → start ≡ starts.Loan x → ⊥)
-      → step_of code words beside p start (flights.Loan run) old kept ≡ rest (flights.Loan run) kept
-  loan_start (starts.Loan x) run old kept other = absurd (other x refl)
-  loan_start start run old kept other = refl
-
-  -- a call of a loan channel on what another family keeps does nothing
-  pub loan_kept : (x : _) (run : _) (old : ℕ) (kept : Registry T) → ((book : _) → kept ≡ registries.Loan book → ⊥)
-      → step_of code words beside p (starts.Loan x) (flights.Loan run) old kept ≡ rest (flights.Loan run) kept
-  loan_kept x run old (registries.Loan book) other = absurd (other book refl)
-  loan_kept x run old kept other = refl

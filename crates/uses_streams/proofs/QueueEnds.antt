@@ -1,5 +1,5 @@
 -- What the loops of `push_all`, `pop_all` and the calls that wait have done after one value more.
-use Rattle.std.proofs.Common.{◌≡◌, ◌+◌, ◌-◌, ◌<◌, ◌≤◌, ℕ, true, Some, None, List, [], ◌∷◌, ◌++◌, length, take, drop, set, get_or}
+use Rattle.std.proofs.Common.{◌≡◌, ◌+◌, ◌-◌, ◌<◌, ◌≤◌, ℕ, true, Some, List, [], ◌∷◌, ◌++◌, length, take, drop, set, get_or}
 use Rattle.std.proofs.Common.{refl, sym, ap, subst, ◌∙◌, length-drop, arith}
 use Rattle.std.proofs.lemmas.Grind.{drop_more_same}
 use Rattle.std.proofs.lemmas.List.{take_more, take_more_set, drop_more, drop_all, drop-set-lt}
@@ -98,16 +98,16 @@ rest_stays first values n value same = drop-set-lt (n + 1) values n value (omega
 module _ {E T : Type 0} {kind : kinds.Ghosts E} {words : Ghosts T} (named : T → Item T) (values : List T) (n : ℕ) (value : T)
     (below : n < length values) where
   -- A producer that pushes one value more has sent one more of the list.
-  pub sends_next : (first was now : Producer E T kind words) → Sending named first (take n values) was → value ≡ get_or values n value
+  pub sends_next : {first was now : Producer E T kind words} → Sending named first (take n values) was → value ≡ get_or values n value
       → SameProducer was now → PushDone (named value) (producer_view was) (producer_view now) → Sending named first (take (n + 1) values) now
-  sends_next first was now s is same pushed =
+  sends_next {first} {was} {now} s is same pushed =
       subst (λ xs. Sending named first xs now) (sym (take_more values n value below ∙ ap (λ x. take n values ++ x ∷ []) (sym is)))
       (sending_one {first = first} {was = was} {now = now} {taken = true} (take n values) value s same refl (λ is_true. pushed))
 
   -- a consumer that pops one value more has received one more
-  pub receives_next : (first was now : Consumer E T kind words) → Receiving named first (take n values) was
+  pub receives_next : {first was now : Consumer E T kind words} → Receiving named first (take n values) was
       → SameConsumer was now → PopDone (named value) (consumer_view was) (consumer_view now)
       → Receiving named first (take (n + 1) (set values n value)) now
-  receives_next first was now s same popped =
+  receives_next {first} {was} {now} s same popped =
       receiving_one {first = first} {was = was} {now = now} {answer = Some value} (take n values) (take (n + 1) (set values n value)) value
       s same popped refl (take_more_set values n value below)

@@ -5,6 +5,7 @@ use Rattle.std.proofs.Common.{refl, sym, ap, subst, ◌∙◌, arith, length-app
 use Rattle.std.proofs.lemmas.List.{drop_all, drop-append-le}
 use Rattle.std.proofs.lemmas.List.Concat.{flat_map-append}
 use Rattle.std.proofs.lemmas.List.Sums.{sum_by-append}
+use Rattle.model.specs.declared.event.Event.{Event}
 use Rattle.model.specs.declared.event.Item.{Item}
 use Rattle.model.specs.declared.event.Item.TheVariants.{Value, Index}
 use Rattle.model.specs.declared.families.queues.QueueKind.TheVariants as queues
@@ -115,61 +116,63 @@ module _ {T : Type 0} where
 
   -- ---- each call, by what it adds
 
-  still_half : (v w : View (Element T)) → Goes v w → HasHalf v → HasHalf w
-  still_half v w goes half = (ap (λ (s : Share). s.part) goes.share ∙ half.0, ap (λ (s : Share). s.parts) goes.share ∙ half.1)
+  -- The pass has half of the share. By `f` it has done at most as much as is listed in what it saw, and by `g` nothing.
+  abbrev Only : (f g : Event (Element T) → ℕ) → (List (Event (Element T)) → List (Item (Element T))) → View (Element T) → Type 0
+  Only f g listed v = HasHalf v × (sum_by f v.made ≤ length (listed v.seen)) × (sum_by g v.made ≡ 0)
 
-  module _ (v w : View (Element T)) (goes : Goes v w) where
+  module _ {v w : View (Element T)} (goes : Goes v w) where
+    -- A pass that goes on keeps its half of the share.
+    still_half : HasHalf v → HasHalf w
+    still_half half = (ap (λ (s : Share). s.part) goes.share ∙ half.0, ap (λ (s : Share). s.parts) goes.share ∙ half.1)
+
+    module _ (f g : Event (Element T) → ℕ) (listed : List (Event (Element T)) → List (Item (Element T))) where
+      -- One item more, which is listed behind those before, is the last of those that the pass itself has done.
+      one_more : (item : Item (Element T)) → Only f g listed v → sum_by f w.made ≡ sum_by f v.made + 1 → sum_by g w.made ≡ sum_by g v.made + 0
+          → listed w.seen ≡ listed v.seen ++ item ∷ []
+          → Only f g listed w × (last_ones (sum_by f w.made) (listed w.seen) ≡ last_ones (sum_by f v.made) (listed v.seen) ++ item ∷ [])
+      one_more item only more none list =
+          let few = only.1 in
+          let nothing = only.2 in
+          let long = ap length list in
+          let both = length-append (listed v.seen) (item ∷ []) in (
+            (still_half only.0, omega arith, omega arith),
+            last_push (sum_by f v.made) (sum_by f w.made) (listed v.seen) (listed w.seen) item few more list,
+          )
+
+      -- A call that does nothing leaves what the pass itself has done.
+      no_more : Only f g listed v → sum_by f w.made ≡ sum_by f v.made + 0 → sum_by g w.made ≡ sum_by g v.made + 0 → listed w.seen ≡ listed v.seen
+          → Only f g listed w × (last_ones (sum_by f w.made) (listed w.seen) ≡ last_ones (sum_by f v.made) (listed v.seen))
+      no_more only same none list =
+          let few = only.1 in
+          let nothing = only.2 in
+          let long = ap length list in (
+            (still_half only.0, omega arith, omega arith),
+            last_same (sum_by f v.made) (sum_by f w.made) (listed v.seen) (listed w.seen) (omega arith) list,
+          )
+
+      -- A fresh half has done nothing yet.
+      none_yet : HasHalf v → sum_by f v.made ≡ 0 → sum_by g v.made ≡ 0 → sum_by f w.made ≡ sum_by f v.made + 0 → sum_by g w.made ≡ sum_by g v.made + 0
+          → Only f g listed w × (last_ones (sum_by f w.made) (listed w.seen) ≡ [])
+      none_yet half none_by_f none_by_g same none =
+          ((still_half half, omega arith, omega arith), last_none (sum_by f w.made) (listed w.seen) (omega arith))
+
     -- a push of one item, by who only pushes, adds it to what this pass pushed
     pushed_more : (item : Item (Element T)) → OnlyPushes v → HasDone 1 0 v w → published w.seen ≡ published v.seen ++ item ∷ []
         → OnlyPushes w × (pushed_by w ≡ pushed_by v ++ item ∷ [])
-    pushed_more item only_pushes done list =
-        let p = done.puts_more in
-        let g = done.gets_more in
-        let few = only_pushes.1 in
-        let none = only_pushes.2 in
-        let long = ap length list in
-        let both = length-append (published v.seen) (item ∷ []) in (
-          (still_half v w goes only_pushes.0, omega arith, omega arith),
-          last_push (sum_by puts v.made) (sum_by puts w.made) (published v.seen) (published w.seen) item few p list,
-        )
+    pushed_more item only_pushes done list = one_more puts gets published item only_pushes done.puts_more done.gets_more list
 
     -- a call that moves nothing leaves what this pass pushed
     pushed_same : OnlyPushes v → HasDone 0 0 v w → published w.seen ≡ published v.seen → OnlyPushes w × (pushed_by w ≡ pushed_by v)
-    pushed_same only_pushes done list =
-        let p = done.puts_more in
-        let g = done.gets_more in
-        let few = only_pushes.1 in
-        let none = only_pushes.2 in
-        let long = ap length list in (
-          (still_half v w goes only_pushes.0, omega arith, omega arith),
-          last_same (sum_by puts v.made) (sum_by puts w.made) (published v.seen) (published w.seen) (omega arith) list,
-        )
+    pushed_same only_pushes done list = no_more puts gets published only_pushes done.puts_more done.gets_more list
 
     -- a pop of one item, by who only pops, adds it to what this pass popped
     popped_more : (item : Item (Element T)) → OnlyPops v → HasDone 0 1 v w → handed_out w.seen ≡ handed_out v.seen ++ item ∷ []
         → OnlyPops w × (popped_by w ≡ popped_by v ++ item ∷ [])
-    popped_more item only_pops done list =
-        let p = done.puts_more in
-        let g = done.gets_more in
-        let few = only_pops.1 in
-        let none = only_pops.2 in
-        let long = ap length list in
-        let both = length-append (handed_out v.seen) (item ∷ []) in (
-          (still_half v w goes only_pops.0, omega arith, omega arith),
-          last_push (sum_by gets v.made) (sum_by gets w.made) (handed_out v.seen) (handed_out w.seen) item few g list,
-        )
+    popped_more item only_pops done list = one_more gets puts handed_out item only_pops done.gets_more done.puts_more list
 
     -- a call that moves nothing leaves what this pass popped
     popped_same : OnlyPops v → HasDone 0 0 v w → handed_out w.seen ≡ handed_out v.seen → OnlyPops w × (popped_by w ≡ popped_by v)
-    popped_same only_pops done list =
-        let p = done.puts_more in
-        let g = done.gets_more in
-        let few = only_pops.1 in
-        let none = only_pops.2 in
-        let long = ap length list in (
-          (still_half v w goes only_pops.0, omega arith, omega arith),
-          last_same (sum_by gets v.made) (sum_by gets w.made) (handed_out v.seen) (handed_out w.seen) (omega arith) list,
-        )
+    popped_same only_pops done list = no_more gets puts handed_out only_pops done.gets_more done.puts_more list
 
     -- ---- who pushes
 
@@ -177,11 +180,7 @@ module _ {T : Type 0} where
     pub begins_pushing : (role : Role) → IsFreshHalf v → HasAcquired role true v w → OnlyPushes w × (pushed_by w ≡ [])
     begins_pushing role fresh_half acquired =
         let done = done_acquired v w role true acquired in
-        let p = done.puts_more in
-        let g = done.gets_more in
-        let none_put = fresh_half.1 in
-        let none_got = fresh_half.2 in
-        ((still_half v w goes fresh_half.0, omega arith, omega arith), last_none (sum_by puts w.made) (published w.seen) (omega arith))
+        none_yet puts gets published fresh_half.0 fresh_half.1 fresh_half.2 done.puts_more done.gets_more
 
     -- a push of a value adds it to the values that this pass pushed
     pub pushes_value : (x : T) → OnlyPushes v → has_values (pushed_by v) ≡ true → PushDone (Value (elements.Value x)) v w
@@ -226,11 +225,7 @@ module _ {T : Type 0} where
     pub begins_popping : (role : Role) → IsFreshHalf v → HasAcquired role true v w → OnlyPops w × (popped_by w ≡ [])
     begins_popping role fresh_half acquired =
         let done = done_acquired v w role true acquired in
-        let p = done.puts_more in
-        let g = done.gets_more in
-        let none_put = fresh_half.1 in
-        let none_got = fresh_half.2 in
-        ((still_half v w goes fresh_half.0, omega arith, omega arith), last_none (sum_by gets w.made) (handed_out w.seen) (omega arith))
+        none_yet gets puts handed_out fresh_half.0 fresh_half.2 fresh_half.1 done.gets_more done.puts_more
 
     pub pops_one : (item : Item (Element T)) → OnlyPops v → PopDone item v w → OnlyPops w × (popped_by w ≡ popped_by v ++ item ∷ [])
     pops_one item only_pops popped = popped_more item only_pops (done_popped v w item popped.0) popped.1.list
@@ -243,11 +238,11 @@ module _ {T : Type 0} where
     stops_popping role only_pops released list = popped_same only_pops (done_released v w role released) list
 
     -- a value that a pop answered comes behind those that came, where no end has come
-    pub receives_value : (x : T) (ended : Bool) → ended ≡ false → OnlyPops v → CameUpTo ended (popped_by v)
+    pub receives_value : (x : T) {ended : Bool} → ended ≡ false → OnlyPops v → CameUpTo ended (popped_by v)
         → PopDone (Value (elements.Value x)) v w
         → OnlyPops w × CameUpTo ended (popped_by w) × (values_in (popped_by w) ≡ values_in (popped_by v) ++ x ∷ [])
         × (has_end (popped_by w) ≡ false)
-    receives_value x ended off only_pops came popped =
+    receives_value x {ended} off only_pops came popped =
         let more = pops_one (Value (elements.Value x)) only_pops popped in
         let one = one_value (popped_by v) x (came.0 ∙ ap not off) in (
           more.0,
@@ -257,10 +252,10 @@ module _ {T : Type 0} where
         )
 
     -- a pop of the end adds no value, and ends what this pass popped
-    pub receives_end : (ended : Bool) → ended ≡ false → OnlyPops v → CameUpTo ended (popped_by v) → PopDone (Value elements.End) v w
+    pub receives_end : {ended : Bool} → ended ≡ false → OnlyPops v → CameUpTo ended (popped_by v) → PopDone (Value elements.End) v w
         → OnlyPops w × CameUpTo true (popped_by w) × (values_in (popped_by w) ≡ values_in (popped_by v) ++ [])
         × (has_end (popped_by w) ≡ true)
-    receives_end ended off only_pops came popped =
+    receives_end {ended} off only_pops came popped =
         let more = pops_one (Value elements.End) only_pops popped in
         let one = one_end (popped_by v) (came.0 ∙ ap not off) in (
           more.0,
@@ -270,10 +265,10 @@ module _ {T : Type 0} where
         )
 
     -- a pop that finds nothing leaves what this pass popped
-    pub receives_nothing : (ended : Bool) → ended ≡ false → OnlyPops v → CameUpTo ended (popped_by v) → PopEmpty v w
+    pub receives_nothing : {ended : Bool} → ended ≡ false → OnlyPops v → CameUpTo ended (popped_by v) → PopEmpty v w
         → OnlyPops w × CameUpTo ended (popped_by w) × (values_in (popped_by w) ≡ values_in (popped_by v) ++ [])
         × (has_end (popped_by w) ≡ false)
-    receives_nothing ended off only_pops came empty =
+    receives_nothing {ended} off only_pops came empty =
         let none = pops_none only_pops empty in (
           none.0,
           (ap has_values none.1 ∙ came.0, ap has_end none.1 ∙ came.1),
@@ -284,18 +279,18 @@ module _ {T : Type 0} where
   -- ---- by what a pop has found, where no end had come
 
   -- a receiver to which no end had come has received what its pop found
-  pub receives : (v w : View (Element T)) → Goes v w → (found : Option (Element T)) (ended : Bool) → ended ≡ false → OnlyPops v
+  pub receives : {v w : View (Element T)} → Goes v w → (found : Option (Element T)) {ended : Bool} → ended ≡ false → OnlyPops v
       → CameUpTo ended (popped_by v) → IfSome found (λ x. PopDone (Value x) v w) → IfNone found (PopEmpty v w)
       → OnlyPops w × CameUpTo (is_end (arrival_of found)) (popped_by w)
       × (values_in (popped_by w) ≡ values_in (popped_by v) ++ arrived (arrival_of found))
       × (has_end (popped_by w) ≡ is_end (arrival_of found))
-  receives v w goes None ended off only_pops came popped empty =
-      let none = receives_nothing v w goes ended off only_pops came empty in
+  receives goes None off only_pops came popped empty =
+      let none = receives_nothing goes off only_pops came empty in
       (none.0, (none.1.0 ∙ ap not off, none.1.1 ∙ off), none.2, none.3)
-  receives v w goes (Some (elements.Value x)) ended off only_pops came popped empty =
-      let one = receives_value v w goes x ended off only_pops came popped in
+  receives goes (Some (elements.Value x)) off only_pops came popped empty =
+      let one = receives_value goes x off only_pops came popped in
       (one.0, (one.1.0 ∙ ap not off, one.1.1 ∙ off), one.2, one.3)
-  receives v w goes (Some elements.End) ended off only_pops came popped empty = receives_end v w goes ended off only_pops came popped
+  receives goes (Some elements.End) off only_pops came popped empty = receives_end goes off only_pops came popped
 
   -- A pop that found nothing has found the queue empty, told of what arrived.
   pub found_nothing : (v w : View (Element T)) (found : Option (Element T)) → IfNone found (PopEmpty v w)
@@ -313,15 +308,20 @@ module _ {T : Type 0} where
 
   -- ---- the end, and then the role is given back
 
+  -- what a sender has done from `v` to `u` that pushed the end, and then gave its role back
+  pub record HasFinished (v u : View (Element T)) : Type 0 where
+    pub alone : OnlyPushes u
+    pub same : values_in (pushed_by u) ≡ values_in (pushed_by v)
+    pub ended : has_end (pushed_by u) ≡ true
+    pub once : ends_once (pushed_by u) ≡ true
+
   -- a sender that pushes the end, and gives its role back, has ended what it pushed
-  pub finishes : (v w u : View (Element T)) (role : Role) → OnlyPushes v → has_values (pushed_by v) ≡ true → Goes v w
-      → PushDone (Value elements.End) v w → Goes w u → HasReleased role w u → published u.seen ≡ published w.seen
-      → OnlyPushes u × (values_in (pushed_by u) ≡ values_in (pushed_by v)) × (has_end (pushed_by u) ≡ true)
-      × (ends_once (pushed_by u) ≡ true)
-  finishes v w u role only_pushes going goes pushed on released list =
-      let ended = pushes_end v w goes only_pushes going pushed in
-      let left = stops_pushing w u on role ended.0 released list in
-      (left.0, ap values_in left.1 ∙ ended.1, ap has_end left.1 ∙ ended.2, ap ends_once left.1 ∙ ended.3)
+  pub finishes : {v w u : View (Element T)} {role : Role} → Goes v w → Goes w u → OnlyPushes v → has_values (pushed_by v) ≡ true
+      → PushDone (Value elements.End) v w → HasReleased role w u → published u.seen ≡ published w.seen → HasFinished v u
+  finishes {v} {w} {u} {role} goes on only_pushes going pushed released list =
+      let ended = pushes_end goes only_pushes going pushed in
+      let left = stops_pushing on role ended.0 released list in
+      record { alone = left.0; same = ap values_in left.1 ∙ ended.1; ended = ap has_end left.1 ∙ ended.2; once = ap ends_once left.1 ∙ ended.3 }
 
   -- ---- a first pass that is split
 
@@ -350,10 +350,9 @@ module _ {T : Type 0} where
       refl
 
   -- what the sender pushed is what the receiver popped, and what waits
-  together : (code : Coding (Element T)) (capacity : ℕ) (mine theirs new : View (Element T)) → OnlyPushes mine → OnlyPops theirs
-      → HasJoined mine theirs new → MissesNothing new → IsHistory code kinds.Queue capacity new.seen
-      → pushed_by mine ≡ popped_by theirs ++ waiting new.seen
-  together code capacity mine theirs new pushes pops has_joined missing history =
+  together : {code : Coding (Element T)} {capacity : ℕ} {mine theirs new : View (Element T)} → HasJoined mine theirs new → OnlyPushes mine
+      → OnlyPops theirs → MissesNothing new → IsHistory code kinds.Queue capacity new.seen → pushed_by mine ≡ popped_by theirs ++ waiting new.seen
+  together {code} {capacity} {mine} {theirs} {new} has_joined pushes pops missing history =
       -- the joined pass has the whole share, so all that was pushed and popped is what it made
       let whole : IsAll new.share = subst IsAll (sym has_joined.share) (halves_are_all mine theirs pushes.0 pops.0) in
       let counted = whole_counted new whole missing in
@@ -391,8 +390,9 @@ module _ {T : Type 0} where
       ∙ ap (λ xs. xs ++ waiting new.seen) (sym (last_all (sum_by gets theirs.made) (handed_out theirs.seen) all_got)))))
 
   -- The sender's pass `mine` and the receiver's `theirs` are joined. So all that was sent and all that was received is known.
-  module _ (code : Coding (Element T)) (capacity : ℕ) (mine theirs new came : View (Element T)) (same : came ≡ theirs) (pushes : OnlyPushes mine)
-      (pops : OnlyPops theirs) (h : HasJoined mine came new) (missing : MissesNothing new) (history : IsHistory code kinds.Queue capacity new.seen) where
+  module _ {code : Coding (Element T)} {capacity : ℕ} {mine theirs new came : View (Element T)} (same : came ≡ theirs)
+      (h : HasJoined mine came new) (pushes : OnlyPushes mine) (pops : OnlyPops theirs) (missing : MissesNothing new)
+      (history : IsHistory code kinds.Queue capacity new.seen) where
     -- the same join, said of the receiver's pass
     joined : HasJoined mine theirs new
     joined = subst (λ v. HasJoined mine v new) same h
@@ -406,16 +406,16 @@ module _ {T : Type 0} where
     joined_begins =
         begins (popped_by theirs) (waiting new.seen)
         ∙ ap (λ xs. take (length (values_in (popped_by theirs))) (values_in xs))
-        (sym (together code capacity mine theirs new pushes pops joined missing history))
+        (sym (together joined pushes pops missing history))
 
     -- if the end came, all that was sent was received
     pub joined_all : has_end (popped_by theirs) ≡ true → values_in (popped_by theirs) ≡ values_in (pushed_by mine)
     joined_all ended =
         sym (end_stays (popped_by theirs) (waiting new.seen) ended).0
-        ∙ ap values_in (sym (together code capacity mine theirs new pushes pops joined missing history))
+        ∙ ap values_in (sym (together joined pushes pops missing history))
 
     -- if the end came, the sender had sent it
     pub joined_ends : has_end (popped_by theirs) ≡ true → has_end (pushed_by mine) ≡ true
     joined_ends ended =
-        ap has_end (together code capacity mine theirs new pushes pops joined missing history)
+        ap has_end (together joined pushes pops missing history)
         ∙ (end_stays (popped_by theirs) (waiting new.seen) ended).1

@@ -23,7 +23,7 @@ module _ {A : Type 0} (Step : A → A → Type 0) where
 
 module _ {T : Type 0} where
   -- the queue of the last push is that of the first
-  module _ (first queue : QueueId) (same : queue ≡ first) (item : Item T) (n : ℕ) (old between new : View T)
+  module _ {first queue : QueueId} (same : queue ≡ first) (item : Item T) (n : ℕ) (old between new : View T)
       (so_far : WereRefused n first.capacity item old between) where
     -- `n` pushes that were refused and then one more are `n + 1`.
     pub refused_more : PushRefused queue.capacity item between new → WereRefused (n + 1) first.capacity item old new

@@ -45,19 +45,19 @@ module _ {T : Type 0} (v w : View (Element T)) (goes : Goes v w) where
       → values_in (pushed_by w) ≡ values_in (pushed_by v) ++ x ∷ [] → ⊥
   send_says_true_of_a_refusal x capacity only_pushes full says =
       one_more (values_in (pushed_by v)) x
-      (sym (ap values_in (pushes_none v w goes capacity (Value (elements.Value x)) only_pushes full).1) ∙ says)
+      (sym (ap values_in (pushes_none goes capacity (Value (elements.Value x)) only_pushes full).1) ∙ says)
 
   -- `send` answers false although it pushed
   pub send_says_false_of_a_push : (x : T) → OnlyPushes v → has_values (pushed_by v) ≡ true → PushDone (Value (elements.Value x)) v w
       → values_in (pushed_by w) ≡ values_in (pushed_by v) → ⊥
   send_says_false_of_a_push x only_pushes going pushed says =
-      one_more (values_in (pushed_by v)) x (sym says ∙ (pushes_value v w goes x only_pushes going pushed).2)
+      one_more (values_in (pushed_by v)) x (sym says ∙ (pushes_value goes x only_pushes going pushed).2)
 
   -- it pushes another value
   pub send_sends_another : (x y : T) → y ≢ x → OnlyPushes v → has_values (pushed_by v) ≡ true → PushDone (Value (elements.Value y)) v w
       → values_in (pushed_by w) ≡ values_in (pushed_by v) ++ x ∷ [] → ⊥
   send_sends_another x y other only_pushes going pushed says =
-      other (ap (head y) (append_cancel_left (values_in (pushed_by v)) (y ∷ []) (x ∷ []) (sym (pushes_value v w goes y only_pushes going pushed).2 ∙ says)))
+      other (ap (head y) (append_cancel_left (values_in (pushed_by v)) (y ∷ []) (x ∷ []) (sym (pushes_value goes y only_pushes going pushed).2 ∙ says)))
 
   -- ---- `finish`
 
@@ -65,14 +65,14 @@ module _ {T : Type 0} (v w : View (Element T)) (goes : Goes v w) where
   pub finish_writes_no_end : (role : Role) → OnlyPushes v → has_values (pushed_by v) ≡ true → HasReleased role v w
       → published w.seen ≡ published v.seen → has_end (pushed_by w) ≡ true → ⊥
   finish_writes_no_end role only_pushes going released list says =
-      let left = (stops_pushing v w goes role only_pushes released list).1 in
+      let left = (stops_pushing goes role only_pushes released list).1 in
       true≢false (sym says ∙ (ap has_end left ∙ none_ended (pushed_by v) going))
 
   -- `finish` answers that it finished although the push of the end was refused
   pub finish_says_so_of_a_refusal : (capacity : ℕ) → OnlyPushes v → has_values (pushed_by v) ≡ true
       → PushRefused capacity (Value elements.End) v w → has_end (pushed_by w) ≡ true → ⊥
   finish_says_so_of_a_refusal capacity only_pushes going full says =
-      let same = (pushes_none v w goes capacity (Value elements.End) only_pushes full).1 in
+      let same = (pushes_none goes capacity (Value elements.End) only_pushes full).1 in
       true≢false (sym says ∙ (ap has_end same ∙ none_ended (pushed_by v) going))
 
   -- ---- `receive`
@@ -80,25 +80,25 @@ module _ {T : Type 0} (v w : View (Element T)) (goes : Goes v w) where
   -- `receive` answers the end where the queue is empty
   pub receive_ends_an_empty_queue : OnlyPops v → CameUpTo false (popped_by v) → PopEmpty v w → has_end (popped_by w) ≡ true → ⊥
   receive_ends_an_empty_queue only_pops came empty says =
-      true≢false (sym says ∙ (receives_nothing v w goes false refl only_pops came empty).3)
+      true≢false (sym says ∙ (receives_nothing goes refl only_pops came empty).3)
 
   -- `receive` answers the end where it popped a value
   pub receive_ends_at_a_value : (x : T) → OnlyPops v → CameUpTo false (popped_by v) → PopDone (Value (elements.Value x)) v w
       → has_end (popped_by w) ≡ true → ⊥
   receive_ends_at_a_value x only_pops came popped says =
-      true≢false (sym says ∙ (receives_value v w goes x false refl only_pops came popped).3)
+      true≢false (sym says ∙ (receives_value goes x refl only_pops came popped).3)
 
   -- `receive` pops a value, and answers nothing
   pub receive_drops_a_value : (x : T) → OnlyPops v → CameUpTo false (popped_by v) → PopDone (Value (elements.Value x)) v w
       → values_in (popped_by w) ≡ values_in (popped_by v) ++ [] → ⊥
   receive_drops_a_value x only_pops came popped says =
       one_more (values_in (popped_by v)) x
-      (sym (append-nil (values_in (popped_by v))) ∙ (sym says ∙ (receives_value v w goes x false refl only_pops came popped).2))
+      (sym (append-nil (values_in (popped_by v))) ∙ (sym says ∙ (receives_value goes x refl only_pops came popped).2))
 
   -- `receive` pops the end, and answers nothing
   pub receive_drops_the_end : OnlyPops v → CameUpTo false (popped_by v) → PopDone (Value elements.End) v w
       → has_end (popped_by w) ≡ false → ⊥
-  receive_drops_the_end only_pops came popped says = true≢false (sym (receives_end v w goes false refl only_pops came popped).3 ∙ says)
+  receive_drops_the_end only_pops came popped says = true≢false (sym (receives_end goes refl only_pops came popped).3 ∙ says)
 
 -- ---- `next` of `Values`
 

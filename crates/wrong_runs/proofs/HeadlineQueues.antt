@@ -1,5 +1,5 @@
 -- For each field of what `headline` says of queues and of the single value a run that this field refuses here.
-use Rattle.std.proofs.Common.{◌≡◌, ⊎_elim, ℕ, true, false, List, [], ◌∷◌, ◌++◌, refl, sym, subst}
+use Rattle.std.proofs.Common.{◌≡◌, ⊎_elim, ℕ, true, false, List, [], ◌∷◌, ◌++◌, refl}
 use Rattle.std.specs.List.{flat_map}
 use Rattle.model.specs.declared.event.Answer.TheVariants.{Truth, PoppedNone, Loaded}
 use Rattle.model.specs.declared.event.Event.{Event}
@@ -9,11 +9,11 @@ use Rattle.model.specs.declared.event.Start.TheVariants.{Atomic}
 use Rattle.model.specs.declared.families.atomic.AtomicStart.TheVariants.{Load}
 use Rattle.model.specs.declared.families.queues.QueueKind.TheVariants as queues
 use Rattle.model.specs.Linearized.{as_list}
-use Rattle.model.specs.Moments.{BeginsNone}
 use Rattle.model.proofs.Readings.{no_more}
 use Rattle.model.proofs.WorkedLinearizable.{no_lost_value}
 use Rattle.headline.specs.Headline.{QueueRuns, ValueRuns}
 use Rattle.headline.specs.Moments.{act_of, ActedOnce, ActAs}
+use Rattle.wrong_runs.proofs.Machines.{same_begin}
 use Rattle.wrong_runs.proofs.Queues.{queue, push, pop}
 use Rattle.wrong_runs.proofs.Value.{value}
 
@@ -43,18 +43,13 @@ ends_unacted list =
 abbrev begun_again : List (Event ℕ)
 begun_again = Begun 0 (push 7) ∷ Begun 0 (push 8) ∷ Acted 0 (push 7) (Truth true) ∷ []
 
--- a push that has begun again acts only behind another begin
-begins_again : (before since : List (Event ℕ)) → begun_again ≡ before ++ Begun 0 (push 7) ∷ since → BeginsNone 0 since → ⊥
-begins_again [] since split none =
-    let rest : Begun 0 (push 8) ∷ Acted 0 (push 7) (Truth true) ∷ [] ≡ since = cc in (subst (BeginsNone 0) (sym rest) none).0 refl
-begins_again (a ∷ []) since split none = absurd (cc)
-begins_again (a ∷ b ∷ []) since split none = absurd (cc)
-begins_again (a ∷ b ∷ c ∷ before) since split none =
-    let more : [] ≡ before ++ Begun 0 (push 7) ∷ since = cc in no_more before (Begun 0 (push 7)) since more
-
 -- A push that acts after its party has begun another one has not acted once within itself.
 acts_late : ActedOnce 0 (push 7) (Truth true) begun_again → ⊥
-acts_late act = begins_again act.before act.since act.is act.within
+acts_late act =
+    let same =
+    same_begin 0 (push 8) (push 7) (Begun 0 (push 7) ∷ []) (Acted 0 (push 7) (Truth true) ∷ []) act.before act.since act.is tt act.within in
+    let name : push 8 ≡ push 7 = same.1 in
+    cc
 
 -- a push acts twice, and then stops
 abbrev twice : List (Event ℕ)

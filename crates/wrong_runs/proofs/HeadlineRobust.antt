@@ -1,5 +1,5 @@
 -- For each field of what `headline` says of the robust index set a run that this field refuses here.
-use Rattle.std.proofs.Common.{◌≡◌, ℕ, ◌==◌, Bool, true, false, Some, None, is_some, List, [], ◌∷◌, ◌++◌, if◌then◌else◌, refl, sym, subst, inl, arith}
+use Rattle.std.proofs.Common.{◌≡◌, ℕ, ◌==◌, Bool, true, false, Some, None, is_some, List, [], ◌∷◌, ◌++◌, if◌then◌else◌, refl, inl, arith}
 use Rattle.steps.specs.declared.indices.enums.ReleaseMode.{ReleaseMode}
 use Rattle.steps.specs.declared.indices.enums.ReleaseMode.TheVariants.{Default, LockIfLastIndex}
 use Rattle.steps.specs.declared.indices.enums.ReleaseState.TheVariants.{Unlocked}
@@ -11,13 +11,12 @@ use Rattle.model.specs.declared.event.Start.TheVariants as starts
 use Rattle.model.specs.declared.families.indices.robust.RobustStart.TheVariants.{Acquire, Find, Release, Recover}
 use Rattle.model.specs.Families.Indices.Robust.Promises.{FreesRight, IsWellFormed, IsFilled, IsFilledWith, StillToFree, HeldThroughout, count_below}
 use Rattle.model.specs.Families.Indices.Robust.Reading.{SetAct, Asks, Frees, Yes, set_acts_of, IsOneOf}
-use Rattle.model.specs.Moments.{BeginsNone}
 use Rattle.model.proofs.Readings.{Each-append, Each-nil, no_more}
 use Rattle.headline.specs.Headline.{RobustRuns}
 use Rattle.wrong_runs.specs.Wrong.{two_grants}
 use Rattle.wrong_runs.proofs.Counting.{none_counted, counted_below, past_bound}
 use Rattle.wrong_runs.proofs.HeadlineSets.{two}
-use Rattle.wrong_runs.proofs.Machines.{at_no_moment}
+use Rattle.wrong_runs.proofs.Machines.{at_no_moment, throughout}
 use Rattle.wrong_runs.proofs.Robust.{set, well_formed}
 
 -- What `headline` says of a robust set holds of these events.
@@ -123,14 +122,7 @@ leaves_told k = k.recovered 1 0 7 Default told ([], refl) (record { before = Ask
 -- where a call has just begun after one event, what holds now holds throughout the call
 pub held_since : (P : List (Event ℕ) → Type 0) (owner : ℕ) (start : Start ℕ) → P (Filled 0 0 owner ∷ Begun 1 start ∷ [])
     → HeldThroughout 1 P (Filled 0 0 owner ∷ Begun 1 start ∷ [])
-held_since P owner start h [] rest is none = absurd ((subst (BeginsNone 1) (sym is) none).0 refl)
-held_since P owner start h (a ∷ []) rest is none =
-    let begins : rest ≡ Begun 1 start ∷ [] = cc in absurd ((subst (BeginsNone 1) begins none).0 refl)
-held_since P owner start h (a ∷ b ∷ []) rest is none =
-    let first : Filled 0 0 owner ≡ a = cc in
-    let next : Begun 1 start ≡ b = cc in
-    rw (← next) (rw (← first) h)
-held_since P owner start h (a ∷ b ∷ c ∷ part) rest is none = absurd (cc)
+held_since P owner start h = throughout 1 start P (Filled 0 0 owner ∷ []) [] h
 
 -- A recovery has begun and asked about no index, while index 0 is filled.
 abbrev unasked : List (Event ℕ)

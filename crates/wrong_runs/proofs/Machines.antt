@@ -1,5 +1,5 @@
 -- How the wrong runs are written: what a machine would be that has written these events.
-use Rattle.std.proofs.Common.{◌≡◌, ℕ, List, [], ◌∷◌, ◌++◌, refl, sym, subst, append_assoc, append-nil}
+use Rattle.std.proofs.Common.{◌≡◌, ℕ, List, [], ◌∷◌, ◌++◌, refl, sym, subst}
 use Rattle.model.specs.declared.event.Event.{Event}
 use Rattle.model.specs.declared.event.Event.TheVariants.{Begun}
 use Rattle.model.specs.declared.event.Start.{Start}
@@ -7,7 +7,7 @@ use Rattle.model.specs.declared.families.Registry.{Registry}
 use Rattle.model.specs.declared.turn.Kind.{Kind}
 use Rattle.model.specs.Coding.{one_word}
 use Rattle.model.specs.Families.Indices.Robust.Promises.{HeldThroughout}
-use Rattle.model.specs.Moments.{HeldSometime, BeginsNone}
+use Rattle.model.specs.Moments.{HeldSometime, BeginsNone, SinceBegin}
 use Rattle.model.specs.World.{Trace}
 
 -- a machine of this kind, of capacity 2 and of two parties, in which no call is under way
@@ -29,26 +29,6 @@ machine kind words kept events =
       events = events;
     }
 
--- P holds at none of the moments from here on
-abbrev pub Never : (List (Event ℕ) → Type 0) → List (Event ℕ) → List (Event ℕ) → Type 0
-Never P before [] = P before → ⊥
-Never P before (e ∷ es) = (P before → ⊥) × Never P (before ++ e ∷ []) es
-
--- what holds at none of the moments holds at none that is reached on the way
-there : (P : List (Event ℕ) → Type 0) (part rest before es : List (Event ℕ)) → es ≡ part ++ rest → Never P before es → P (before ++ part) → ⊥
-there P [] rest before [] split never h = never (subst P (append-nil before) h)
-there P [] rest before (e ∷ es) split never h = never.0 (subst P (append-nil before) h)
-there P (a ∷ part) rest before [] split never h = absurd (cc)
-there P (a ∷ part) rest before (e ∷ es) split never h =
-    let first : a ≡ e = cc in
-    let more : es ≡ part ++ rest = cc in
-    there P part rest (before ++ e ∷ []) es more never.1
-    (subst P (sym (append_assoc before (e ∷ []) part)) (rw (← first) h))
-
--- What never holds in these events was held at no moment of the party's call.
-pub at_no_moment : (p : ℕ) (P : List (Event ℕ) → Type 0) (events : List (Event ℕ)) → Never P [] events → HeldSometime p P events → ⊥
-at_no_moment p P events never held = there P held.part held.rest [] events held.is never held.held
-
 -- ---- the moments of a call
 
 -- P holds at all of the moments from here on
@@ -56,15 +36,28 @@ abbrev pub Stays : (List (Event ℕ) → Type 0) → List (Event ℕ) → List (
 Stays P before [] = P before
 Stays P before (e ∷ es) = P before × Stays P (before ++ e ∷ []) es
 
--- what holds at all of the moments holds at each that is reached on the way
-stays_there : (P : List (Event ℕ) → Type 0) (part rest before es : List (Event ℕ)) → es ≡ part ++ rest → Stays P before es → P (before ++ part)
-stays_there P [] rest before [] split all = subst P (sym (append-nil before)) all
-stays_there P [] rest before (e ∷ es) split all = subst P (sym (append-nil before)) all.0
-stays_there P (a ∷ part) rest before [] split all = absurd (cc)
-stays_there P (a ∷ part) rest before (e ∷ es) split all =
+-- an event in front of all moments can be read into the property
+shifts : (P : List (Event ℕ) → Type 0) (b : Event ℕ) (before es : List (Event ℕ)) → Stays P (b ∷ before) es → Stays (λ part. P (b ∷ part)) before es
+shifts P b before [] all = all
+shifts P b before (e ∷ es) all = (all.0, shifts P b (before ++ e ∷ []) es all.1)
+
+-- what holds at all of the moments of a run holds at each that is reached on the way
+stays_there : (P : List (Event ℕ) → Type 0) (part rest es : List (Event ℕ)) → es ≡ part ++ rest → Stays P [] es → P part
+stays_there P [] rest [] split all = all
+stays_there P [] rest (e ∷ es) split all = all.0
+stays_there P (a ∷ part) rest [] split all = absurd (cc)
+stays_there P (a ∷ part) rest (e ∷ es) split all =
     let first : e ≡ a = cc in
     let more : es ≡ part ++ rest = cc in
-    rw (← first) (subst P (append_assoc before (e ∷ []) part) (stays_there P part rest (before ++ e ∷ []) es more all.1))
+    rw (← first) (stays_there (λ part. P (e ∷ part)) part rest es more (shifts P e [] es all.1))
+
+-- P holds at none of the moments from here on
+abbrev pub Never : (List (Event ℕ) → Type 0) → List (Event ℕ) → List (Event ℕ) → Type 0
+Never P = Stays (λ part. P part → ⊥)
+
+-- What never holds in these events was held at no moment of the party's call.
+pub at_no_moment : (p : ℕ) (P : List (Event ℕ) → Type 0) (events : List (Event ℕ)) → Never P [] events → HeldSometime p P events → ⊥
+at_no_moment p P events never held = stays_there (λ part. P part → ⊥) held.part held.rest events held.is never held.held
 
 -- Events with a begin of the party's call are not events in which it begins none.
 begins_one : (p : ℕ) (start : Start ℕ) (before since : List (Event ℕ)) → BeginsNone p (before ++ Begun p start ∷ since) → ⊥
@@ -72,32 +65,48 @@ begins_one p start [] since none = none.0 refl
 begins_one p start (Begun q other ∷ before) since none = begins_one p start before since none.1
 begins_one p start (e ∷ before) since none = begins_one p start before since none
 
--- what holds at all moments from a party's latest begin on holds at each from which the party begins nothing
-since_there : (p : ℕ) (start : Start ℕ) (P : List (Event ℕ) → Type 0) (before since past part rest : List (Event ℕ))
-    → before ++ Begun p start ∷ since ≡ part ++ rest → BeginsNone p rest → Stays P (past ++ (before ++ Begun p start ∷ [])) since
-    → P (past ++ part)
-since_there p start P before since past [] rest split none all = absurd (begins_one p start before since (subst (BeginsNone p) (sym split) none))
-since_there p start P [] since past (a ∷ part) rest split none all =
-    let first : Begun p start ≡ a = cc in
-    let more : since ≡ part ++ rest = cc in
-    rw (← first) (subst P (append_assoc past (Begun p start ∷ []) part) (stays_there P part rest (past ++ Begun p start ∷ []) since more all))
-since_there p start P (b ∷ before) since past (a ∷ part) rest split none all =
-    let first : b ≡ a = cc in
-    let more : before ++ Begun p start ∷ since ≡ part ++ rest = cc in
-    rw (← first) (subst P (append_assoc past (b ∷ []) part)
-    (since_there p start P before since (past ++ b ∷ []) part rest more none
-    (rw (append_assoc past (b ∷ []) (before ++ Begun p start ∷ [])) all)))
+module _ (p : ℕ) where
+  -- Two begins of the party in the same events, behind which it begins nothing, are one begin.
+  pub same_begin : (start other : Start ℕ) (before since before' since' : List (Event ℕ))
+      → before ++ Begun p start ∷ since ≡ before' ++ Begun p other ∷ since' → BeginsNone p since → BeginsNone p since'
+      → (before ≡ before') × (start ≡ other) × (since ≡ since')
+  same_begin start other [] since [] since' split none too = (refl, cc, cc)
+  same_begin start other [] since (b ∷ before') since' split none too =
+      let rest : since ≡ before' ++ Begun p other ∷ since' = cc in
+      absurd (begins_one p other before' since' (subst (BeginsNone p) rest none))
+  same_begin start other (a ∷ before) since [] since' split none too =
+      let rest : since' ≡ before ++ Begun p start ∷ since = cc in
+      absurd (begins_one p start before since (subst (BeginsNone p) rest too))
+  same_begin start other (a ∷ before) since (b ∷ before') since' split none too =
+      let first : a ≡ b = cc in
+      let rest : before ++ Begun p start ∷ since ≡ before' ++ Begun p other ∷ since' = cc in
+      let same = same_begin start other before since before' since' rest none too in
+      (rw (first, same.0) refl, same.1, same.2)
 
--- what holds from the begin of a party's latest call on holds throughout the call
-pub throughout : (p : ℕ) (start : Start ℕ) (P : List (Event ℕ) → Type 0) (before since : List (Event ℕ))
-    → Stays P (before ++ Begun p start ∷ []) since
-    → HeldThroughout p P (before ++ Begun p start ∷ since)
-throughout p start P before since all part rest is none = since_there p start P before since [] part rest is none all
+  -- What holds since the party's latest call began holds of the events before that begin and since.
+  pub since_is : (start : Start ℕ) {P : List (Event ℕ) → List (Event ℕ) → Type 0} (before since : List (Event ℕ)) → BeginsNone p since
+      → SinceBegin p P (before ++ Begun p start ∷ since) → P before since
+  since_is start {P} before since none now =
+      let same = same_begin start now.start before since now.before now.since now.is none now.within in
+      subst (λ b. P b since) (sym same.0) (subst (P now.before) (sym same.2) now.holds)
 
--- What holds at no moment since the begin of a call held at no moment of the call.
-pub at_none_since : (p : ℕ) (start : Start ℕ) (P : List (Event ℕ) → Type 0) (before since : List (Event ℕ))
-    → Stays (λ part. P part → ⊥) (before ++ Begun p start ∷ []) since
-    → HeldSometime p P (before ++ Begun p start ∷ since)
-    → ⊥
-at_none_since p start P before since never held =
-    since_there p start (λ part. P part → ⊥) before since [] held.part held.rest held.is held.within never held.held
+module _ (p : ℕ) (start : Start ℕ) where
+  -- what holds from the begin of a party's latest call on holds throughout the call
+  pub throughout : (P : List (Event ℕ) → Type 0) (before since : List (Event ℕ))
+      → Stays P (before ++ Begun p start ∷ []) since → HeldThroughout p P (before ++ Begun p start ∷ since)
+  throughout P before since all [] rest split none = absurd (begins_one p start before since (subst (BeginsNone p) (sym split) none))
+  throughout P [] since all (a ∷ part) rest split none =
+      let first : Begun p start ≡ a = cc in
+      let more : since ≡ part ++ rest = cc in
+      rw (← first) (stays_there (λ part. P (Begun p start ∷ part)) part rest since more (shifts P (Begun p start) [] since all))
+  throughout P (b ∷ before) since all (a ∷ part) rest split none =
+      let first : b ≡ a = cc in
+      let more : before ++ Begun p start ∷ since ≡ part ++ rest = cc in
+      let behind = shifts P b (before ++ Begun p start ∷ []) since all in
+      rw (← first) (throughout (λ part. P (b ∷ part)) before since behind part rest more none)
+
+  -- What holds at no moment since the begin of a call held at no moment of the call.
+  pub at_none_since : (P : List (Event ℕ) → Type 0) (before since : List (Event ℕ))
+      → Never P (before ++ Begun p start ∷ []) since → HeldSometime p P (before ++ Begun p start ∷ since) → ⊥
+  at_none_since P before since never held =
+      throughout (λ part. P part → ⊥) before since never held.part held.rest held.is held.within held.held

@@ -1,5 +1,5 @@
 -- Wrong bodies of the bit sets and of the unique index set: for each a run that it makes, and what refuses that.
-use Rattle.std.proofs.Common.{◌≡◌, ℕ, true, List, [], ◌∷◌, ◌++◌, refl, ap, arith}
+use Rattle.std.proofs.Common.{ℕ, true, List, [], ◌∷◌, ◌++◌, refl, ap, arith}
 use Rattle.steps.specs.declared.indices.enums.ReleaseMode.TheVariants.{LockIfLastIndex}
 use Rattle.steps.specs.declared.indices.enums.UniqueIndexSetAcquireFailure.TheVariants.{OutOfIndices}
 use Rattle.model.specs.declared.event.Answer.TheVariants.{Done, Index, NoIndex, Truth}
@@ -13,12 +13,11 @@ use Rattle.model.specs.declared.families.indices.IndexStart.TheVariants.{Acquire
 use Rattle.model.specs.Families.Bits.Promises.{IsBitSet, IsCountingSet, HasCleared, HasTaken}
 use Rattle.model.specs.Families.Indices.Promises.{IsIndexSet}
 use Rattle.model.specs.Families.Indices.Spans.{SetActs}
-use Rattle.model.specs.Moments.{SinceBegin}
-use Rattle.model.proofs.Readings.{no_more}
 use Rattle.headline.specs.Headline.{BitsRun, IndicesRun}
 use Rattle.wrong_runs.proofs.Bits.{bits, counts}
 use Rattle.wrong_runs.proofs.HeadlineSets.{two}
 use Rattle.wrong_runs.proofs.Indices.{set}
+use Rattle.wrong_runs.proofs.Machines.{since_is}
 
 -- ---- bits and counts
 
@@ -36,22 +35,6 @@ stands_already = Begun 0 set_1 ∷ events.Set 0 1 ∷ Finished 0 set_1 (Truth tr
 set_again_is_true : BitsRun (bits (0 ∷ 2 ∷ []) (stands_already ++ Finished 1 set_1 (Truth true) ∷ [])) → ⊥
 set_again_is_true bits_run = cc (bits_run.set 1 1 stands_already ([], refl))
 
--- If a reset of all has begun right after the event `one`, then what holds since its begin holds with `one`
--- before it and nothing since.
-only_begin : (one : Event ℕ) (P : List (Event ℕ) → List (Event ℕ) → Type 0) → ((start : Start ℕ) → one ≡ Begun 1 start → ⊥)
-    → SinceBegin 1 P (one ∷ Begun 1 reset_all ∷ []) → P (one ∷ []) []
-only_begin one P other since_begin = found since_begin.before since_begin.start since_begin.since since_begin.is since_begin.holds where
-  -- The call began right after the event `one`.
-  found : (before : List (Event ℕ)) (start : Start ℕ) (since : List (Event ℕ)) → one ∷ Begun 1 reset_all ∷ [] ≡ before ++ Begun 1 start ∷ since
-      → P before since → P (one ∷ []) []
-  found [] start since split held = absurd (other start (cc))
-  found (a ∷ []) start since split held =
-      let first : one ≡ a = cc in
-      let none : [] ≡ since = cc in
-      rw (← none) at (rw (← first) at held)
-  found (a ∷ b ∷ before) start since split held =
-      let more : [] ≡ before ++ Begun 1 start ∷ since = cc in absurd (no_more before (Begun 1 start) since more)
-
 -- Bit 1 stands, and a reset of all has begun.
 abbrev unreset : List (Event ℕ)
 unreset = events.Set 0 1 ∷ Begun 1 reset_all ∷ []
@@ -60,7 +43,7 @@ unreset = events.Set 0 1 ∷ Begun 1 reset_all ∷ []
 reset_all_does_nothing : IsBitSet (bits (0 ∷ 2 ∷ []) (unreset ++ Finished 1 reset_all Done ∷ [])) → ⊥
 reset_all_does_nothing bit_set =
     let held = bit_set.answers unreset [] (Finished 1 reset_all Done) refl in
-    let cleared = only_begin (events.Set 0 1) (HasCleared 2) (λ start e. cc) held 1 (omega arith) refl in absurd (omega arith)
+    let cleared = since_is 1 reset_all {P = HasCleared 2} (events.Set 0 1 ∷ []) [] tt held 1 (omega arith) refl in absurd (omega arith)
 
 -- Place 1 counts 1, and a reset of all has begun.
 abbrev untaken : List (Event ℕ)
@@ -70,7 +53,7 @@ untaken = Counted 0 1 ∷ Begun 1 reset_all ∷ []
 reset_all_takes_nothing : IsCountingSet (counts (0 ∷ 1 ∷ []) (untaken ++ Finished 1 reset_all Done ∷ [])) → ⊥
 reset_all_takes_nothing counting_set =
     let held = counting_set.answers untaken [] (Finished 1 reset_all Done) refl in
-    let taken = only_begin (Counted 0 1) (HasTaken 2) (λ start e. cc) held 1 (omega arith) (omega arith) in absurd (omega arith)
+    let taken = since_is 1 reset_all {P = HasTaken 2} (Counted 0 1 ∷ []) [] tt held 1 (omega arith) (omega arith) in absurd (omega arith)
 
 -- ---- unique indices
 

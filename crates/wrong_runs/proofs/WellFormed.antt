@@ -1,5 +1,5 @@
 -- Which runs of a container are well-formed: a worked one that is, and two that are not.
-use Rattle.std.proofs.Common.{◌≡◌, ℕ, zero, suc, Some, List, [], ◌∷◌, ◌++◌, refl, subst, arith}
+use Rattle.std.proofs.Common.{◌≡◌, ℕ, zero, suc, Some, List, [], ◌∷◌, ◌++◌, refl, arith}
 use Rattle.steps.specs.declared.indices.enums.ReleaseMode.TheVariants.{Default}
 use Rattle.steps.specs.declared.indices.enums.ReleaseState.TheVariants as states
 use Rattle.model.specs.declared.event.Answer.TheVariants.{Done, Index, State}
@@ -12,15 +12,16 @@ use Rattle.model.specs.declared.party.Party.{Party}
 use Rattle.model.specs.declared.turn.Kind.TheVariants as kinds
 use Rattle.model.specs.declared.turn.Turn.{Turn}
 use Rattle.model.specs.Families.Container.Promises.{IsWellFormedRun, ReplacesRight, StandsWellFormed}
-use Rattle.model.specs.Families.Container.Reading.{MayReplace, NoneTakes}
+use Rattle.model.specs.Families.Container.Reading.{MayReplace}
 use Rattle.model.specs.Families.Indices.Robust.Promises.{FreesRight, IsFilledWith}
 use Rattle.model.specs.Families.Indices.Robust.Reading.{settled_of}
-use Rattle.model.specs.Moments.{BeginsNone, HeldSometime, SinceBegin}
+use Rattle.model.specs.Moments.{HeldSometime, SinceBegin}
 use Rattle.model.specs.Parties.{party_of}
 use Rattle.model.specs.World.{Trace}
 use Rattle.model.proofs.Parties.{apart}
 use Rattle.model.proofs.Readings.{Each-append, Each-nil}
 use Rattle.model.proofs.Runs.{two_words, begins, ran}
+use Rattle.wrong_runs.proofs.Machines.{since_is}
 
 abbrev add : ℕ → ℕ → Start ℕ
 add value owner = Container (Add value owner)
@@ -138,22 +139,11 @@ pub hasty_events : (ran_on hasty).events ≡ filled ++ Begun 1 (remove 0 1) ∷ 
 hasty_events = refl
 
 -- the index is not settled for its owner as the remove begins
-too_early : (before since : List (Event ℕ)) (start : Start ℕ)
-    → filled ++ Begun 1 (remove 0 1) ∷ [] ≡ before ++ Begun 1 start ∷ since
-    → settled_of 0 before ≡ Some 1 → ⊥
-too_early [] since start split holds = absurd (cc)
-too_early (a ∷ []) since start split holds = absurd (cc)
-too_early (a ∷ b ∷ []) since start split holds =
-    let same : a ∷ b ∷ [] ≡ filled = cc in
-    let never : settled_of 0 filled ≡ Some 1 =
-    subst (λ events. settled_of 0 events ≡ Some 1) same holds in
-    absurd (cc)
-too_early (a ∷ b ∷ c ∷ []) since start split holds = absurd (cc)
-too_early (a ∷ b ∷ c ∷ d ∷ rest) since start split holds = absurd (cc)
-
 no_give_back : SinceBegin 1 (λ before since. settled_of 0 before ≡ Some 1)
     (filled ++ Begun 1 (remove 0 1) ∷ []) → ⊥
-no_give_back since_begin = too_early since_begin.before since_begin.since since_begin.start since_begin.is since_begin.holds
+no_give_back since_begin =
+    let settled : settled_of 0 filled ≡ Some 1 = since_is 1 (remove 0 1) filled [] tt since_begin in
+    absurd (cc)
 
 -- The run in which the remove was begun before the add had finished is not well-formed.
 pub hasty_is_not_well_formed : IsWellFormedRun (ran_on hasty) → ⊥
@@ -174,33 +164,9 @@ both = added ++ Begun 0 (replace 0 6 1) ∷ Begun 1 (replace 0 7 1) ∷ []
 pub beside_events : (ran_on beside).events ≡ both
 beside_events = refl
 
--- since the first has begun, another has
-too_many : (before since : List (Event ℕ)) (start : Start ℕ)
-    → both ≡ before ++ Begun 0 start ∷ since → BeginsNone 0 since → NoneTakes 0 1 since → ⊥
-too_many [] since start split within none =
-    let same : since
-    ≡ Filled 0 0 1
-    ∷ Granted 0 0 1
-    ∷ Placed 0 0 5
-    ∷ Finished 0 (add 5 1) (Index 0)
-    ∷ Begun 0 (replace 0 6 1)
-    ∷ Begun 1 (replace 0 7 1)
-    ∷ [] = cc in
-    let begins_none = subst (BeginsNone 0) same within in begins_none.0 refl
-too_many (a ∷ []) since start split within none = absurd (cc)
-too_many (a ∷ b ∷ []) since start split within none = absurd (cc)
-too_many (a ∷ b ∷ c ∷ []) since start split within none = absurd (cc)
-too_many (a ∷ b ∷ c ∷ d ∷ []) since start split within none = absurd (cc)
-too_many (a ∷ b ∷ c ∷ d ∷ e ∷ []) since start split within none =
-    let same : since ≡ Begun 1 (replace 0 7 1) ∷ [] = cc in
-    let takes_none = subst (NoneTakes 0 1) same none in takes_none.0 (refl, refl)
-too_many (a ∷ b ∷ c ∷ d ∷ e ∷ f ∷ []) since start split within none = absurd (cc)
-too_many (a ∷ b ∷ c ∷ d ∷ e ∷ f ∷ g ∷ []) since start split within none = absurd (cc)
-too_many (a ∷ b ∷ c ∷ d ∷ e ∷ f ∷ g ∷ h ∷ rest) since start split within none = absurd (cc)
-
 -- The replace of party 0 may not replace, since party 1 has begun a replace of the same index since then.
 no_replace : MayReplace 0 0 1 both → ⊥
-no_replace may = too_many may.before may.since may.start may.is may.within may.holds.1
+no_replace may = (since_is 0 (replace 0 6 1) added (Begun 1 (replace 0 7 1) ∷ []) ((λ e. cc), tt) may).1.0 (refl, refl)
 
 was_filled : HeldSometime 0 (IsFilledWith 1 0) both
 was_filled = record { part = both; rest = []; is = refl; within = tt; held = refl }

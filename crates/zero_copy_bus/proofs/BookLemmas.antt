@@ -2,7 +2,7 @@
 -- and counts of slots do to them. Then what one change of the table leaves as it was (`ChangesAt` and the
 -- predicates of `specs/Books.antt`).
 use Rattle.std.proofs.Common.{◌≡◌, ◌≢◌, inl, inr, lit<, Result, Ok, Err, IfErr, ℕ, zero, suc, ◌+◌, ◌<◌, ◌==◌, Bool, true, false, nat_lt}
-use Rattle.std.proofs.Common.{true≢false, if◌then◌else◌, ◌⊎◌, Some, None, List, [], ◌∷◌, ◌++◌, length, length-append, set, replicate, ◌≤◌}
+use Rattle.std.proofs.Common.{true≢false, if◌then◌else◌, ◌⊎◌, List, [], ◌∷◌, ◌++◌, length, length-append, set, replicate, ◌≤◌}
 use Rattle.std.proofs.Common.{get_or-set_same, get_or-set_other, subst, sym, refl, ap, ◌∙◌, ⊎_elim, arith}
 use Rattle.std.proofs.lemmas.Bool.{cases_eq}
 use Rattle.std.proofs.lemmas.Bool.Decides.{nat_tests}
@@ -13,14 +13,13 @@ use Rattle.threaded.specs.Shares.{IsAll}
 use Rattle.history.specs.declared.view.View.{View}
 use Rattle.history.specs.Held.{Holds}
 use Rattle.lock_free_sets.specs.Unique.Held.{one_if, times, HeldBy, HoldsAll, HoldsNothing, IsSound}
-use Rattle.lock_free_sets.specs.Unique.Contracts.{HasAcquired, HasCounted, HasGiven, WasRefused}
-use Rattle.lock_free_sets.proofs.Unique.Holding.{counted_moves, given_moves, refused_moves, taken_moves, times_both, times_one}
+use Rattle.lock_free_sets.specs.Unique.Contracts.{HasAcquired, HasCounted, WasRefused}
+use Rattle.lock_free_sets.proofs.Unique.Holding.{counted_moves, refused_moves, taken_moves, times_both, times_one}
 use Rattle.lock_free_sets.proofs.Unique.Tables.{as_number, none_if}
-use Rattle.steps.specs.declared.indices.enums.ReleaseState.{ReleaseState}
 use Rattle.steps.specs.declared.indices.enums.UniqueIndexSetAcquireFailure.{UniqueIndexSetAcquireFailure}
 use Rattle.zero_copy_bus.specs.declared.holders.Holder.{Holder}
 use Rattle.zero_copy_bus.specs.declared.holders.Holders.{Holders}
-use Rattle.zero_copy_bus.specs.Books.{holders_at, AllFree, ChangesAt, Exchanges, GainsNone, GainsOnly, HasNone, HasSlot, held_number}
+use Rattle.zero_copy_bus.specs.Books.{holders_at, AllFree, ChangesAt, GainsNone, GainsOnly, HasNone, HasSlot, held_number}
 use Rattle.zero_copy_bus.specs.Books.{HoldsEach, IsBookOf, KeepsAllOrNone, KeepsBook, KeepsLoans, KeepsOthers}
 use Rattle.zero_copy_bus.specs.Holders.{is_held, nobody, Has, SameBut}
 
@@ -183,29 +182,6 @@ module _ (v w : View ℕ) (kept : List ℕ) (i : ℕ) where
             omega arith);
       }
 
-  -- the slot that was kept last goes back to the set
-  pub is_released : (state : ReleaseState) → HasGiven i state v w → KeepsBook v (kept ++ i ∷ []) w kept
-  is_released state given table book =
-      record {
-        held =
-            λ j. (let m = given_moves v w j i state given in
-            let a = m.claimed in
-            let b = m.freed in
-            let more = times_then i j kept in
-            let was = book.held j in
-            omega arith);
-      }
-
-  -- each slot that is still kept is held by the pass
-  pub each_released : (state : ReleaseState) → HasGiven i state v w → HoldsEach (kept ++ i ∷ []) v.made → HoldsEach kept w.made
-  each_released state given holds j =
-      let m = given_moves v w j i state given in
-      let a = m.claimed in
-      let b = m.freed in
-      let more = times_then i j kept in
-      let was = holds j in
-      omega arith
-
   -- the pass holds the slot that was kept last
   pub last_held : IsSound v → HoldsEach (kept ++ i ∷ []) v.made → Holds i v.made
   last_held sound holds =
@@ -235,10 +211,6 @@ module _ {v : View ℕ} {kept : List ℕ} {table : List Holders} (book : IsBookO
         held = λ j. (let m = counted_moves v w j n counted in let a = m.claimed in let b = m.freed in let was = book.held j in omega arith);
       }
 
-  -- the pass holds each kept slot
-  pub holds_each : HoldsEach kept v.made
-  holds_each i = let was = book.held i in omega arith
-
   -- the pass holds each slot that somebody holds by the table
   pub holds_held : (i : ℕ) → IsSound v → is_held (holders_at table i) ≡ true → Holds i v.made
   holds_held i sound held =
@@ -246,34 +218,6 @@ module _ {v : View ℕ} {kept : List ℕ} {table : List Holders} (book : IsBookO
       let one : as_number (is_held (holders_at table i)) ≡ 1 = ap as_number held in
       let was = book.held i in
       omega arith
-
-  -- the book stays right if the holders of a slot change and the slot is held or free as before
-  pub is_changed : (i : ℕ) (h : Holders) → i < length table → is_held h ≡ is_held (holders_at table i) → IsBookOf v kept (set table i h)
-  is_changed i h lt same =
-      record {
-        held =
-            λ j. (let was_then = held_then table i j h lt in
-            let x : (if i == j then as_number (is_held h) else 0) ≡ (if i == j then as_number (is_held (holders_at table i)) else 0) =
-            ap (λ b. if i == j then as_number b else 0) same in
-            let was = book.held j in
-            omega arith);
-      }
-
-  -- the book stays right if a slot that nobody holds any more joins the kept slots
-  pub is_freed : (i : ℕ) (h : Holders) → i < length table → is_held (holders_at table i) ≡ true → is_held h ≡ false
-      → IsBookOf v (kept ++ i ∷ []) (set table i h)
-  is_freed i h lt was_held free =
-      record {
-        held =
-            λ j. (let was_then = held_then table i j h lt in
-            let x : (if i == j then as_number (is_held h) else 0) ≡ (if i == j then zero else zero) = ap (λ b. if i == j then as_number b else 0) free in
-            let y : (if i == j then as_number (is_held (holders_at table i)) else 0) ≡ one_if i j =
-            ap (λ b. if i == j then as_number b else 0) was_held in
-            let z : (if i == j then zero else zero) ≡ 0 = none_if (i == j) in
-            let more = times_then i j kept in
-            let was = book.held j in
-            omega arith);
-      }
 
   -- the pass holds the slots that somebody holds by the table and the kept ones
   pub holds_all : HeldBy (held_from 0 table ++ kept) v.made
@@ -314,10 +258,6 @@ module _ (v : View ℕ) (kept : List ℕ) (table : List Holders) (i : ℕ) (soun
       go : (b : Bool) → as_number b ≡ 0 → b ≡ false
       go false e = refl
       go true e = absurd (omega arith)
-
-  -- the set has this slot
-  pub is_within : i < v.capacity
-  is_within = sound.within i (last_held v v kept i sound (holds_each book))
 
   -- the book stays right if a holder takes the slot, which is then kept no more
   pub is_taken : (h : Holders) → i < length table → is_held h ≡ true → IsBookOf v kept (set table i h)
@@ -367,10 +307,6 @@ changes_keep slot holder old new changes other = ⊎_elim here there (cases_eq o
 pub keeps_both : (holder : Holder) (one two three : List Holders) → KeepsOthers holder one two → KeepsOthers holder two three → KeepsOthers holder one three
 keeps_both holder one two three first second slot i small ne = second slot i small ne ∙ first slot i small ne
 
--- no change at all is a change at one slot for one holder
-pub changes_none : (slot : ℕ) (holder : Holder) (table : List Holders) → ChangesAt slot holder table table
-changes_none slot holder table = grind arith
-
 -- One slot (`slot`) has changed hands. Of each other slot the holders are the same as before.
 module _ (slot : ℕ) (holder : Holder) (old new : List Holders) (number : ℕ) (changes : ChangesAt slot holder old new) (ne : number ≢ slot) where
   -- a slot other than the changed one was held by this holder before
@@ -380,35 +316,6 @@ module _ (slot : ℕ) (holder : Holder) (old new : List Holders) (number : ℕ) 
   -- a slot other than the changed one is still held by this holder
   pub has_elsewhere : HasSlot old number holder → HasSlot new number holder
   has_elsewhere has = subst (λ h. Has h holder) (sym (changes.elsewhere number ne)) has
-
--- ---- what is sent, and what comes back for it
-
--- a slot that is sent, and then another one that comes back for it, are exchanged
-pub exchanged : (slot back : ℕ) (holder : Holder) (one two three : List Holders)
-    → Exchanges slot holder None one two → ChangesAt back holder two three → ¬ HasSlot three back holder
-    → Exchanges slot holder (Some back) one three
-exchanged slot back holder one two three sent changes lacks number = (forth, from)
-  where
-    none : None ≡ Some number → ⊥
-    none e = cc
-
-    forth : HasSlot three number holder → (HasSlot one number holder ⊎ (number ≡ slot)) × (Some back ≢ Some number)
-    forth has =
-        let ne : number ≢ back = λ e. lacks (subst (λ n. HasSlot three n holder) e has) in
-        ((((sent number).0 (had_elsewhere back holder two three number changes ne has)).0), λ e. ne (let same : number ≡ back = cc in same))
-
-    from : (HasSlot one number holder ⊎ (number ≡ slot)) × (Some back ≢ Some number) → HasSlot three number holder
-    from x = has_elsewhere back holder two three number changes (λ e. x.1 (sym (ap Some e))) ((sent number).1 (x.0, none))
-
--- a slot that comes back for itself leaves the table as it was
-pub came_back : (slot : ℕ) (holder : Holder) (table : List Holders) → ¬ HasSlot table slot holder → Exchanges slot holder (Some slot) table table
-came_back slot holder table lacks number = (forth, from)
-  where
-    forth : HasSlot table number holder → (HasSlot table number holder ⊎ (number ≡ slot)) × (Some slot ≢ Some number)
-    forth has = (inl has, λ e. lacks (let same : number ≡ slot = cc in subst (λ n. HasSlot table n holder) same has))
-
-    from : (HasSlot table number holder ⊎ (number ≡ slot)) × (Some slot ≢ Some number) → HasSlot table number holder
-    from x = ⊎_elim (λ has. has) (λ e. absurd (x.1 (sym (ap Some e)))) x.0
 
 -- ---- who gains
 

@@ -133,10 +133,6 @@ pub record DoneTo (R : Outlet → Outlet → Type 0) (n : ℕ) (olds news : List
       → (new : Outlet) × (slice_get news k ≡ Some new) × R old new
   pub rest : (k : ℕ) → n ≤ k → slice_get news k ≡ slice_get olds k
 
--- before the loop nothing is done
-pub done_none : (R : Outlet → Outlet → Type 0) (lanes : List Outlet) → DoneTo R 0 lanes lanes
-done_none R lanes = record { done = λ k old lt is. absurd (omega arith); rest = λ k le. refl }
-
 -- a loop that has come past the last lane is done with each
 pub done_all : (R : Outlet → Outlet → Type 0) (n : ℕ) (olds news : List Outlet) → length olds ≤ n → DoneTo R n olds news → EachLane R olds news
 done_all R n olds news long done place old is = let lt = got_within olds place old is in done.done place old (omega arith) is

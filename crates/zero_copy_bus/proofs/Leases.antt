@@ -55,9 +55,9 @@ let_still theirs old mid new same on h =
     }
 
 -- the lane at a place was let, said with an equal place, queue and view
-pub moved : (place at : ℕ) (queue other : QueueId) (theirs its : View ℕ) (olds news : List Outlet) → place ≡ at → queue ≡ other
+pub moved : {place at : ℕ} {queue other : QueueId} {theirs its : View ℕ} (olds news : List Outlet) → place ≡ at → queue ≡ other
     → theirs ≡ its → AtLane at (WasLetOf other its) olds news → AtLane place (WasLetOf queue theirs) olds news
-moved place at queue other theirs its olds news e f g h =
+moved {place} {at} {queue} {other} {theirs} {its} olds news e f g h =
     subst (λ k. AtLane k (WasLetOf queue theirs) olds news) (sym e)
     (subst (λ (q : QueueId). AtLane at (WasLetOf q theirs) olds news) (sym f)
     (subst (λ (v : View ℕ). AtLane at (WasLetOf other v) olds news) (sym g) h))
@@ -67,7 +67,7 @@ pub both_same : (old mid new : Outlet) → SamePasses old mid → SamePasses mid
 both_same old mid new one two = record { sends = two.sends ∙ one.sends; waits = two.waits ∙ one.waits }
 
 -- The lanes were `olds`, then one of them was let (`mids`). The look that follows settles each lane (`news`).
-module _ (roll : Roll) (one two : List Holders) (place : ℕ) (olds mids news : List Outlet) (each : EachLane (IsSettled roll one two) mids news) where
+module _ {roll : Roll} {one two : List Holders} (place : ℕ) (olds mids news : List Outlet) (each : EachLane (IsSettled roll one two) mids news) where
   -- the lane that was let, where its subscriber is seen to take part
   pub let_after : (queue : QueueId) (theirs : View ℕ) → AtLane place (WasLetOf queue theirs) olds mids
       → slice_get (open_in news) place ≡ Some true
@@ -144,9 +144,7 @@ module _ {X K : Type 0} {rule : Ghosts K X} where
       record {
         between = lanes_of q;
         holders = holders;
-        leased =
-            moved (place_at s) (place_before seat) (receives_queue s) (receives_at seat) (receives_view s) (receives_before seat)
-            (lanes_of p) (lanes_of q) at queue theirs leased;
+        leased = moved (lanes_of p) (lanes_of q) at queue theirs leased;
         others = subst (λ k. EachOther k StaysOrLost (lanes_of p) (lanes_of q)) (sym at) others;
         settled = subst (λ t. EachLane (IsSettled (roll_of r) t (table_of r)) (lanes_of q) (lanes_of r)) table settled;
         rest = subst (λ t. KeepsRest (lanes_of q) t (table_of r)) table rest;
@@ -166,6 +164,5 @@ module _ {X K : Type 0} {rule : Ghosts K X} where
         changed = changed;
         looked = looked;
         hidden =
-            hidden_after (roll_of r) (table_of p) (table_of r) (place_at s) (lanes_of p) seat.between (lanes_of r) seat.settled
-            (receives_queue s) (receives_view s) seat.leased off;
+            hidden_after (place_at s) (lanes_of p) seat.between (lanes_of r) seat.settled (receives_queue s) (receives_view s) seat.leased off;
       }

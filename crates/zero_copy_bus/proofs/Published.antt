@@ -16,7 +16,7 @@ use Rattle.zero_copy_bus.specs.declared.publisher.Publisher.{Publisher}
 use Rattle.zero_copy_bus.specs.Books.{holders_at, CanSend, ChangesAt, HasSlot, IsLoaned}
 use Rattle.zero_copy_bus.specs.Ends.{lanes_of, layout_of, next_of, room_of, shape_of, slots_of, table_of, CanSendToAll, HasNumber, HasTried}
 use Rattle.zero_copy_bus.specs.Holders.{bit_of, is_held, publisher}
-use Rattle.zero_copy_bus.specs.Outlets.{holder_of, is_open, open_in, sends_view, waits_queue, EachLane, HasPushed, IsSent, IsServed, IsTakenBack, SamePasses}
+use Rattle.zero_copy_bus.specs.Outlets.{holder_of, is_open, open_in, sends_view, waits_queue, EachLane, HasPushed, IsSent, IsServed, SamePasses}
 use Rattle.zero_copy_bus.specs.Relays.{AreAmong, HasGoneOut, HasPublished}
 use Rattle.zero_copy_bus.specs.Sequences.{AreAll}
 use Rattle.zero_copy_bus.proofs.BookLemmas.{free_is}
@@ -48,10 +48,10 @@ among_then a b c xs ys h k =
 
 -- ---- one lane
 
--- a call that leaves the next number and the lane's passes sends nothing by the lane
-pub out_none : (layout : Layout) (from to : ℕ) (old new : Outlet) → to ≡ from → is_open new ≡ is_open old → SamePasses old new
-    → HasGoneOut layout from to old new
-out_none layout from to old new next taking same =
+-- a call that leaves the lane's passes, and the next number where its subscriber takes part, sends nothing by the lane
+nothing_out : (layout : Layout) (from to : ℕ) (old new : Outlet) → from ≤ to → (is_open old ≡ true → to ≡ from) → is_open new ≡ is_open old
+    → SamePasses old new → HasGoneOut layout from to old new
+nothing_out layout from to old new low all taking same =
     record {
       numbers = [];
       back = [];
@@ -61,26 +61,20 @@ out_none layout from to old new next taking same =
             sends = λ some. sends_still (shape_of layout (waits_queue old)) (sends_view old) (sends_view new) (same_sends old new same);
           };
       taking = taking;
-      among = among_none from to (omega arith);
-      all = λ on. next;
+      among = among_none from to low;
+      all = all;
     }
+
+-- a call that leaves the next number and the lane's passes sends nothing by the lane
+pub out_none : (layout : Layout) (from to : ℕ) (old new : Outlet) → to ≡ from → is_open new ≡ is_open old → SamePasses old new
+    → HasGoneOut layout from to old new
+out_none layout from to old new next taking same = nothing_out layout from to old new (omega arith) (λ on. next) taking same
 
 -- a publish with this number sends nothing by a lane whose subscriber does not take part
 out_else : (layout : Layout) (number : ℕ) (old new : Outlet) → (is_open old ≡ true → ⊥) → is_open new ≡ is_open old → SamePasses old new
     → HasGoneOut layout number (number + 1) old new
 out_else layout number old new off taking same =
-    record {
-      numbers = [];
-      back = [];
-      sent =
-          record {
-            waits = same.waits;
-            sends = λ some. sends_still (shape_of layout (waits_queue old)) (sends_view old) (sends_view new) (same_sends old new same);
-          };
-      taking = taking;
-      among = among_none number (number + 1) (omega arith);
-      all = λ on. absurd (off on);
-    }
+    nothing_out layout number (number + 1) old new (omega arith) (λ on. absurd (off on)) taking same
 
 -- a slot that nobody held, and that the publisher alone holds now, can be sent to each subscriber
 can_go : (slot : ℕ) (before after : List Holders) (lane : Outlet) → is_held (holders_at before slot) ≡ false → ChangesAt slot publisher before after
@@ -233,14 +227,6 @@ module _ {X K : Type 0} {rule : Ghosts K X} where
   published_none old new layout next same =
       published_by old new layout (ap open_in same) next
       (λ place lane is. (lane, subst (λ lanes. slice_get lanes place ≡ Some lane) (sym same) is, record { sends = refl; waits = refl }))
-
-  -- `collect` publishes nothing
-  pub published_back : (old new : Publisher X K rule) → layout_of new ≡ layout_of old → next_of new ≡ next_of old
-      → open_in (lanes_of new) ≡ open_in (lanes_of old)
-      → EachLane (IsTakenBack (slots_of old) (table_of old) (table_of new)) (lanes_of old) (lanes_of new)
-      → HasPublished old new
-  published_back old new layout next taking taken =
-      published_by old new layout taking next (λ place lane is. (let it = taken place lane is in (it.0, it.1, it.2.passes)))
 
   -- tries to loan publish nothing
   pub published_tried : (old new : Publisher X K rule) → HasTried old new → HasPublished old new

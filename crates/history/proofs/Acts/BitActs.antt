@@ -1,7 +1,7 @@
 -- The calls of a bit set act place by place.
 use Rattle.history.proofs.Names.{◌≡◌, ◌≢◌, ⊎_elim, ℕ, zero, suc, ◌-◌, ◌^◌, ◌<◌, ◌≤◌, ◌==◌, ◌&&◌, true, false, cond}
 use Rattle.history.proofs.Names.{Some, None, List, [], ◌∷◌, ◌++◌, refl, sym, ap, subst, ◌∙◌, append_assoc, append-nil}
-use Rattle.history.proofs.Names.{arith, cases_eq, cases_lt, Answer, Truth, ResetNone, Reset, Event, Begun, Cleared}
+use Rattle.history.proofs.Names.{arith, cases_lt, Answer, Truth, ResetNone, Reset, Event, Begun, Cleared}
 use Rattle.history.proofs.Names.{Finished, Start, Set, ResetNext, ResetAll, HasCleared}
 use Rattle.history.proofs.Names.{BitsAnswerRight, BitsWrote, bits_promise, sets, clears, counts, standing}
 use Rattle.history.proofs.Names.{BeginsNone, HeldSometime, SinceBegin, Stands, StandsRight, Each, Span, Open}
@@ -15,7 +15,7 @@ use Rattle.model.specs.declared.families.bits.BitsStart.TheVariants.{IsSet}
 use Rattle.model.specs.declared.turn.Kind.TheVariants as kinds
 use Rattle.history.specs.Acts.{Way, MayAct, Acts, Found, Tells, Ends, number_after, left_by, ActsByPlace}
 use Rattle.history.proofs.Acts.BitWays.{only_clears, cleared_in, Numbers, numbers_more, Fit, one_fits, at_place}
-use Rattle.history.proofs.Acts.Filling.{Marked, nothing_marked, goes_on, Fact, Stays, Silent, finishes}
+use Rattle.history.proofs.Acts.Filling.{Marked, nothing_marked, goes_on, Fact, Stays, Silent, finishes, finishes_at}
 use Rattle.history.proofs.Acts.Finds.{BitFinds}
 use Rattle.history.proofs.Acts.Marks.{same_number, is_number, both_true, number_in, way_in, number_more}
 use Rattle.history.proofs.Acts.Ways.{along, begins_none_later, OpenFor, open_for, Fits, WayFits, shut_way, fits_open, Ways, ways_more}
@@ -191,7 +191,7 @@ module _ {T : Type 0} (c : ℕ) (events : List (Event T)) (spans : Each (StandsR
       -- on its place
       end_set_false : (q k : ℕ) → events ≡ h ++ Finished q (Bits (Set k)) (Truth false) ∷ after → IsMarked (h ++ Finished q (Bits (Set k)) (Truth false) ∷ [])
       end_set_false q k events_are =
-          finishes q (Bits (Set k)) (Truth false) m facts far
+          finishes_at k m mine elsewhere past
         where
           -- the call that ends is a set, open until now
           opened : OpenFor (set_call k) (BitsWrote c (set_call k) (Truth false)) (span_of q h)
@@ -213,34 +213,24 @@ module _ {T : Type 0} (c : ℕ) (events : List (Event T)) (spans : Each (StandsR
           elsewhere : (b : ℕ) → k ≢ b → Ends c (Sure b) b (set_call k) (Truth false) (way q b)
           elsewhere b k_is_not_b = grind (arith, false, under)
 
-          -- the set acted on its place at a moment at which that stood, and on no other place
-          facts : (b : ℕ) → b < c → Fact kinds.Bits c Sure h q (set_call k) (Truth false) b
-          facts b lt =
-              ⊎_elim (λ same. subst (Fact kinds.Bits c Sure h q (set_call k) (Truth false)) same mine)
-              (λ ne. Stays (elsewhere b ne)) (cases_eq k b)
-            where
-              -- at its own place the set acted silently, at that moment
-              mine : Fact kinds.Bits c Sure h q (set_call k) (Truth false) k
-              mine = Silent (record {
-                part = once.part;
-                rest = once.rest;
-                is = once.is;
-                none = once.within;
-                under = under k;
-                may = refl;
-                left = one;
-                ends = (refl, λ same. rw one refl);
-              })
+          -- at its own place the set acted silently, at a moment at which that stood
+          mine : Fact kinds.Bits c Sure h q (set_call k) (Truth false) k
+          mine = Silent (record {
+            part = once.part;
+            rest = once.rest;
+            is = once.is;
+            none = once.within;
+            under = under k;
+            may = refl;
+            left = one;
+            ends = (refl, λ same. rw one refl);
+          })
 
-          -- at or behind the capacity nothing has to be known of the set
-          far : (b : ℕ) → c ≤ b → Ends c (Sure b) b (set_call k) (Truth false) (way q b)
-          far b le = ⊎_elim (λ same. absurd (past (subst (λ z. c ≤ z) (sym same) le))) (λ ne. elsewhere b ne) (cases_eq k b)
-            where
-              -- a set that answers false does not act on a place past the capacity
-              past : c ≤ k → ⊥
-              past le =
-                  let stood : sets k once.part - clears k once.part ≡ 1 = once.held in
-                  omega (arith, within k le, sets_within q (set_call k) (Truth false) events_are once.part once.rest once.is k)
+          -- a set that answers false does not act on a place past the capacity
+          past : c ≤ k → ⊥
+          past le =
+              let stood : sets k once.part - clears k once.part ≡ 1 = once.held in
+              omega (arith, within k le, sets_within q (set_call k) (Truth false) events_are once.part once.rest once.is k)
 
       -- with the end of a reset of the next place that answers one the history with its silent acts goes on
       end_next : (q k : ℕ) → events ≡ h ++ Finished q (Bits ResetNext) (Reset k) ∷ after → IsMarked (h ++ Finished q (Bits ResetNext) (Reset k) ∷ [])
@@ -358,7 +348,7 @@ module _ {T : Type 0} (c : ℕ) (events : List (Event T)) (spans : Each (StandsR
       end_look : (q k : ℕ) (answer : Bool) → events ≡ h ++ Finished q (Bits (IsSet k)) (Truth answer) ∷ after
           → IsMarked (h ++ Finished q (Bits (IsSet k)) (Truth answer) ∷ [])
       end_look q k answer events_are =
-          finishes q (look_call k) (Truth answer) m facts (λ b le. elsewhere b (λ same. past b same le))
+          finishes_at k m mine elsewhere (λ le. absurd (omega (arith, seen.0)))
         where
           -- the call that ends is a look, open until now
           opened : OpenFor (look_call k) (BitsWrote c (look_call k) (Truth answer)) (span_of q h)
@@ -383,29 +373,18 @@ module _ {T : Type 0} (c : ℕ) (events : List (Event T)) (spans : Each (StandsR
           elsewhere : (b : ℕ) → (k ≡ b → ⊥) → Ends c (Sure b) b (look_call k) (Truth answer) (way q b)
           elsewhere b ne = subst (λ w. Ends c (Sure b) b (look_call k) (Truth answer) w) (sym (under b)) (refl, λ same. absurd (ne same))
 
-          -- no place at or behind the capacity is the one that the look answers for
-          past : (b : ℕ) → k ≡ b → c ≤ b → ⊥
-          past b same le = absurd (omega (arith, seen.0))
-
-          -- the look acted on its place at a moment at which that had the number that it answers,
-          -- and on no other place
-          facts : (b : ℕ) → b < c → Fact kinds.Bits c Sure h q (look_call k) (Truth answer) b
-          facts b lt =
-              ⊎_elim (λ same. subst (Fact kinds.Bits c Sure h q (look_call k) (Truth answer)) same mine)
-              (λ ne. Stays (elsewhere b ne)) (cases_eq k b)
-            where
-              -- at its own place the look acted silently, now
-              mine : Fact kinds.Bits c Sure h q (look_call k) (Truth answer) k
-              mine = Silent (record {
-                part = h;
-                rest = [];
-                is = sym (append-nil h);
-                none = tt;
-                under = under k;
-                may = refl;
-                left = refl;
-                ends = (refl, λ same. look_tells answer (number_in k 0 h) number_is);
-              })
+          -- at its own place the look acted silently, now
+          mine : Fact kinds.Bits c Sure h q (look_call k) (Truth answer) k
+          mine = Silent (record {
+            part = h;
+            rest = [];
+            is = sym (append-nil h);
+            none = tt;
+            under = under k;
+            may = refl;
+            left = refl;
+            ends = (refl, λ same. look_tells answer (number_in k 0 h) number_is);
+          })
 
       -- with the end of any call the history with its silent acts goes on
       ends : (q : ℕ) (s : Start T) (a : Answer T) → events ≡ h ++ Finished q s a ∷ after → IsMarked (h ++ Finished q s a ∷ [])

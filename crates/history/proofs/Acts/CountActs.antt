@@ -15,7 +15,7 @@ use Rattle.model.specs.Families.Bits.Reading.{count_at}
 use Rattle.model.specs.declared.turn.Kind.TheVariants as kinds
 use Rattle.laws_bits.proofs.Counts.Core.{counts_more, takes_more}
 use Rattle.history.specs.Acts.{Way, Acts, Found, Tells, Ends, number_after, way_after, found_now, ActsByPlace}
-use Rattle.history.proofs.Acts.Filling.{Marked, nothing_marked, goes_on, Fact, Stays, Silent, finishes}
+use Rattle.history.proofs.Acts.Filling.{Marked, nothing_marked, goes_on, Fact, Stays, Silent, finishes, finishes_at}
 use Rattle.history.proofs.Acts.Finds.{CountFinds}
 use Rattle.history.proofs.Acts.Marks.{same_number, is_number, both_true, number_in, way_in, number_more, way_more}
 use Rattle.history.proofs.Acts.Ways.{along, begins_none_later, OpenFor, open_for, Fits, WayFits, shut_way, fits_open}
@@ -354,7 +354,7 @@ module _ {T : Type 0} (c : ℕ) (events : List (Event T)) (spans : Each (StandsR
       -- with the end of a look the history with its silent acts goes on: the look acted silently on its place
       end_look : (q k n : ℕ) → events ≡ h ++ Finished q (Bits (Count k)) (Number n) ∷ after → IsMarked (h ++ Finished q (Bits (Count k)) (Number n) ∷ [])
       end_look q k n events_are =
-          finishes q (look_call k) (Number n) m facts (λ b le. elsewhere b (λ same. past b same le))
+          finishes_at k m mine elsewhere (λ le. absurd (omega (arith, seen.0)))
         where
           opened : OpenFor (look_call k) (CountsWrote c (look_call k) (Number n)) (span_of q h)
           opened =
@@ -375,20 +375,10 @@ module _ {T : Type 0} (c : ℕ) (events : List (Event T)) (spans : Each (StandsR
           elsewhere : (b : ℕ) → (k ≡ b → ⊥) → Ends c (Sure b) b (look_call k) (Number n) (way q b)
           elsewhere b ne = subst (λ w. Ends c (Sure b) b (look_call k) (Number n) w) (sym (under b)) (refl, λ same. absurd (ne same))
 
-          -- no place at or behind the capacity is the one that the look answers for
-          past : (b : ℕ) → k ≡ b → c ≤ b → ⊥
-          past b same le = absurd (omega (arith, seen.0))
-
-          -- the look acted on its place at the moment at which the count was what it answers,
-          -- and on no other place
-          facts : (b : ℕ) → b < c → Fact kinds.Counts c Sure h q (look_call k) (Number n) b
-          facts b lt =
-              ⊎_elim (λ same. subst (Fact kinds.Counts c Sure h q (look_call k) (Number n)) same mine)
-              (λ ne. Stays (elsewhere b ne)) (cases_eq k b)
-            where
-              mine : Fact kinds.Counts c Sure h q (look_call k) (Number n) k
-              mine = Silent
-                  (record { part = h; rest = []; is = sym (append-nil h); none = tt; under = under k; may = refl; left = refl; ends = (refl, λ same. told) })
+          -- at its own place the look acted silently, now
+          mine : Fact kinds.Counts c Sure h q (look_call k) (Number n) k
+          mine = Silent
+              (record { part = h; rest = []; is = sym (append-nil h); none = tt; under = under k; may = refl; left = refl; ends = (refl, λ same. told) })
 
       -- a place that the call left silently, where its count was 0
       clear_there : {q b : ℕ} (part rest : List (Event T)) → h ≡ part ++ rest → BeginsNone q rest

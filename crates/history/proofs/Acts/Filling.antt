@@ -248,3 +248,13 @@ pub finishes : {T : Type 0} {kind : Kind} {capacity : ℕ} {Sure : ℕ → Type 
     → ((b : ℕ) → capacity ≤ b → Ends capacity (Sure b) b start answer (way_in p b 0 None h))
     → Marked kind capacity Sure (h ++ Finished p start answer ∷ [])
 finishes {kind = kind} {capacity = capacity} {Sure = Sure} {h = h} p start answer = ends_marked kind capacity Sure h p start answer
+
+-- the same of a call whose act on one place below the capacity is known, and of which nothing has to be known at another
+pub finishes_at : {T : Type 0} {kind : Kind} {capacity : ℕ} {Sure : ℕ → Type 0} {h : List (Event T)} {p : ℕ} {start : Start T} {answer : Answer T} (place : ℕ)
+    → Marked kind capacity Sure h → Fact kind capacity Sure h p start answer place
+    → ((b : ℕ) → place ≢ b → Ends capacity (Sure b) b start answer (way_in p b 0 None h)) → (capacity ≤ place → ⊥)
+    → Marked kind capacity Sure (h ++ Finished p start answer ∷ [])
+finishes_at {kind = kind} {capacity = capacity} {Sure = Sure} {h = h} {p = p} {start = start} {answer = answer} place marked act elsewhere below =
+    finishes p start answer marked
+    (λ b lt. ⊎_elim (λ same. subst (Fact kind capacity Sure h p start answer) same act) (λ ne. Stays (elsewhere b ne)) (cases_eq place b))
+    (λ b le. ⊎_elim (λ same. absurd (below (subst (λ z. capacity ≤ z) (sym same) le))) (λ ne. elsewhere b ne) (cases_eq place b))

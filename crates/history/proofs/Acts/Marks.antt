@@ -1,6 +1,6 @@
 -- The number of a place and the way of a party's call after a list of marks, and that marks which are right
 -- for a history can be cut with it and put together.
-use Rattle.history.proofs.Names.{◌≡◌, ◌≢◌, ℕ, ◌==◌, ◌&&◌, Bool, true, false, cond, Option, Some, None, List, [], ◌∷◌}
+use Rattle.history.proofs.Names.{◌≡◌, ◌≢◌, ℕ, ◌==◌, ◌&&◌, Bool, true, false, cond, Some, None, List, [], ◌∷◌}
 use Rattle.history.proofs.Names.{◌++◌, refl, sym, ap, ◌∙◌, arith, nat_tests, Event, Begun, Finished, Start}
 use Rattle.history.proofs.Names.{Kind, BeginsNone}
 use Rattle.history.specs.Acts.{Mark, Happens, Leaves, left_by, told, does, number_after, Way, MayAct, found_now, way_after, IsRight}
@@ -57,12 +57,6 @@ module _ {T : Type 0} where
   number_told b n [] = refl
   number_told b n (Happens e ∷ ms) = number_told b (number_after b n e) ms
   number_told b n (Leaves q c ∷ ms) = number_told b n ms
-
-  -- the number after two lists of marks is that after the second, from the number after the first
-  pub number_at_more : (b n : ℕ) (ms ns : List (Mark T)) → number_at b n (ms ++ ns) ≡ number_at b (number_at b n ms) ns
-  number_at_more b n [] ns = refl
-  number_at_more b n (Happens e ∷ ms) ns = number_at_more b (number_after b n e) ms ns
-  number_at_more b n (Leaves q c ∷ ms) ns = number_at_more b n ms ns
 
   -- the way after two lists of marks is that after the second, from the way and the number after the first
   pub way_at_more : (p b n : ℕ) (way : Way T) (ms ns : List (Mark T)) → way_at p b n way (ms ++ ns) ≡ way_at p b (number_at b n ms) (way_at p b n way ms) ns
@@ -180,15 +174,7 @@ module _ {T : Type 0} (kind : Kind) (capacity : ℕ) (Sure : ℕ → Type 0) whe
 
     -- a call that has found a number at its place is not one that has not acted
     some_not : (n : ℕ) (way : Way T) → found_now n way ≡ Some (start, None) → ⊥
-    some_not n None found_is = absurd (cc)
-    some_not n (Some call) found_is =
-        let second : Some n ≡ None = ap (λ (w : Way T). seen w) found_is in
-        absurd (cc)
-      where
-        -- the number that the call has found at the place, if it has
-        seen : Way T → Option ℕ
-        seen None = None
-        seen (Some call) = call.1
+    some_not = grind arith
 
     -- a way that has found nothing after an act that might be another's is the way before it
     by_test : (t : Bool) (n : ℕ) (way : Way T) → cond t (found_now n way) way ≡ Some (start, None) → (t ≡ false) × (way ≡ Some (start, None))

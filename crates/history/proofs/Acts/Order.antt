@@ -1,7 +1,7 @@
 -- The calls that passes made stand in one history, in the order in which each pass, and those that it took in, made them.
 use Rattle.history.proofs.Names.{◌≡◌, ℕ, ◌+◌, ◌<◌, ◌==◌, Bool, true, false, cond, Some, List, [], ◌∷◌, ◌++◌, length}
-use Rattle.history.proofs.Names.{map, refl, sym, ap, subst, ◌∙◌, append_assoc, arith, Contains, Answer, Event, Begun}
-use Rattle.history.proofs.Names.{Cleared, TakenOut, Finished, Start, Call, response_in, calls_from, calls_of}
+use Rattle.history.proofs.Names.{refl, sym, ap, subst, ◌∙◌, append_assoc, arith, Contains, Answer, Event, Begun}
+use Rattle.history.proofs.Names.{Finished, Start, Call, response_in, calls_from, calls_of}
 use Rattle.history.proofs.Names.{Precedes}
 use Rattle.std.proofs.lemmas.List.{length-append}
 use Rattle.model.proofs.Linearizable.Acting.{call_at, response_at, responded, passed}
@@ -11,16 +11,6 @@ use Rattle.history.specs.History.{IsBeginning, Called}
 use Rattle.history.specs.Known.{own_of, events_by}
 use Rattle.history.specs.Order.{StandsIn, EndsNone}
 use Rattle.history.proofs.Acts.Marks.{is_number, no_number}
-
--- what a reset of all writes
-pub cleared_ends_none : (T : Type 0) (p q : ℕ) (places : List ℕ) → EndsNone {T = T} p (map (λ b. Cleared q b) places)
-cleared_ends_none T p q [] = tt
-cleared_ends_none T p q (b ∷ bs) = cleared_ends_none T p q bs
-
-pub taken_ends_none : (T : Type 0) {A : Type 0} (p q : ℕ) (place number : A → ℕ) (states : List A)
-    → EndsNone {T = T} p (map (λ s. TakenOut q (place s) (number s)) states)
-taken_ends_none T p q place number [] = tt
-taken_ends_none T {A = A} p q place number (s ∷ states) = taken_ends_none T p q place number states
 
 module _ {T : Type 0} where
   -- ---- no ends

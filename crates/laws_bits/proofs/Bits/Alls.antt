@@ -7,7 +7,7 @@ use Rattle.laws_bits.proofs.Names.{fold-append, Ask, Swap, After, GoOn, Done, On
 use Rattle.laws_bits.proofs.Names.{element_of, elements, has_flag, stands, stands_elsewhere, swapped_clear, Answer}
 use Rattle.laws_bits.proofs.Names.{Event, Finished, Bits, BitsFlight, Coding, BitsAnswerRight, HasCleared}
 use Rattle.laws_bits.proofs.Names.{bits_promise, sets, clears, position_after, SinceBegin, Stands, Open, own_after}
-use Rattle.laws_bits.proofs.Names.{span_of, one_if, change_of, since_more, AllFollow, span_of-own}
+use Rattle.laws_bits.proofs.Names.{span_of, one_if, change_of, since_more, since_so, AllFollow, span_of-own}
 use Rattle.std.proofs.Common.{arith}
 use Rattle.steps.proofs.Flags.Places.{place_named, place_not_named}
 use Rattle.model.specs.declared.event.Answer.TheVariants as answers
@@ -126,7 +126,7 @@ module _ {T : Type 0} (code : Coding T) {c : ℕ} (scene : SetScene T) (holds : 
     cleared_next : ClearedBelow (word + 1) cleared.before (cleared.since ++ fx)
     cleared_next b below stood = ⊎_elim
         (λ less. cleared_still word cleared.before cleared.since fx cleared.holds b less stood)
-        (λ more. cleared_by b p cleared.start events cleared.before cleared.since fx cleared.is (even b (omega arith)) stood)
+        (λ more. cleared_by b p cleared fx (even b (omega arith)) stood)
         (cases_lt (element_of b) word)
 
     -- the reset may go on to the next element: what stood before it was cleared since
@@ -135,15 +135,7 @@ module _ {T : Type 0} (code : Coding T) {c : ℕ} (scene : SetScene T) (holds : 
 
   -- at the end of the words each place that was set when the reset began has been cleared since
   all_behind : {events' : List (Event T)} (end : ℕ) → 1 + elements c ≤ end → SinceBegin p (ClearedBelow end) events' → SinceBegin p (HasCleared c) events'
-  all_behind end last since_begin =
-      record {
-        before = since_begin.before;
-        start = since_begin.start;
-        since = since_begin.since;
-        is = since_begin.is;
-        within = since_begin.within;
-        holds = λ b below stood. since_begin.holds b (omega arith) stood;
-      }
+  all_behind end last since_begin = since_so p since_begin (λ b below stood. since_begin.holds b (omega arith) stood)
 
   -- ---- the span
 

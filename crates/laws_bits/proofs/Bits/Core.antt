@@ -1,8 +1,8 @@
 -- What the events say of each bit: how often it was set and cleared; and what was cleared since a party's
 -- latest call began.
 use Rattle.laws_bits.proofs.Names.{◌≡◌, ℕ, ◌+◌, ◌<◌, ◌≤◌, cond, List, [], ◌∷◌, ◌++◌, ap, sym, ◌∙◌, append_assoc}
-use Rattle.laws_bits.proofs.Names.{sum_by-append, element_of, Event, Begun, Start, is_set_of, is_clear_of, sets}
-use Rattle.laws_bits.proofs.Names.{clears, standing}
+use Rattle.laws_bits.proofs.Names.{sum_by-append, element_of, Event, Begun, is_set_of, is_clear_of, sets}
+use Rattle.laws_bits.proofs.Names.{clears, standing, SinceBegin}
 use Rattle.std.proofs.Common.{arith}
 
 module _ {T : Type 0} where
@@ -29,13 +29,13 @@ module _ {T : Type 0} where
       omega arith
 
   -- a bit that stood when the call began, and has been set no more often than cleared, has been cleared since
-  pub cleared_by : (b p : ℕ) (start : Start T) (events before since es : List (Event T))
-      → events ≡ before ++ Begun p start ∷ since → sets b (events ++ es) ≡ clears b (events ++ es)
-      → standing b before ≡ 1 → 1 ≤ clears b (since ++ es)
-  cleared_by b p start events before since es split_so none stood =
-      let whole : events ++ es ≡ before ++ Begun p start ∷ (since ++ es) = ap (λ xs. xs ++ es) split_so ∙ append_assoc before (Begun p start ∷ since) es in
-      let both : sets b (before ++ Begun p start ∷ (since ++ es)) ≡ clears b (before ++ Begun p start ∷ (since ++ es)) = rw (sym whole) none in
-      let c = clears_more b before (Begun p start ∷ (since ++ es)) in
-      let own_s = sets_more b (Begun p start ∷ []) (since ++ es) in
-      let own_c = clears_more b (Begun p start ∷ []) (since ++ es) in
-      omega (arith, sets_more b before (Begun p start ∷ (since ++ es)))
+  pub cleared_by : (b p : ℕ) {P : List (Event T) → List (Event T) → Type 0} {events : List (Event T)} (now : SinceBegin p P events) (es : List (Event T))
+      → sets b (events ++ es) ≡ clears b (events ++ es) → standing b now.before ≡ 1 → 1 ≤ clears b (now.since ++ es)
+  cleared_by b p {events = events} now es none stood =
+      let later : List (Event T) = Begun p now.start ∷ (now.since ++ es) in
+      let whole : events ++ es ≡ now.before ++ later = ap (λ xs. xs ++ es) now.is ∙ append_assoc now.before (Begun p now.start ∷ now.since) es in
+      let both : sets b (now.before ++ later) ≡ clears b (now.before ++ later) = rw (sym whole) none in
+      let c = clears_more b now.before later in
+      let own_s = sets_more b (Begun p now.start ∷ []) (now.since ++ es) in
+      let own_c = clears_more b (Begun p now.start ∷ []) (now.since ++ es) in
+      omega (arith, sets_more b now.before later)

@@ -2,7 +2,7 @@
 -- was taken out since a party's latest call began.
 use Rattle.laws_bits.proofs.Names.{◌≡◌, ◌⊎◌, inl, inr, ℕ, ◌+◌, ◌-◌, ◌*◌, ◌^◌, ◌==◌, ◌<◌, ◌≤◌, Bool, true, false, cond}
 use Rattle.laws_bits.proofs.Names.{List, [], ◌∷◌, ◌++◌, refl, sym, ap, ◌∙◌, append_assoc, nat_tests, sum_by-append}
-use Rattle.laws_bits.proofs.Names.{Event, Begun, Start, is_count_of, take_of, counts, takes, count_at}
+use Rattle.laws_bits.proofs.Names.{Event, Begun, SinceBegin, is_count_of, take_of, counts, takes, count_at}
 use Rattle.std.proofs.Common.{arith}
 
 -- where more was counted than taken before the call, and as much was taken as counted up to now but for a
@@ -37,26 +37,23 @@ module _ {T : Type 0} where
 
   -- a place of which as much was taken out as was counted, but for a multiple of 2^64, joins those of which
   -- something was taken
-  pub taken_next : (end p : ℕ) (start : Start T) (events before since es : List (Event T)) (wraps : ℕ)
-      → events ≡ before ++ Begun p start ∷ since → counts end (events ++ es) ≡ takes end (events ++ es) + 2 ^ 64 * wraps
-      → TakenBelow end before since
-      → TakenBelow (end + 1) before (since ++ es)
-  taken_next end p start events before since es wraps split_so none taken b below some = go (b == end) refl
+  pub taken_next : (end p : ℕ) {events : List (Event T)} (now : SinceBegin p (TakenBelow end) events) (es : List (Event T)) (wraps : ℕ)
+      → counts end (events ++ es) ≡ takes end (events ++ es) + 2 ^ 64 * wraps → TakenBelow (end + 1) now.before (now.since ++ es)
+  taken_next end p {events} now es wraps none b below some = go (b == end) refl
     where
       -- the cases are whether the place is `end`
-      go : (t : Bool) → (b == end) ≡ t → (1 ≤ takes b (since ++ es)) ⊎ (2 ^ 64 ≤ counts b before + counts b (since ++ es))
+      go : (t : Bool) → (b == end) ≡ t → (1 ≤ takes b (now.since ++ es)) ⊎ (2 ^ 64 ≤ counts b now.before + counts b (now.since ++ es))
       go false place_test =
           let less : b < end = grind (arith, nat_tests) in
-          taken_still end before since es taken b less some
+          taken_still end now.before now.since es now.holds b less some
       go true place_test =
           let same : b ≡ end = grind (arith, nat_tests) in
+          let later : List (Event T) = Begun p now.start ∷ (now.since ++ es) in
           let all : counts b (events ++ es) ≡ takes b (events ++ es) + 2 ^ 64 * wraps = rw same none in
-          let whole : events ++ es ≡ before ++ Begun p start ∷ (since ++ es) = ap (λ xs. xs ++ es) split_so ∙ append_assoc before (Begun p start ∷ since) es in
-          let both : counts b (before ++ Begun p start ∷ (since ++ es))
-          ≡ takes b (before ++ Begun p start ∷ (since ++ es)) + 2 ^ 64 * wraps =
-          rw (sym whole) all in
-          let c = counts_more b before (Begun p start ∷ (since ++ es)) in
-          let place_test = takes_more b before (Begun p start ∷ (since ++ es)) in
-          let same_takes = takes_more b (Begun p start ∷ []) (since ++ es) in
-          let same_counts = counts_more b (Begun p start ∷ []) (since ++ es) in
-          either_way (counts b before) (takes b before) (counts b (since ++ es)) (takes b (since ++ es)) wraps some (omega arith)
+          let whole : events ++ es ≡ now.before ++ later = ap (λ xs. xs ++ es) now.is ∙ append_assoc now.before (Begun p now.start ∷ now.since) es in
+          let both : counts b (now.before ++ later) ≡ takes b (now.before ++ later) + 2 ^ 64 * wraps = rw (sym whole) all in
+          let c = counts_more b now.before later in
+          let t = takes_more b now.before later in
+          let same_takes = takes_more b (Begun p now.start ∷ []) (now.since ++ es) in
+          let same_counts = counts_more b (Begun p now.start ∷ []) (now.since ++ es) in
+          either_way (counts b now.before) (takes b now.before) (counts b (now.since ++ es)) (takes b (now.since ++ es)) wraps some (omega arith)

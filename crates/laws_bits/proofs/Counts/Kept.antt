@@ -3,7 +3,7 @@
 use Rattle.laws_bits.proofs.Names.{◌≡◌, ◌⊎◌, inl, inr, ℕ, ◌+◌, ◌-◌, ◌^◌, ◌<◌, ◌≤◌, List, [], ◌∷◌, ◌++◌, ap, subst}
 use Rattle.laws_bits.proofs.Names.{Event, BitsStart, BitsFlight, most_counts_steps, IsCountingSet, IsCountingOn}
 use Rattle.laws_bits.proofs.Names.{HasTaken, HasTakenOn, CountsAnswerRight, CountsAnswerOn, counts, takes, SinceBegin}
-use Rattle.laws_bits.proofs.Names.{Begun, Counted, Finished, Bits, Trace}
+use Rattle.laws_bits.proofs.Names.{Begun, Counted, Finished, Bits, Trace, since_so}
 use Rattle.std.proofs.Common.{arith}
 use Rattle.model.specs.declared.families.bits.BitsStart.TheVariants as starts
 use Rattle.model.specs.declared.families.bits.BitsStart.TheVariants.{Set, ResetAll}
@@ -42,15 +42,7 @@ module _ {T : Type 0} where
   -- taken something out of each such place if no place was counted so often
   taken_exact : {c p : ℕ} {events : List (Event T)} → ((b : ℕ) → counts b events < 2 ^ 64)
       → SinceBegin p (HasTakenOn c) events → SinceBegin p (HasTaken c) events
-  taken_exact {c} {p} {events} few since_begin =
-      record {
-        before = since_begin.before;
-        start = since_begin.start;
-        since = since_begin.since;
-        is = since_begin.is;
-        within = since_begin.within;
-        holds = holds;
-      }
+  taken_exact {c} {p} {events} few since_begin = since_so p since_begin holds
     where
       -- something was taken from each place that counted above 0 as the call began
       holds : HasTaken c since_begin.before since_begin.since

@@ -106,7 +106,7 @@ module _ {T : Type 0} (code : Coding T) (c : ℕ) (scene : SetScene T) (holds : 
         let m = takes_more word events fx in
         let even : counts word (events ++ fx) ≡ takes word (events ++ fx) + 2 ^ 64 * (holds.conserved word).0 = omega arith in
         since_more p (TakenBelow word) (TakenBelow (word + 1)) events fx out.none taken
-        (taken_next word p taken.start events taken.before taken.since fx (holds.conserved word).0 taken.is even taken.holds)
+        (taken_next word p taken fx (holds.conserved word).0 even)
 
     -- the span of the party is open after the step, with the step's events behind what it had written
     span_then : span_of p (events ++ fx) ≡ Open (Bits ResetAll) (wrote ++ fx)

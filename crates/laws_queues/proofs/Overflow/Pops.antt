@@ -1,11 +1,11 @@
 -- Each step of an overflowing queue's pop keeps the invariant. The move of the read position can make a
 -- pending push of another party act, so it may write an event of that party (`Takes`).
-use Rattle.laws_queues.proofs.Names.{◌≡◌, ◌≢◌, ℕ, ◌+◌, ◌*◌, ◌%◌, ◌^◌, ◌<◌, ◌≤◌, ◌==◌, Bool, true, false, ⊎_elim}
+use Rattle.laws_queues.proofs.Names.{◌≡◌, ◌≢◌, ℕ, ◌+◌, ◌*◌, ◌%◌, ◌<◌, ◌≤◌, ◌==◌, Bool, true, false, ⊎_elim}
 use Rattle.laws_queues.proofs.Names.{Option, Some, None, [], ◌∷◌, length, get_or, map, take, refl, sym, ap, subst}
-use Rattle.laws_queues.proofs.Names.{◌∙◌, append-nil, cases_lt, nat_tests, nil_from_length, set-get_or, take-nil, Ask}
+use Rattle.laws_queues.proofs.Names.{◌∙◌, cases_lt, nat_tests, nil_from_length, set-get_or, take-nil, Ask}
 use Rattle.laws_queues.proofs.Names.{Load, Exchange, After, GoOn, Done, OneWord, after_position, QueueFlight, Effect}
-use Rattle.laws_queues.proofs.Names.{Quiet, Acts, Item, Index, Pop, Answer, PoppedNone, PoppedIndex, Queues, Acted}
-use Rattle.laws_queues.proofs.Names.{Party, Coding, read_word, after, goes_back, pending_at, pending, beside}
+use Rattle.laws_queues.proofs.Names.{Quiet, Acts, Item, Index, Pop, Answer, PoppedNone, PoppedIndex, Queues}
+use Rattle.laws_queues.proofs.Names.{Coding, read_word, after, goes_back, pending_at, pending, beside}
 use Rattle.laws_queues.proofs.Names.{takes_effect, effect_of, party_of, doing_of, flight_of, Open, span_of}
 use Rattle.laws_queues.proofs.Names.{words_after, step_count, load_of_write, load_of_read}
 use Rattle.std.proofs.Common.{arith}
@@ -21,14 +21,14 @@ use Rattle.laws_queues.proofs.Queues.Core.{word_at}
 use Rattle.laws_queues.proofs.Overflow.Knows.{overflow_pop_at, KnowsOverflowPop, KnowsBacks, overflow_pop_number}
 use Rattle.laws_queues.proofs.Queues.Knows.{free, layout}
 use Rattle.laws_queues.proofs.Queues.Pending.{nothing_waits}
-use Rattle.laws_queues.proofs.Queues.Stages.{party_then, DoesStep, Moves, MovesOf, still_hangs, same_queue, quiet, alone}
+use Rattle.laws_queues.proofs.Queues.Stages.{DoesStep, Moves, MovesOf, same_queue, quiet, acts, alone, of_step}
 use Rattle.laws_queues.proofs.Overflow.Takes.{takes_it}
 
 -- The party `p` holds the consumer's role and has a pop under way. `c` is the capacity, `k` the queue
 -- before the step (positions, values that wait, cells), `ro` the holders of the roles, `latest` the
 -- parties' latest calls.
 module _ {T : Type 0} {en : Coding T} {scene : Scene T kinds.Overflow}
-    (inv : Inv en kinds.Overflow scene) (small : scene.core.write < 2 ^ 64) (room : OneWord)
+    (inv : Inv en kinds.Overflow scene) (room : OneWord)
     (holds : scene.roles.consumer ≡ Some scene.party) where
   open scene use {capacity as c, roles as ro, core as k, party as p, steps, backs, since, changes, latest, events}
 
@@ -49,17 +49,9 @@ module _ {T : Type 0} {en : Coding T} {scene : Scene T kinds.Overflow}
   abbrev StepKeeps : Option Ask → Bool → After (QueueFlight T) (Answer T) → Effect T → Type 0
   StepKeeps ask back after effect = DoesStep en kinds.Overflow scene [] Pop ask back after effect
 
-  -- a step with this operation keeps the invariant, where it may also write the act of another party's push
-  abbrev ActingStepKeeps : Option Ask → Bool → After (QueueFlight T) (Answer T) → Effect T → Type 0
-  ActingStepKeeps ask back after effect = Moves en kinds.Overflow scene Pop ask back after effect
-
   -- the pop's step at this stage keeps the invariant
   abbrev StageKeeps : PopStage → Type 0
   StageKeeps stage = MovesOf en kinds.Overflow scene Pop (at stage)
-
-  -- the party `p` after a step of the pop
-  abbrev after_it : Option Ask → Bool → After (QueueFlight T) (Answer T) → Party T
-  after_it ask back after = party_then en kinds.Overflow scene Pop ask back after
 
   -- `p` has no pending push: no push of `p` is about to move the read position
   module _ (calm : (position : ℕ) → pending_at position (flight_of (doing_of (party_of p latest))) ≡ None) where
@@ -69,42 +61,31 @@ module _ {T : Type 0} {en : Coding T} {scene : Scene T kinds.Overflow}
     finds_none ask same empty few_steps paid =
         let none : map {B = Item T} Index k.waiting ≡ [] = ap (map Index) empty in
         let list : map {B = Item T} Index (take c k.waiting) ≡ [] = ap (λ xs. map Index (take c xs)) empty ∙ ap (map Index) (take-nil {A = ℕ} c) in
-        let reached = inv.queue.reached in
-        let zero : backs + 0 ≡ backs = omega arith in (
-          k,
-          same,
-          record {
-            -- the events that the step writes: each may follow in its span, and each tells the truth
-            own = (refl, (refl, tt));
-            stands = ((refl, refl), ((refl, record { moments = refl; published = refl; handed_out = refl }), tt));
-            grants = (tt, (tt, tt));
-            producers = refl;
-            consumers = refl;
-            right = (waiting_is events (map Index k.waiting) inv.queue.book ∙ none, (tt, tt));
-            lengths = (tt, (tt, tt));
-            -- the queue afterwards, and the list that its calls answer as
-            good = inv.queue.good;
-            hangs = still_hangs inv k (after_it ask false (Done PoppedNone)) refl refl refl (calm k.read);
-            out = omega arith;
-            book = append-nil (map Index k.waiting);
-            goes = rw list refl;
-            answers = rw list refl;
-            -- the party's call afterwards, and the calls of other parties
-            here = record { answer = PoppedNone; wrote = Acted p (Queues Pop) PoppedNone ∷ []; span = refl; steps = rw zero few_steps };
-            knows = omega arith;
-            up = record { write = omega arith; read = omega arith; paid = omega arith };
-            others = λ q ne st f h. (h, refl);
-            reached = omega arith;
-            within = omega arith;
-          },
-        )
+        let zero : backs + 0 ≡ backs = omega arith in
+        acts inv (record {
+          start = Pop;
+          answer = PoppedNone;
+          ask = ask;
+          words = same;
+          producers = refl;
+          consumers = refl;
+          wrote = record { moments = refl; published = refl; handed_out = refl };
+          tells = λ es. tt;
+          grants = λ es. tt;
+          right = waiting_is events (map Index k.waiting) inv.queue.book ∙ none;
+          goes = rw list refl;
+          answers = rw list refl;
+          steps = rw zero few_steps;
+          paid = omega arith;
+          calm = calm k.read;
+        })
 
     -- in a queue with a capacity, the load of the read position changes no word, and the pop goes on to
     -- load the write position
     loads_read : 0 < c → steps ≤ 2 * backs + 0 → backs + since ≤ changes
         → StepKeeps (Some load_of_read) false (GoOn (at (overflow_pops.LoadsWrite k.read))) Quiet
     loads_read some few_steps paid =
-        quiet inv small (calm k.read) (same_queue inv) (record {
+        quiet inv (calm k.read) (same_queue inv) (record {
           start = Pop;
           ask = Some load_of_read;
           back = false;
@@ -119,7 +100,7 @@ module _ {T : Type 0} {en : Coding T} {scene : Scene T kinds.Overflow}
     goes_on : (read : ℕ) → 0 < c → read ≤ k.read → k.read < k.write → steps ≤ 2 * backs + 1 → backs + since + k.read ≤ changes + read
         → StepKeeps (Some load_of_write) false (GoOn (at (overflow_pops.LoadsCell read))) Quiet
     goes_on read some low waits few_steps paid =
-        quiet inv small (calm k.read) (same_queue inv) (record {
+        quiet inv (calm k.read) (same_queue inv) (record {
           start = Pop;
           ask = Some load_of_write;
           back = false;
@@ -168,7 +149,7 @@ module _ {T : Type 0} {en : Coding T} {scene : Scene T kinds.Overflow}
         let old = oldest c k queue_good (omega arith) in
         let same : words_after (layout ro k) (Some (record { word = cell_word c read; op = Load })) ≡ layout ro k =
         set-get_or (layout ro k) (cell_word c read) 0 in
-        quiet inv small (calm k.read) (same_queue inv) (record {
+        quiet inv (calm k.read) (same_queue inv) (record {
           start = Pop;
           ask = Some (record { word = cell_word c read; op = Load });
           back = false;
@@ -197,7 +178,7 @@ module _ {T : Type 0} {en : Coding T} {scene : Scene T kinds.Overflow}
         → StepKeeps (asks_move read) true (GoOn (at (overflow_pops.LoadsCell k.read))) Quiet
     moves_back read some moved waits few_steps paid =
         let is_other : (k.read == read) ≡ false = (let apart : k.read ≢ read = λ e. absurd (omega arith) in grind (arith, nat_tests)) in
-        quiet inv small (calm k.read) (same_queue inv) (record {
+        quiet inv (calm k.read) (same_queue inv) (record {
           start = Pop;
           ask = asks_move read;
           back = true;
@@ -235,7 +216,7 @@ module _ {T : Type 0} {en : Coding T} {scene : Scene T kinds.Overflow}
             let told : effect_of en (layout ro k) waits (at (overflow_pops.MovesRead k.read)) k.read
             ≡ takes_effect (Index room.0) waits =
             rw (is_same, place) refl in
-            rw (same, back, goes, told) (takes_it inv small room holds calm room.0 last.0 knows.0 last.1 few_steps (omega arith) seen)
+            rw (same, back, goes, told) (takes_it inv room holds calm knows.0 last.1 few_steps (omega arith) seen)
         -- a push has moved the position: the exchange fails, and the pop turns back to the cell
         go false e =
             let apart : k.read ≢ read = grind (arith, nat_tests) in
@@ -248,11 +229,6 @@ module _ {T : Type 0} {en : Coding T} {scene : Scene T kinds.Overflow}
             (moves_back read knows.0 (omega arith) knows.2 few_steps paid))
 
   -- ---- every step
-
-  -- a step that writes events of `p` alone keeps the invariant
-  by_itself : (ask : Option Ask) (after : After (QueueFlight T) (Answer T)) (effect : Effect T)
-      → span_of p events ≡ Open (Queues Pop) [] → StepKeeps ask false after effect → ActingStepKeeps ask false after effect
-  by_itself ask after effect seen step = alone inv ask false after effect seen step
 
   -- the call of `p` is a pop, so `p` has no pending push
   calm_at : (stage : PopStage)
@@ -267,21 +243,20 @@ module _ {T : Type 0} {en : Coding T} {scene : Scene T kinds.Overflow}
       → flight_of (doing_of (party_of p latest)) ≡ Some (flights.Queues (at stage)) → span_of p events ≡ Open (Queues Pop) [] → StageKeeps stage
   overflow_pop_step overflow_pops.FindsNone knows few_steps knows_backs found seen =
       let none = nothing_waits en kinds.Overflow c (pending k.read ro.producer latest) knows inv.queue.good inv.queue.hangs in
-      by_itself None (Done PoppedNone) Acts seen
+      of_step inv Pop (at overflow_pops.FindsNone) seen
       (finds_none (calm_at overflow_pops.FindsNone found) None refl (nil_from_length k.waiting none) (omega arith) knows_backs)
   overflow_pop_step overflow_pops.LoadsRead knows few_steps knows_backs found seen =
-      by_itself (Some load_of_read) (GoOn (at (overflow_pops.LoadsWrite k.read))) Quiet seen
-      (loads_read (calm_at overflow_pops.LoadsRead found) knows few_steps knows_backs)
+      of_step inv Pop (at overflow_pops.LoadsRead) seen (loads_read (calm_at overflow_pops.LoadsRead found) knows few_steps knows_backs)
   overflow_pop_step (overflow_pops.LoadsWrite read) knows few_steps knows_backs found seen =
-      by_itself (Some load_of_write) (after en (at (overflow_pops.LoadsWrite read)) k.write) Acts seen
+      of_step inv Pop (at (overflow_pops.LoadsWrite read)) seen
       (loads_write (calm_at (overflow_pops.LoadsWrite read) found) read knows.0 knows.1 knows.2 few_steps knows_backs.1)
   overflow_pop_step (overflow_pops.LoadsCell read) knows few_steps knows_backs found seen =
       let old : get_or (layout ro k) (cell_word c read) 0 ≡ get_or k.cells (read % (c + 1)) 0 =
       word_at k.write k.read (free ro.producer) (free ro.consumer) k.cells (cell_word c read) (read % (c + 1)) refl in
-      subst (λ n. ActingStepKeeps (Some (record { word = cell_word c read; op = Load })) false
+      subst (λ n. Moves en kinds.Overflow scene Pop (Some (record { word = cell_word c read; op = Load })) false
       (GoOn (with_value n (overflow_pops.MovesRead read))) Quiet)
       (sym old)
-      (by_itself (Some (record { word = cell_word c read; op = Load }))
+      (alone inv (Some (record { word = cell_word c read; op = Load })) false
       (GoOn (with_value (get_or k.cells (read % (c + 1)) 0) (overflow_pops.MovesRead read))) Quiet seen
       (loads_cell (calm_at (overflow_pops.LoadsCell read) found) read knows.0 knows.1 knows.2 few_steps knows_backs.1))
   overflow_pop_step (overflow_pops.MovesRead read) knows few_steps knows_backs found seen =

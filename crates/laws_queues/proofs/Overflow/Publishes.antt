@@ -1,12 +1,11 @@
 -- The store of the next write position by a push of the overflowing queue, which publishes the
 -- value, keeps the invariant.
-use Rattle.laws_queues.proofs.Names.{◌≡◌, ℕ, ◌+◌, ◌-◌, ◌^◌, ◌<◌, ◌≤◌, ◌==◌, Bool, true, false, Option, Some}
-use Rattle.laws_queues.proofs.Names.{None, List, [], ◌∷◌, ◌++◌, length, map, refl, sym, ap, subst, ◌∙◌, length-append}
-use Rattle.laws_queues.proofs.Names.{nat_tests, map-append, Ask, Store, After, GoOn, Done, OneWord, distance}
-use Rattle.laws_queues.proofs.Names.{after_position, QueueFlight, Effect, Publishes, PublishesAndActs, Item, Index}
-use Rattle.laws_queues.proofs.Names.{PushIndex, Answer, PoppedNone, Event, Queues, Published, Acted, Party, Coding}
-use Rattle.laws_queues.proofs.Names.{answer_of_item, write_word, after, words_of_index, pending, effect_of, put}
-use Rattle.laws_queues.proofs.Names.{words_after, change_of}
+use Rattle.laws_queues.proofs.Names.{◌≡◌, ◌≢◌, ℕ, ◌+◌, ◌-◌, ◌^◌, ◌<◌, ◌≤◌, ◌==◌, Bool, true, false, Option, Some}
+use Rattle.laws_queues.proofs.Names.{None, List, [], ◌∷◌, ◌++◌, length, map, refl, sym, ap, subst, ◌∙◌}
+use Rattle.laws_queues.proofs.Names.{length-append, nat_tests, map-append, Ask, Store, After, GoOn, Done, OneWord}
+use Rattle.laws_queues.proofs.Names.{distance, after_position, QueueFlight, Effect, Publishes, PublishesAndActs}
+use Rattle.laws_queues.proofs.Names.{Item, Index, PushIndex, Answer, PoppedNone, Event, Party, Coding, write_word}
+use Rattle.laws_queues.proofs.Names.{after, words_of_index, pending, effect_of, put, words_after, change_of}
 use Rattle.std.proofs.Common.{arith}
 use Rattle.steps.specs.declared.queues.overflow.PushStage.{PushStage}
 use Rattle.steps.specs.declared.queues.overflow.PushStage.TheVariants as overflow_pushes
@@ -18,7 +17,7 @@ use Rattle.laws_queues.proofs.Queues.Core as core
 use Rattle.laws_queues.proofs.Queues.Core.{Core, Holds, Good, publishes}
 use Rattle.laws_queues.proofs.Overflow.Knows.{overflow_push_at}
 use Rattle.laws_queues.proofs.Queues.Knows.{free, layout, Hangs}
-use Rattle.laws_queues.proofs.Queues.Keeping.{clash, same_roles, kept}
+use Rattle.laws_queues.proofs.Queues.Keeping.{Keeps, clash, same_roles, kept}
 use Rattle.laws_queues.proofs.Queues.Pending.{pending_after, none_hangs}
 use Rattle.laws_queues.proofs.Queues.Stages.{party_then, DoesStep}
 use Rattle.laws_queues.proofs.Overflow.Keeping.{publish_keeps_pop}
@@ -26,7 +25,7 @@ use Rattle.laws_queues.proofs.Overflow.Keeping.{publish_keeps_pop}
 -- The party `p` holds the producer's role and pushes `v`. `c` is the capacity, `k` the queue before the
 -- step (positions, values that wait, cells), `latest` the parties' latest calls.
 module _ {T : Type 0} {en : Coding T} {scene : Scene T kinds.Overflow}
-    (inv : Inv en kinds.Overflow scene) (small : scene.core.write < 2 ^ 64) (v : ℕ) (room : OneWord)
+    (inv : Inv en kinds.Overflow scene) (v : ℕ) (room : OneWord)
     (holds : scene.roles.producer ≡ Some scene.party) (no_backs : scene.backs ≡ 0) where
   open scene use {capacity as c, roles as ro, core as k, party as p, steps, since, latest, events}
 
@@ -76,50 +75,23 @@ module _ {T : Type 0} {en : Coding T} {scene : Scene T kinds.Overflow}
     joined : map {B = Item T} Index k.waiting ++ Index v ∷ [] ≡ map Index (k.waiting ++ v ∷ [])
     joined = sym (map-append Index k.waiting (v ∷ []))
 
+    -- the calls of another party know what they knew, since none is a push
+    keeps : (q : ℕ) → q ≢ p → Keeps en kinds.Overflow c ro k after_publish q
+    keeps q ne =
+        record {
+          push = λ mine w stage h. absurd (clash ro.producer p q ne holds mine);
+          pop = λ mine other stage h. publish_keeps_pop c k v other stage h;
+        }
+
     -- where fewer values wait than the capacity, the store publishes the value and ends the push with None
     publishes_done : length k.waiting < c → StepKeeps [] next_write (Done PoppedNone) (Publishes (Index v))
     publishes_done below =
         let list = push_room {T = T} c k.waiting v below in
         let longer = length-append k.waiting (v ∷ []) in
         let change = one in
-        let reached = inv.queue.reached in (
-          after_publish,
-          words_publish,
-          record {
-            -- the events that the step writes: each may follow in its span, and each tells the truth
-            own = (refl, (refl, (refl, tt)));
-            stands = ((refl, refl), ((refl, refl), ((refl, record { moments = refl; published = sym (one_passes c (Index v) some); handed_out = refl }), tt)));
-            grants = (tt, (tt, (tt, tt)));
-            producers = refl;
-            consumers = refl;
-            right = (tt, (tt, (tt, tt)));
-            lengths = (tt, (tt, (tt, tt)));
-            -- the queue afterwards, and the list that its calls answer as
-            good = good_publish;
-            hangs = none_hangs T kinds.Overflow c after_publish _ (pending_after k.read p ro.producer holds _ latest) (omega arith);
-            out = omega arith;
-            book = joined;
-            goes = list.0;
-            answers = ap (λ (o : Option (Item T)). answer_of_item o ∷ []) list.1;
-            -- the party's call afterwards, and the calls of other parties
-            here =
-                record {
-                  answer = PoppedNone;
-                  wrote = Published p (Index v) ∷ Acted p (Queues (PushIndex v)) PoppedNone ∷ [];
-                  span = refl;
-                  steps = omega arith;
-                };
-            knows = omega arith;
-            up = record { write = omega arith; read = omega arith; paid = omega arith };
-            others =
-                λ q ne. kept (same_roles ro q) en c kinds.Overflow k after_publish (record {
-                  push = λ mine w stage h. absurd (clash ro.producer p q ne holds mine);
-                  pop = λ mine other stage h. publish_keeps_pop c k v other stage h;
-                });
-            reached = omega arith;
-            within = omega arith;
-          },
-        )
+        let reached = inv.queue.reached in
+        let passes = one_passes {T = T} c (Index v) some in
+        (after_publish, words_publish, grind (arith, good_publish, joined, none_hangs, pending_after, kept, keeps, same_roles))
 
     -- where the queue is full, the value waits as one more than the capacity, and the push goes on to move
     -- the read position
@@ -133,43 +105,10 @@ module _ {T : Type 0} {en : Coding T} {scene : Scene T kinds.Overflow}
         let hung : pending k.read ro.producer (put p (after_it next_write (GoOn (at (overflow_pushes.MovesRead read)))) latest) ≡ Some (p, v) =
         pending_after k.read p ro.producer holds (after_it next_write (GoOn (at (overflow_pushes.MovesRead read)))) latest ∙ (rw is_same refl)
         in
-        let many : length k.waiting ≡ c = omega arith in (
-          after_publish,
-          words_publish,
-          record {
-            -- the events that the step writes: each may follow in its span, and each tells the truth
-            own = (refl, tt);
-            stands = ((refl, refl), tt);
-            grants = (tt, tt);
-            producers = refl;
-            consumers = refl;
-            right = (tt, tt);
-            lengths = (tt, tt);
-            -- the queue afterwards, and the list that its calls answer as
-            good = good_publish;
-            hangs = subst (Hangs T kinds.Overflow c after_publish) (sym hung) (some, k.waiting, refl, many);
-            out = omega arith;
-            book = joined;
-            goes = push_waits c k.waiting v many;
-            answers = refl;
-            -- the party's call afterwards, and the calls of other parties
-            here =
-                record {
-                  span = rw is_same refl;
-                  steps = omega arith;
-                  at = (holds, refl, refl, (some, omega arith, omega arith, λ same. (k.waiting, refl)));
-                };
-            knows = omega arith;
-            up = record { write = omega arith; read = omega arith; paid = omega arith };
-            others =
-                λ q ne. kept (same_roles ro q) en c kinds.Overflow k after_publish (record {
-                  push = λ mine w stage h. absurd (clash ro.producer p q ne holds mine);
-                  pop = λ mine other stage h. publish_keeps_pop c k v other stage h;
-                });
-            reached = omega arith;
-            within = omega arith;
-          },
-        )
+        let many : length k.waiting ≡ c = omega arith in
+        let waits = push_waits {T = T} c k.waiting v many in
+        let hangs = subst (Hangs T kinds.Overflow c after_publish) (sym hung) (some, k.waiting, refl, many) in
+        (after_publish, words_publish, grind (arith, good_publish, joined, kept, keeps, same_roles))
 
     -- where the queue was full at the load of the read position and a pop has made room since, the push
     -- publishes its value and acts with None, and goes on to its own move of the read position
@@ -186,44 +125,9 @@ module _ {T : Type 0} {en : Coding T} {scene : Scene T kinds.Overflow}
         let is_other : (read == k.read) ≡ false = grind (arith, nat_tests) in
         let calm : pending k.read ro.producer (put p (after_it next_write (GoOn (at (overflow_pushes.MovesRead read)))) latest) ≡ None =
         pending_after k.read p ro.producer holds (after_it next_write (GoOn (at (overflow_pushes.MovesRead read)))) latest ∙ (rw is_other refl)
-        in (
-          after_publish,
-          words_publish,
-          record {
-            -- the events that the step writes: each may follow in its span, and each tells the truth
-            own = (refl, (refl, tt));
-            stands = ((refl, refl), ((refl, refl), tt));
-            grants = (tt, (tt, tt));
-            producers = refl;
-            consumers = refl;
-            right = (tt, (tt, tt));
-            lengths = (tt, (tt, tt));
-            -- the queue afterwards, and the list that its calls answer as
-            good = good_publish;
-            hangs =
-                none_hangs T kinds.Overflow c after_publish _ calm (omega arith);
-            out = omega arith;
-            book = joined;
-            goes = list.0;
-            answers = ap (λ (o : Option (Item T)). answer_of_item o ∷ []) list.1;
-            -- the party's call afterwards, and the calls of other parties
-            here =
-                record {
-                  span = rw is_other refl;
-                  steps = omega arith;
-                  at = (holds, refl, refl, (some, omega arith, omega arith, λ same. absurd (omega arith)));
-                };
-            knows = omega arith;
-            up = record { write = omega arith; read = omega arith; paid = omega arith };
-            others =
-                λ q ne. kept (same_roles ro q) en c kinds.Overflow k after_publish (record {
-                  push = λ mine w stage h. absurd (clash ro.producer p q ne holds mine);
-                  pop = λ mine other stage h. publish_keeps_pop c k v other stage h;
-                });
-            reached = omega arith;
-            within = omega arith;
-          },
-        )
+        in
+        let hangs = none_hangs T kinds.Overflow c after_publish _ calm (omega arith) in
+        (after_publish, words_publish, grind (arith, good_publish, joined, kept, keeps, same_roles))
 
     -- the store of the next write position keeps the invariant, whether the queue was full or not
     pub stores_write : StepKeeps [] next_write

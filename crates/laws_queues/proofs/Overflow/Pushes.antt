@@ -4,9 +4,9 @@ use Rattle.laws_queues.proofs.Names.{◌≡◌, ◌≢◌, ℕ, suc, ◌+◌, �
 use Rattle.laws_queues.proofs.Names.{inr, Option, Some, None, option_map, List, [], ◌∷◌, ◌++◌, length, get_or, map}
 use Rattle.laws_queues.proofs.Names.{refl, sym, ap, subst, ◌∙◌, append-nil, length-append, nat_tests, set-get_or, Ask}
 use Rattle.laws_queues.proofs.Names.{Load, Store, Exchange, After, GoOn, Done, OneWord, after_position, QueueFlight}
-use Rattle.laws_queues.proofs.Names.{Effect, Quiet, Acts, TakesOut, Item, Index, PushIndex, Answer, PoppedNone}
-use Rattle.laws_queues.proofs.Names.{PoppedIndex, Event, Queues, Published, HandedOut, Acted, Party, Coding}
-use Rattle.laws_queues.proofs.Names.{answer_of_item, write_word, read_word, after, words_of_index, pending_at}
+use Rattle.laws_queues.proofs.Names.{Effect, Quiet, Acts, TakesOut, Index, PushIndex, Answer, PoppedNone}
+use Rattle.laws_queues.proofs.Names.{PoppedIndex, Event, Queues, Published, HandedOut, Acted, Coding}
+use Rattle.laws_queues.proofs.Names.{read_word, after, words_of_index, pending_at}
 use Rattle.laws_queues.proofs.Names.{pending, effect_of, party_of, doing_of, flight_of, Open, span_of, words_after}
 use Rattle.laws_queues.proofs.Names.{change_of, load_of_write, load_of_read}
 use Rattle.std.proofs.Common.{arith}
@@ -16,6 +16,7 @@ use Rattle.steps.specs.Queues.Overflow.{cell_word}
 use Rattle.model.specs.declared.families.queues.calls.QueueFlight.TheVariants.{Overflow}
 use Rattle.model.specs.declared.families.Flight.TheVariants as flights
 use Rattle.model.specs.declared.families.queues.QueueKind.TheVariants as kinds
+use Rattle.model.specs.Families.Queues.Spans.{HandsOut}
 use Rattle.laws_queues.proofs.Queues.Invariant.{Scene, Inv}
 use Rattle.laws_queues.proofs.Overflow.Core.{none_passes, one_passes, oldest, push_over}
 use Rattle.laws_queues.proofs.Queues.Core.{Holds, filled, taken, fills, one_filled, takes, word_at, set_at}
@@ -23,14 +24,14 @@ use Rattle.laws_queues.proofs.Overflow.Knows.{overflow_push_at, IsFreshOver, Kno
 use Rattle.laws_queues.proofs.Queues.Knows.{free, layout, has_written}
 use Rattle.laws_queues.proofs.Queues.Keeping.{clash, same_roles, kept}
 use Rattle.laws_queues.proofs.Queues.Pending.{pending_after, few_wait, none_hangs}
-use Rattle.laws_queues.proofs.Queues.Stages.{party_then, DoesStep, Moves, MovesOf, still_hangs, SameQueue, same_queue, quiet, alone}
+use Rattle.laws_queues.proofs.Queues.Stages.{DoesStep, Moves, MovesOf, still_hangs, SameQueue, same_queue, quiet, ends, acts, alone, of_step}
 use Rattle.laws_queues.proofs.Overflow.Publishes.{stores_write}
 use Rattle.laws_queues.proofs.Overflow.Keeping.{fill_keeps_pop, take_keeps_pop}
 
 -- The party `p` holds the producer's role and pushes `v`. `c` is the capacity, `k` the queue before the step
 -- (positions, values that wait, cells), `ro` the holders of the roles, `latest` the parties' latest calls.
 module _ {T : Type 0} {en : Coding T} {scene : Scene T kinds.Overflow}
-    (inv : Inv en kinds.Overflow scene) (small : scene.core.write < 2 ^ 64) (v : ℕ) (room : OneWord)
+    (inv : Inv en kinds.Overflow scene) (v : ℕ) (room : OneWord)
     (holds : scene.roles.producer ≡ Some scene.party) (no_backs : scene.backs ≡ 0) where
   open scene use {capacity as c, roles as ro, core as k, party as p, steps, since, latest, events}
 
@@ -55,10 +56,6 @@ module _ {T : Type 0} {en : Coding T} {scene : Scene T kinds.Overflow}
   abbrev IsCalm : Type 0
   IsCalm = pending_at k.read (flight_of (doing_of (party_of p latest))) ≡ None
 
-  -- the party `p` after a step of the push
-  abbrev after_it : Option Ask → After (QueueFlight T) (Answer T) → Party T
-  after_it ask after = party_then en kinds.Overflow scene (PushIndex v) ask false after
-
   -- where the push of `p` is not pending, none is, since `p` holds the producer's role
   calm_none : (position : ℕ) → pending_at position (flight_of (doing_of (party_of p latest))) ≡ None → pending position ro.producer latest ≡ None
   calm_none = grind (arith, pending, option_map)
@@ -69,49 +66,24 @@ module _ {T : Type 0} {en : Coding T} {scene : Scene T kinds.Overflow}
 
   -- without capacity the push ends at once and hands its value back
   hands_back : c ≡ 0 → steps ≤ 0 → IsCalm → StepKeeps [] None (Done (PoppedIndex v)) Acts
-  hands_back none few_steps calm = (
-    k,
-    refl,
-    record {
-      -- the events that the step writes: each may follow in its span, and each tells the truth
-      own = (refl, (refl, tt));
-      stands = (
-        (refl, refl),
-        (
-          (
-            refl,
-            record { moments = refl; published = sym (none_passes c (Index v) none); handed_out = sym (none_passes c (Index v) none) },
-          ),
-          tt,
-        ),
-      );
-      grants = (tt, (tt, tt));
-      producers = refl;
-      consumers = refl;
-      right = (tt, (tt, tt));
-      lengths = (tt, (tt, tt));
-      -- the queue afterwards, and the list that its calls answer as
-      good = inv.queue.good;
-      hangs = still_hangs inv k (after_it None (Done (PoppedIndex v))) refl refl refl calm;
-      out = omega arith;
-      book = append-nil (map Index k.waiting);
-      goes = rw none refl;
-      answers = rw none refl;
-      -- the party's call afterwards, and the calls of other parties
-      here =
-          record {
-            answer = PoppedIndex v;
-            wrote = Acted p (Queues (PushIndex v)) (PoppedIndex v) ∷ [];
-            span = refl;
-            steps = omega arith;
-          };
-      knows = omega arith;
-      up = record { write = omega arith; read = omega arith; paid = omega arith };
-      others = λ q ne st f h. (h, refl);
-      reached = (let low = inv.queue.reached in omega arith);
-      within = omega arith;
-    },
-  )
+  hands_back none few_steps calm =
+      acts inv (record {
+        start = PushIndex v;
+        answer = PoppedIndex v;
+        ask = None;
+        words = refl;
+        producers = refl;
+        consumers = refl;
+        wrote = record { moments = refl; published = sym (none_passes c (Index v) none); handed_out = sym (none_passes c (Index v) none) };
+        tells = λ es. tt;
+        grants = λ es. tt;
+        right = tt;
+        goes = rw none refl;
+        answers = rw none refl;
+        steps = omega arith;
+        paid = omega arith;
+        calm = calm;
+      })
 
   -- in a queue with a capacity, the load of the write position changes no word, and the push goes on, as
   -- the position is not the last
@@ -121,7 +93,7 @@ module _ {T : Type 0} {en : Coding T} {scene : Scene T kinds.Overflow}
       let low = inv.queue.reached in
       let not_last : (k.write == 2 ^ 64 - 1) ≡ false = grind (arith, nat_tests) in
       let goes : after en (at overflow_pushes.LoadsWrite) k.write ≡ GoOn (at (overflow_pushes.LoadsRead k.write)) = rw not_last refl in
-      rw goes (quiet inv small calm (same_queue inv) (record {
+      rw goes (quiet inv calm (same_queue inv) (record {
         start = PushIndex v;
         ask = Some load_of_write;
         back = false;
@@ -140,7 +112,7 @@ module _ {T : Type 0} {en : Coding T} {scene : Scene T kinds.Overflow}
       let below = few calm in
       let queue_good = inv.queue.good in
       let write = queue_good.write in
-      quiet inv small calm (same_queue inv) (record {
+      quiet inv calm (same_queue inv) (record {
         start = PushIndex v;
         ask = Some load_of_read;
         back = false;
@@ -174,7 +146,7 @@ module _ {T : Type 0} {en : Coding T} {scene : Scene T kinds.Overflow}
               pop = λ mine other stage h. fill_keeps_pop c k 0 v other stage h;
             });
       } in
-      quiet inv small calm same (record {
+      quiet inv calm same (record {
         start = PushIndex v;
         ask = Some (record { word = cell_word c k.write; op = Store v });
         back = false;
@@ -217,41 +189,10 @@ module _ {T : Type 0} {en : Coding T} {scene : Scene T kinds.Overflow}
       let words : words_after (layout ro k) (Some (record { word = read_word; op = Exchange k.read (after_position k.read) }))
       ≡ layout ro (taken 1 words_of_index (c + 1) k rest) =
       rw is_same (ap (λ n. k.write ∷ n ∷ free ro.producer ∷ free ro.consumer ∷ k.cells) next) in
-      let one : change_of (layout ro k) (Some (record { word = read_word; op = Exchange k.read (after_position k.read) })) ≡ 1 = rw (is_same, moved) refl in (
-        taken 1 words_of_index (c + 1) k rest,
-        words,
-        record {
-          -- the events that the step writes: each may follow in its span, and each tells the truth
-          own = (refl, (refl, tt));
-          stands = ((inr (Index v, refl), refl), ((refl, refl), tt));
-          grants = (tt, (tt, tt));
-          producers = refl;
-          consumers = refl;
-          right = (tt, (tt, tt));
-          lengths = (tt, (tt, tt));
-          -- the queue afterwards, and the list that its calls answer as
-          good = takes queue_good first;
-          hangs =
-              none_hangs T kinds.Overflow c (taken 1 words_of_index (c + 1) k rest) _
-              (pending_after (k.read + 1) p ro.producer holds _ latest) (omega arith);
-          out = omega arith;
-          book = append-nil (map Index k.waiting) ∙ ap (map Index) first;
-          goes = list.0;
-          answers = ap (λ (o : Option (Item T)). answer_of_item o ∷ []) list.1;
-          -- the party's call afterwards, and the calls of other parties
-          here = record { span = refl; steps = omega arith; at = (holds, refl, refl, (some, omega arith, far)) };
-          knows = omega arith;
-          up = record { write = omega arith; read = omega arith; paid = omega arith };
-          others =
-              λ q ne. kept (same_roles ro q) en c kinds.Overflow k
-              (taken 1 words_of_index (c + 1) k rest) (record {
-                push = λ mine w stage h. absurd (clash ro.producer p q ne holds mine);
-                pop = λ mine other stage h. take_keeps_pop c k rest far other stage h;
-              });
-          reached = omega arith;
-          within = omega arith;
-        },
-      )
+      let one : change_of (layout ro k) (Some (record { word = read_word; op = Exchange k.read (after_position k.read) })) ≡ 1 = rw (is_same, moved) refl in
+      let good = takes queue_good first in
+      let may : HandsOut {T = T} kinds.Overflow (Queues (PushIndex v)) = inr (Index v, refl) in
+      (taken 1 words_of_index (c + 1) k rest, words, grind (arith, append-nil, map, none_hangs, pending_after, kept, same_roles, take_keeps_pop, clash))
 
   -- where a pop has moved the read position since, the exchange fails, and the push ends with None, with
   -- which it has acted already
@@ -259,41 +200,26 @@ module _ {T : Type 0} {en : Coding T} {scene : Scene T kinds.Overflow}
       → StepKeeps (Published p (Index v) ∷ Acted p (Queues (PushIndex v)) PoppedNone ∷ [])
       (Some (record { word = read_word; op = Exchange read (after_position read) })) (Done PoppedNone) Quiet
   gives_up read some moved few_steps calm =
-      let reached = inv.queue.reached in
-      let is_other : (k.read == read) ≡ false = grind (arith, nat_tests) in
-      let ask : Option Ask = Some (record { word = read_word; op = Exchange read (after_position read) }) in (
+      let is_other : (k.read == read) ≡ false = grind (arith, nat_tests) in (
         k,
         rw is_other refl,
-        record {
-          -- the events that the step writes: each may follow in its span, and each tells the truth
-          own = (refl, tt);
-          stands = ((refl, record { moments = refl; published = sym (one_passes c (Index v) some); handed_out = refl }), tt);
-          grants = (tt, tt);
+        ends inv (record {
+          start = PushIndex v;
+          answer = PoppedNone;
+          ask = Some (record { word = read_word; op = Exchange read (after_position read) });
+          back = false;
+          roles_then = ro;
+          written = Published p (Index v) ∷ Acted p (Queues (PushIndex v)) PoppedNone ∷ [];
           producers = refl;
           consumers = refl;
-          right = (tt, tt);
-          lengths = (tt, tt);
-          -- the queue afterwards, and the list that its calls answer as
-          good = inv.queue.good;
-          hangs = still_hangs inv k (after_it ask (Done PoppedNone)) refl refl refl calm;
-          out = omega arith;
-          book = append-nil (map Index k.waiting);
-          goes = refl;
-          answers = refl;
-          -- the party's call afterwards, and the calls of other parties
-          here =
-              record {
-                answer = PoppedNone;
-                wrote = Published p (Index v) ∷ Acted p (Queues (PushIndex v)) PoppedNone ∷ [];
-                span = refl;
-                steps = omega arith;
-              };
-          knows = omega arith;
-          up = record { write = omega arith; read = omega arith; paid = omega arith };
+          wrote = record { moments = refl; published = sym (one_passes c (Index v) some); handed_out = refl };
+          tells = tt;
+          grants = tt;
+          steps = omega arith;
+          paid = omega arith;
+          hangs = still_hangs inv k _ refl refl refl calm;
           others = λ q ne st f h. (h, refl);
-          reached = omega arith;
-          within = omega arith;
-        },
+        }),
       )
 
   -- ---- the load of the cell from which the push took the value out
@@ -307,60 +233,33 @@ module _ {T : Type 0} {en : Coding T} {scene : Scene T kinds.Overflow}
       → StepKeeps (Published p (Index v) ∷ HandedOut p (Index (oldest_at read))
       ∷ Acted p (Queues (PushIndex v)) (PoppedIndex (oldest_at read)) ∷ [])
       (Some (record { word = cell_word c read; op = Load })) (Done (PoppedIndex (oldest_at read))) Quiet
-  loads_cell read some few_steps calm =
-      let reached = inv.queue.reached in
-      let ask : Option Ask = Some (record { word = cell_word c read; op = Load }) in (
-        k,
-        set-get_or (layout ro k) (cell_word c read) 0,
-        record {
-          -- the events that the step writes: each may follow in its span, and each tells the truth
-          own = (refl, tt);
-          stands = (
-            (
-              refl,
-              record {
-                moments = refl;
-                published = sym (one_passes c (Index v) some);
-                handed_out = sym (one_passes c (Index (oldest_at read)) some);
-              },
-            ),
-            tt,
-          );
-          grants = (tt, tt);
-          producers = refl;
-          consumers = refl;
-          right = (tt, tt);
-          lengths = (tt, tt);
-          -- the queue afterwards, and the list that its calls answer as
-          good = inv.queue.good;
-          hangs = still_hangs inv k (after_it ask (Done (PoppedIndex (oldest_at read)))) refl refl refl calm;
-          out = omega arith;
-          book = append-nil (map Index k.waiting);
-          goes = refl;
-          answers = refl;
-          -- the party's call afterwards, and the calls of other parties
-          here =
-              record {
-                answer = PoppedIndex (oldest_at read);
-                wrote = Published p (Index v) ∷ HandedOut p (Index (oldest_at read)) ∷ Acted p (Queues (PushIndex v)) (PoppedIndex (oldest_at read)) ∷ [];
-                span = refl;
-                steps = omega arith;
-              };
-          knows = omega arith;
-          up = record { write = omega arith; read = omega arith; paid = omega arith };
-          others = λ q ne st f h. (h, refl);
-          reached = omega arith;
-          within = omega arith;
-        },
-      )
+  loads_cell read some few_steps calm = (
+    k,
+    set-get_or (layout ro k) (cell_word c read) 0,
+    ends inv (record {
+      start = PushIndex v;
+      answer = PoppedIndex (oldest_at read);
+      ask = Some (record { word = cell_word c read; op = Load });
+      back = false;
+      roles_then = ro;
+      written = Published p (Index v) ∷ HandedOut p (Index (oldest_at read)) ∷ Acted p (Queues (PushIndex v)) (PoppedIndex (oldest_at read)) ∷ [];
+      producers = refl;
+      consumers = refl;
+      wrote = record {
+        moments = refl;
+        published = sym (one_passes c (Index v) some);
+        handed_out = sym (one_passes c (Index (oldest_at read)) some);
+      };
+      tells = tt;
+      grants = tt;
+      steps = omega arith;
+      paid = omega arith;
+      hangs = still_hangs inv k _ refl refl refl calm;
+      others = λ q ne st f h. (h, refl);
+    }),
+  )
 
   -- ---- every step of a push
-
-  -- a step that writes events of `p` alone keeps the invariant
-  by_itself : (wrote : List (Event T)) (ask : Option Ask) (after : After (QueueFlight T) (Answer T)) (effect : Effect T)
-      → span_of p events ≡ Open (Queues (PushIndex v)) wrote → StepKeeps wrote ask after effect
-      → ActingStepKeeps ask after effect
-  by_itself wrote ask after effect seen step = alone inv ask false after effect seen step
 
   -- where the push at its stage is not about to move the read position, `p` has no pending push
   calm_at : (stage : PushStage)
@@ -404,7 +303,7 @@ module _ {T : Type 0} {en : Coding T} {scene : Scene T kinds.Overflow}
           same seen in
           let step = takes_out knows.0 (omega arith) last.0 last.1 few_steps in
           let all =
-          by_itself (Published p (Index v) ∷ []) (asks_move k.read)
+          alone inv (asks_move k.read) false
           (GoOn (at (overflow_pushes.LoadsCell k.read)))
           (TakesOut (get_or k.cells (k.read % (c + 1)) 0))
           (as_seen ∙ ap (λ es. Open (Queues (PushIndex v)) es) wrote) step in
@@ -426,8 +325,7 @@ module _ {T : Type 0} {en : Coding T} {scene : Scene T kinds.Overflow}
           rw e refl in
           let calm = calm_at (overflow_pushes.MovesRead read) found (rw is_other refl) in
           let all =
-          by_itself (Published p (Index v) ∷ Acted p (Queues (PushIndex v)) PoppedNone ∷ []) (asks_move read)
-          (Done PoppedNone) Quiet (seen ∙ ap (λ es. Open (Queues (PushIndex v)) es) wrote)
+          alone inv (asks_move read) false (Done PoppedNone) Quiet (seen ∙ ap (λ es. Open (Queues (PushIndex v)) es) wrote)
           (gives_up read knows.0 moved few_steps calm) in
           subst (λ a. ActingStepKeeps (asks_move read) a
           (effect_of en (layout ro k) (pending k.read ro.producer latest) (at (overflow_pushes.MovesRead read)) k.read))
@@ -441,32 +339,25 @@ module _ {T : Type 0} {en : Coding T} {scene : Scene T kinds.Overflow}
       → flight_of (doing_of (party_of p latest)) ≡ Some (flights.Queues (at stage))
       → span_of p events ≡ Open (Queues (PushIndex v)) (has_written c k p (at stage)) → StageKeeps stage
   overflow_push_step overflow_pushes.HandsBack fresh knows few_steps found seen =
-      by_itself [] None (Done (PoppedIndex v)) Acts seen (hands_back knows few_steps (calm_at overflow_pushes.HandsBack found refl))
+      of_step inv (PushIndex v) (at overflow_pushes.HandsBack) seen (hands_back knows few_steps (calm_at overflow_pushes.HandsBack found refl))
   overflow_push_step overflow_pushes.LoadsWrite fresh knows few_steps found seen =
-      by_itself [] (Some load_of_write) (after en (at overflow_pushes.LoadsWrite) k.write) Quiet seen
-      (loads_write fresh knows few_steps (calm_at overflow_pushes.LoadsWrite found refl))
+      of_step inv (PushIndex v) (at overflow_pushes.LoadsWrite) seen (loads_write fresh knows few_steps (calm_at overflow_pushes.LoadsWrite found refl))
   overflow_push_step (overflow_pushes.LoadsRead write) fresh knows few_steps found seen =
       subst (λ w. StageKeeps (overflow_pushes.LoadsRead w)) (sym knows.1)
-      (by_itself [] (Some load_of_read) (GoOn (at (overflow_pushes.StoresCell k.write k.read))) Quiet
-      seen (loads_read knows.2 knows.0 few_steps (calm_at (overflow_pushes.LoadsRead write) found refl)))
+      (of_step inv (PushIndex v) (at (overflow_pushes.LoadsRead k.write)) seen
+      (loads_read knows.2 knows.0 few_steps (calm_at (overflow_pushes.LoadsRead write) found refl)))
   overflow_push_step (overflow_pushes.StoresCell write read) fresh knows few_steps found seen =
       subst (λ w. StageKeeps (overflow_pushes.StoresCell w read)) (sym knows.1)
-      (by_itself [] (Some (record { word = cell_word c k.write; op = Store v }))
-      (GoOn (at (overflow_pushes.StoresWrite k.write read))) Quiet seen
+      (of_step inv (PushIndex v) (at (overflow_pushes.StoresCell k.write read)) seen
       (stores_cell knows.4 read knows.0 knows.2 knows.3 few_steps (calm_at (overflow_pushes.StoresCell write read) found refl)))
   overflow_push_step (overflow_pushes.StoresWrite write read) fresh knows few_steps found seen =
       subst (λ w. StageKeeps (overflow_pushes.StoresWrite w read)) (sym knows.1)
-      (by_itself [] (Some (record { word = write_word; op = Store (after_position k.write) }))
-      (after en (at (overflow_pushes.StoresWrite k.write read)) k.write)
-      (effect_of en (layout ro k) (pending k.read ro.producer latest)
-      (at (overflow_pushes.StoresWrite k.write read)) k.write)
-      seen (stores_write inv small v room holds no_backs read knows.0 knows.2 knows.3 knows.4 knows.5 few_steps))
+      (of_step inv (PushIndex v) (at (overflow_pushes.StoresWrite k.write read)) seen
+      (stores_write inv v room holds no_backs read knows.0 knows.2 knows.3 knows.4 knows.5 few_steps))
   overflow_push_step (overflow_pushes.MovesRead read) fresh knows few_steps found seen = moves_read read knows few_steps found seen
   overflow_push_step (overflow_pushes.LoadsCell read) fresh knows few_steps found seen =
       let old : get_or (layout ro k) (cell_word c read) 0 ≡ get_or k.cells (read % (c + 1)) 0 =
       word_at k.write k.read (free ro.producer) (free ro.consumer) k.cells (cell_word c read) (read % (c + 1)) refl in
       subst (λ n. ActingStepKeeps (Some (record { word = cell_word c read; op = Load })) (Done (PoppedIndex n)) Quiet) (sym old)
-      (by_itself (Published p (Index v) ∷ HandedOut p (Index (oldest_at read))
-      ∷ Acted p (Queues (PushIndex v)) (PoppedIndex (oldest_at read)) ∷ [])
-      (Some (record { word = cell_word c read; op = Load })) (Done (PoppedIndex (oldest_at read))) Quiet seen
+      (alone inv (Some (record { word = cell_word c read; op = Load })) false (Done (PoppedIndex (oldest_at read))) Quiet seen
       (loads_cell read knows.0 few_steps (calm_at (overflow_pushes.LoadsCell read) found refl)))

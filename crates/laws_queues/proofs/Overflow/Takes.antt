@@ -1,13 +1,13 @@
 -- The move of the read position by a pop of the overflowing queue keeps the invariant: the pop takes the
 -- oldest value, and a push that was pending at that position acts in the same turn.
-use Rattle.laws_queues.proofs.Names.{Bool, ◌≡◌, ◌≢◌, ℕ, suc, ◌+◌, ◌*◌, ◌^◌, ◌<◌, ◌≤◌, ◌==◌, true, false, ⊎_elim, inl}
+use Rattle.laws_queues.proofs.Names.{Bool, ◌≡◌, ◌≢◌, ℕ, suc, ◌+◌, ◌*◌, ◌<◌, ◌≤◌, ◌==◌, true, false, ⊎_elim, inl}
 use Rattle.laws_queues.proofs.Names.{Option, Some, None, List, [], ◌∷◌, ◌++◌, length, map, take, drop, fold, refl}
 use Rattle.laws_queues.proofs.Names.{sym, ap, subst, ◌∙◌, append-nil, append_assoc, cases_eq, nat_tests, Ask}
 use Rattle.laws_queues.proofs.Names.{Exchange, After, Done, OneWord, after_position, QueueFlight, Effect, MakesRoom}
 use Rattle.laws_queues.proofs.Names.{Item, Index, PushIndex, Pop, Answer, PoppedNone, PoppedIndex, Event, Queues}
 use Rattle.laws_queues.proofs.Names.{Published, HandedOut, Acted, Finished, Start, Party, Coding}
-use Rattle.laws_queues.proofs.Names.{answer_of_item, read_word, after, words_of_index, cut_off, promise, pending_at}
-use Rattle.laws_queues.proofs.Names.{pending, beside, takes_effect, party_of, put, doing_of, flight_of, Stands, Open}
+use Rattle.laws_queues.proofs.Names.{answer_of_item, read_word, after, words_of_index, cut_off, pending_at}
+use Rattle.laws_queues.proofs.Names.{pending, beside, takes_effect, party_of, put, doing_of, flight_of, Open}
 use Rattle.laws_queues.proofs.Names.{Ended, own_after, span_of, words_after, change_of, span_of-own, span_of-other}
 use Rattle.std.proofs.Common.{arith}
 use Rattle.steps.specs.declared.queues.overflow.PushStage.TheVariants as overflow_pushes
@@ -31,7 +31,7 @@ use Rattle.laws_queues.proofs.Overflow.Keeping.{take_keeps_push}
 -- before the step (positions, values that wait, cells), `ro` the holders of the roles, `latest` the
 -- parties' latest calls.
 module _ {T : Type 0} {en : Coding T} {scene : Scene T kinds.Overflow}
-    (inv : Inv en kinds.Overflow scene) (small : scene.core.write < 2 ^ 64) (room : OneWord)
+    (inv : Inv en kinds.Overflow scene) (room : OneWord)
     (holds : scene.roles.consumer ≡ Some scene.party) where
   open scene use {capacity as c, roles as ro, core as k, party as p, steps, backs, since, changes, latest, events}
 
@@ -65,7 +65,7 @@ module _ {T : Type 0} {en : Coding T} {scene : Scene T kinds.Overflow}
     -- ---- the move of the read position
 
     -- the pop has the front value in its room, and its exchange of the read position succeeds
-    module _ (value : ℕ) (rest : List ℕ) (some : 0 < c) (first : k.waiting ≡ value ∷ rest)
+    module _ {value : ℕ} {rest : List ℕ} (some : 0 < c) (first : k.waiting ≡ value ∷ rest)
         (few_steps : steps ≤ 2 * backs + 3) (paid : backs + since ≤ changes) where
       -- the queue once the value is taken
       abbrev after_take : Core ℕ
@@ -107,50 +107,9 @@ module _ {T : Type 0} {en : Coding T} {scene : Scene T kinds.Overflow}
           let few = few_wait en kinds.Overflow c k (pending k.read ro.producer latest) none inv.queue.good inv.queue.hangs in
           let list = pop_front {T = T} c k.waiting value rest first few in
           let change = one in
-          let reached = inv.queue.reached in (
-            after_take,
-            words_take,
-            record {
-              -- the events that the step writes: each may follow in its span, and each tells the truth
-              own = (refl, (refl, (refl, tt)));
-              stands = (
-                (inl refl, refl),
-                (
-                  (refl, refl),
-                  ((refl, record { moments = refl; published = refl; handed_out = sym (one_passes c (Index value) some) }), tt),
-                ),
-              );
-              grants = (tt, (tt, (tt, tt)));
-              producers = refl;
-              consumers = refl;
-              right = (tt, (tt, (tt, tt)));
-              lengths = (tt, (tt, (tt, tt)));
-              -- the queue afterwards, and the list that its calls answer as
-              good = good_take;
-              hangs = hangs_take;
-              out = omega arith;
-              book = append-nil (map Index k.waiting) ∙ ap (map Index) first;
-              goes = list.0;
-              answers = ap (λ (o : Option (Item T)). answer_of_item o ∷ []) list.1;
-              -- the party's call afterwards, and the calls of other parties
-              here =
-                  record {
-                    answer = answer;
-                    wrote = HandedOut p (Index value) ∷ Acted p (Queues Pop) answer ∷ [];
-                    span = refl;
-                    steps = omega arith;
-                  };
-              knows = omega arith;
-              up = record { write = omega arith; read = omega arith; paid = omega arith };
-              others =
-                  λ q ne. kept (same_roles ro q) en c kinds.Overflow k after_take (record {
-                    push = λ mine w stage h. take_keeps_push c k q rest queue_good few w stage h;
-                    pop = λ mine other stage h. absurd (clash ro.consumer p q ne holds mine);
-                  });
-              reached = omega arith;
-              within = omega arith;
-            },
-          )
+          let reached = inv.queue.reached in
+          let passes = one_passes {T = T} c (Index value) some in
+          (after_take, words_take, grind (arith, good_take, hangs_take, append-nil, map, kept, same_roles, take_keeps_push, clash))
 
       -- ---- a push of another party waits for this move
 

@@ -5,14 +5,13 @@
 use Rattle.laws_queues.proofs.Names.{◌≡◌, ℕ, ◌-◌, ◌^◌, ◌<◌, ◌≤◌, ◌==◌, Bool, true, false, cond, inr, Option, Some}
 use Rattle.laws_queues.proofs.Names.{None, List, [], ◌∷◌, ◌++◌, get_or, refl, sym, ap, subst, ◌∙◌, nat_tests, Ask}
 use Rattle.laws_queues.proofs.Names.{Exchange, After, GoOn, Done, OneWord, after_position, went_on, Answer, Event}
-use Rattle.laws_queues.proofs.Names.{Published, HandedOut, Acted, Item, Index, Start, Queues, Flight}
-use Rattle.laws_queues.proofs.Names.{QueueStart, PushIndex, Pop, Roles, QueueFlight, Role, Indices, Values, Length}
-use Rattle.laws_queues.proofs.Names.{Effect, Quiet, Acts, Publishes, PublishesAndActs, TakesOut, MakesRoom}
-use Rattle.laws_queues.proofs.Names.{Party, QueueKind, Turn, Next, Coding, IsCoding, ask_of}
-use Rattle.laws_queues.proofs.Names.{AnswersRight, read_word, want, after, popped, load_of_write}
-use Rattle.laws_queues.proofs.Names.{finding_none, AddsOne, promise, pending_at, beside, takes_effect, effect_of}
-use Rattle.laws_queues.proofs.Names.{acts_if_done, effects_of, party_of, doing_of, flight_of, as_call}
-use Rattle.laws_queues.proofs.Names.{answer_in, old_of, Trace, AreRight, StandsThere}
+use Rattle.laws_queues.proofs.Names.{Published, HandedOut, Acted, Item, Index, Start, Queues, Flight, QueueStart}
+use Rattle.laws_queues.proofs.Names.{PushIndex, Pop, Roles, QueueFlight, Role, Indices, Values, Length, Effect}
+use Rattle.laws_queues.proofs.Names.{Quiet, Acts, Publishes, PublishesAndActs, TakesOut, MakesRoom, Party}
+use Rattle.laws_queues.proofs.Names.{QueueKind, Turn, Next, Coding, IsCoding, ask_of, AnswersRight, read_word, want}
+use Rattle.laws_queues.proofs.Names.{after, popped, load_of_write, finding_none, AddsOne, promise, pending_at}
+use Rattle.laws_queues.proofs.Names.{beside, takes_effect, effect_of, acts_if_done, effects_of, party_of, doing_of}
+use Rattle.laws_queues.proofs.Names.{flight_of, as_call, answer_in, old_of, Trace, AreRight, StandsThere}
 use Rattle.std.proofs.Common.{arith}
 use Rattle.std.specs.List.{AllByRecursion}
 use Rattle.steps.specs.declared.queues.overflow.Pop as overflow_pop
@@ -297,7 +296,7 @@ module _ {T : Type 0} (en : Coding T) (law : IsCoding en) (kd : QueueKind) (c : 
       let words = layout s.state.roles s.state.core in
       -- the step keeps the invariant, so what it writes tells the truth
       let moves =
-      step_moves law kd scene s.holds.within (inv_of law kd c s p x since) start flight (record {
+      step_moves law kd scene (inv_of law kd c s p x since) start flight (record {
         at = here.at;
         steps = here.steps;
         knows = here.knows;

@@ -1,5 +1,6 @@
 -- Each step of `len`, `is_empty` and `is_full`, which tell how many values wait, keeps the invariant.
-use Rattle.laws_queues.proofs.Names.{◌≡◌, ◌≢◌, ℕ, ◌+◌, ◌*◌, ◌^◌, ◌<◌, ◌≤◌, ◌==◌, Bool, true, false, not, cond, Some}
+use Rattle.laws_queues.proofs.Names.{◌≡◌, ◌≢◌, ℕ, ◌+◌, ◌*◌, ◌^◌, ◌<◌, ◌≤◌, ◌==◌, Bool, true, false, not, cond, Option, Some}
+use Rattle.laws_queues.proofs.Names.{Ask, step_count, change_of, words_after, one_if}
 use Rattle.laws_queues.proofs.Names.{List, [], ◌∷◌, ◌++◌, fold, length, map, refl, ap, ◌∙◌, nat_tests}
 use Rattle.laws_queues.proofs.Names.{length-map, After, GoOn, Done, Len, LenStage, went_on, number_waiting, first_len}
 use Rattle.laws_queues.proofs.Names.{LengthOf, QueueFlight, Length, Quiet, Item, QueueStart, Answer, Queues, Finished}
@@ -29,9 +30,8 @@ number_is : {V : Type 0} {size : ℕ} {words_of : V → List ℕ} {cells : ℕ} 
     → length k.waiting ≡ number_waiting c k.write k.read
 number_is = grind arith
 
--- the party has a call on the length under way; it is no pending push (`before`), and the write position fits its word
-module _ {T : Type 0} {en : Coding T} {kd : QueueKind} {scene : Scene T kd} (inv : Inv en kd scene)
-    (small : scene.core.write < 2 ^ 64) (before : IsCalm en kd scene scene.core.read) where
+-- the party has a call on the length under way; it is no pending push (`before`)
+module _ {T : Type 0} {en : Coding T} {kd : QueueKind} {scene : Scene T kd} (inv : Inv en kd scene) (before : IsCalm en kd scene scene.core.read) where
   open scene use {capacity as c, roles as ro, core as k, party as p, steps, backs, since, changes, latest, events}
 
   good_before : Good (encoded en kd).size (encoded en kd).words_of (cells_of kd c) k
@@ -80,38 +80,36 @@ module _ {T : Type 0} {en : Coding T} {kd : QueueKind} {scene : Scene T kd} (inv
         (after en (call_at which c stage) (old_of (layout ro k) (ask_of (want en (call_at which c stage)))))
         Quiet
 
+    -- a load with which the call goes on to this stage, or turns back to it, keeps the invariant
+    leads : (ask : Option Ask) (back : Bool) (stage : LenStage) → words_after (layout ro k) ask ≡ layout ro k
+        → steps + step_count ask ≤ 4 * (backs + one_if back) + len_number stage
+        → KnowsLen c k p events (since + change_of (layout ro k) ask) (changes + change_of (layout ro k) ask) (backs + one_if back) stage
+        → Stays en kd scene start ask back (GoOn (call_at which c stage)) Quiet
+    leads ask back stage words few_steps knows =
+        quiet inv before (same_queue inv) (record {
+          start = start;
+          ask = ask;
+          back = back;
+          flight = call_at which c stage;
+          calm = refl;
+          words = words;
+          here = record { span = refl; steps = few_steps; at = at stage };
+          knows = knows;
+        })
+
     -- the load of the write position keeps the invariant, and the call goes on to load the read position
     loads_write : steps ≤ 4 * backs + 0 → LengthKnows lens.LoadsWrite → StaysAt lens.LoadsWrite
     loads_write few_steps knows =
-        quiet inv small before (same_queue inv) (record {
-          start = start;
-          ask = Some load_of_write;
-          back = false;
-          flight = call_at which c (lens.LoadsRead k.write);
-          calm = refl;
-          words = refl;
-          here = record { span = refl; steps = omega arith; at = at (lens.LoadsRead k.write) };
-          knows = (omega arith, omega arith, omega arith);
-        })
+        leads (Some load_of_write) false (lens.LoadsRead k.write) refl (omega arith) (omega arith, omega arith, omega arith)
 
     -- the load of the read position keeps the invariant, and the call goes on to load the
     -- write position again
-    loads_read : (write : ℕ) → steps ≤ 4 * backs + 1
-        → LengthKnows (lens.LoadsRead write)
-        → StaysAt (lens.LoadsRead write)
+    loads_read : (write : ℕ) → steps ≤ 4 * backs + 1 → LengthKnows (lens.LoadsRead write) → StaysAt (lens.LoadsRead write)
     loads_read write few_steps knows =
         let low = knows.0 in
         let paid = knows.2 in
-        quiet inv small before (same_queue inv) (record {
-          start = start;
-          ask = Some load_of_read;
-          back = false;
-          flight = call_at which c (lens.LoadsWriteAgain write k.read);
-          calm = refl;
-          words = refl;
-          here = record { span = refl; steps = omega arith; at = at (lens.LoadsWriteAgain write k.read) };
-          knows = ((omega arith, omega arith, omega arith), λ same. rw same waits_now);
-        })
+        leads (Some load_of_read) false (lens.LoadsWriteAgain write k.read) refl (omega arith)
+        ((omega arith, omega arith, omega arith), λ same. rw same waits_now)
 
     -- the second load of the write position leads on where it finds the position unchanged; else the call
     -- turns back to its first load
@@ -131,32 +129,14 @@ module _ {T : Type 0} {en : Coding T} {kd : QueueKind} {scene : Scene T kd} (inv
             let early = knows.0.1 in
             let paid = knows.0.2 in
             let same : write ≡ k.write = grind (arith, nat_tests) in
-            quiet inv small before (same_queue inv) (record {
-              start = start;
-              ask = Some load_of_write;
-              back = false;
-              flight = call_at which c (lens.LoadsReadAgain write read);
-              calm = refl;
-              words = refl;
-              here = record { span = refl; steps = omega arith; at = at (lens.LoadsReadAgain write read) };
-              knows = ((omega arith, omega arith, omega arith), knows.1 same);
-            })
+            leads (Some load_of_write) false (lens.LoadsReadAgain write read) refl (omega arith) ((omega arith, omega arith, omega arith), knows.1 same)
         -- the position has moved: the call turns back to its first load
         go false e =
             let low = knows.0.0 in
             let early = knows.0.1 in
             let paid = knows.0.2 in
             let moved : k.write ≢ write = grind (arith, nat_tests) in
-            quiet inv small before (same_queue inv) (record {
-              start = start;
-              ask = Some load_of_write;
-              back = true;
-              flight = call_at which c lens.LoadsWrite;
-              calm = refl;
-              words = refl;
-              here = record { span = refl; steps = omega arith; at = at lens.LoadsWrite };
-              knows = omega arith;
-            })
+            leads (Some load_of_write) true lens.LoadsWrite refl (omega arith) (omega arith)
 
     -- the second load of the read position ends the call with the number that waited, where it finds the
     -- position unchanged; else the call turns back to its first load
@@ -179,12 +159,13 @@ module _ {T : Type 0} {en : Coding T} {kd : QueueKind} {scene : Scene T kd} (inv
             let none : backs + 0 ≡ backs = omega arith in (
               k,
               refl,
-              ends inv small (record {
+              ends inv (record {
                 start = start;
                 answer = length_answer which c (number_waiting c write read);
                 ask = Some load_of_read;
                 back = false;
                 roles_then = ro;
+                written = [];
                 producers = (holders (number_waiting c write read)).0;
                 consumers = (holders (number_waiting c write read)).1;
                 wrote = wrote (number_waiting c write read);
@@ -202,16 +183,7 @@ module _ {T : Type 0} {en : Coding T} {kd : QueueKind} {scene : Scene T kd} (inv
             let early = knows.0.1 in
             let paid = knows.0.2 in
             let moved : k.read ≢ read = grind (arith, nat_tests) in
-            quiet inv small before (same_queue inv) (record {
-              start = start;
-              ask = Some load_of_read;
-              back = true;
-              flight = call_at which c lens.LoadsWrite;
-              calm = refl;
-              words = refl;
-              here = record { span = refl; steps = omega arith; at = at lens.LoadsWrite };
-              knows = omega arith;
-            })
+            leads (Some load_of_read) true lens.LoadsWrite refl (omega arith) (omega arith)
 
     -- each step of a length call leaves the queue as it is and keeps the invariant
     length_step : (stage : LenStage) → steps ≤ 4 * backs + len_number stage → LengthKnows stage → StaysAt stage

@@ -1,246 +1,125 @@
 -- Each step of a call on a role keeps the invariant. A role's word is 1 while the role is free.
-use Rattle.laws_queues.proofs.Names.{◌≡◌, ℕ, ◌^◌, ◌<◌, ◌≤◌, ◌==◌, true, false, not, is_none, Option, Some, None, option_map, refl, ap}
-use Rattle.laws_queues.proofs.Names.{subst, sym, ◌∙◌, Ask, Load, Store, Exchange, AcquireProducer, ReleaseProducer}
-use Rattle.laws_queues.proofs.Names.{AcquireConsumer, ReleaseConsumer, HasProducer, HasConsumer, QueueKind, Coding, acquire_of, release_of, look_of}
-use Rattle.laws_queues.proofs.Names.{producer_word, consumer_word, pending}
+use Rattle.laws_queues.proofs.Names.{◌≡◌, ◌≢◌, ℕ, ◌+◌, ◌≤◌, ◌==◌, false, is_none, Option, Some, None, [], ◌∷◌, fold}
+use Rattle.laws_queues.proofs.Names.{refl, Ask, Done, Queues, Quiet, QueueKind, Coding, RoleCall, Role, Roles}
+use Rattle.laws_queues.proofs.Names.{QueueStart, Answer, Finished, Party, most_steps, words_after, roles_after}
+use Rattle.laws_queues.proofs.Names.{producer_after, consumer_after, pending, put, producer_of, consumer_of}
+use Rattle.laws_queues.proofs.Names.{flight_of, Wrote, TellsLength, GrantsRight, AcquireProducer, ReleaseProducer}
+use Rattle.laws_queues.proofs.Names.{AcquireConsumer, ReleaseConsumer, HasProducer, HasConsumer, Acquire, Release}
+use Rattle.laws_queues.proofs.Names.{Look, Exchange, Store, Load, producer_word, consumer_word, not, ap, ◌∙◌}
 use Rattle.std.proofs.Common.{arith}
 use Rattle.model.specs.declared.event.Answer.TheVariants as answers
-use Rattle.laws_queues.proofs.Queues.Invariant.{Scene, Inv}
-use Rattle.laws_queues.proofs.Queues.Keeping.{clash, kept, keeps_same}
-use Rattle.laws_queues.proofs.Queues.Knows.{free}
+use Rattle.laws_queues.proofs.Queues.Core.{Core}
+use Rattle.laws_queues.proofs.Queues.Invariant.{Scene}
+use Rattle.laws_queues.proofs.Queues.Keeping.{KeepsRoles, kept, keeps_same}
+use Rattle.laws_queues.proofs.Queues.Knows.{free, layout, Hangs, RoleAt}
 use Rattle.laws_queues.proofs.Queues.Pending.{pending_here, few_wait, none_hangs}
-use Rattle.laws_queues.proofs.Queues.Stages.{IsCalm, StepOf, still_hangs, ends}
+use Rattle.laws_queues.proofs.Queues.Stages.{TakesStep, DoesStep, StepOf, still_hangs, ends}
 
--- the exchange that takes a role
-abbrev takes : ℕ → Option Ask
-takes word = Some (record { word = word; op = Exchange 1 0 })
+-- the word tells whether the role is free
+free_is : (o : Option ℕ) → (free o == 1) ≡ is_none o
+free_is None = refl
+free_is (Some p) = refl
 
--- the store that gives a role back
-abbrev gives : ℕ → Option Ask
-gives word = Some (record { word = word; op = Store 1 })
+-- the exchange that asks for a role leaves the words of a queue whose role is taken
+module _ (T : Type 0) {V : Type 0} (ro : Roles) (k : Core V) (p : ℕ) where
+  -- this holds of the producer's role
+  producer_words : words_after (layout ro k) (Some (record { word = producer_word; op = Exchange 1 0 }))
+      ≡ layout (roles_after {T = T} p AcquireProducer (Some (answers.Truth (free ro.producer == 1))) ro) k
+  producer_words = grind arith
 
--- the load of a role's word
-abbrev looks : ℕ → Option Ask
-looks word = Some (record { word = word; op = Load })
-
--- the word tells whether the role is taken
-taken_is : (o : Option ℕ) → not (free o == 1) ≡ not (is_none o)
-taken_is None = refl
-taken_is (Some p) = refl
-
--- the scene with other holders of the roles
-abbrev with_roles : {T : Type 0} → {kd : QueueKind} → Scene T kd → Option ℕ → Option ℕ → Scene T kd
-with_roles scene pr co = record scene { roles = record { producer = pr; consumer = co } }
+  -- and of the consumer's
+  consumer_words : words_after (layout ro k) (Some (record { word = consumer_word; op = Exchange 1 0 }))
+      ≡ layout (roles_after {T = T} p AcquireConsumer (Some (answers.Truth (free ro.consumer == 1))) ro) k
+  consumer_words = grind arith
 
 -- the party has a call on a role under way, which has taken no step
-module _ {T : Type 0} (en : Coding T) {kd : QueueKind} (scene : Scene T kd) (small : scene.core.write < 2 ^ 64)
-    (few_steps : scene.steps ≤ 0) (no_backs : scene.backs ≡ 0) where
-  open scene use {capacity as c, core as k}
+module _ {T : Type 0} {en : Coding T} {kd : QueueKind} {scene : Scene T kd} (takes : TakesStep en kd scene) (few_steps : scene.steps ≤ 0) where
+  open scene use {capacity as c, roles as ro, core as k, party as p, steps, backs, latest, events}
+  open takes use {inv, no_backs, before}
 
-  -- the party has no pending push
-  abbrev IsQuiet : Option ℕ → Option ℕ → Type 0
-  IsQuiet pr co = IsCalm en kd (with_roles scene pr co) k.read
+  -- by the events the producer's role has the holder that it has in the machine
+  producer_is : producer_of events ≡ ro.producer
+  producer_is = inv.queue.producers
 
-  -- the exchange that asks for the producer's role keeps the invariant, whoever holds the two roles
-  acquire_producer : (pr co : Option ℕ) → Inv en kd (with_roles scene pr co) → IsQuiet pr co
-      → StepOf en kd (with_roles scene pr co) AcquireProducer (acquire_of producer_word)
-  acquire_producer None co inv before = (
-    k,
-    refl,
-    ends inv small (record {
-      start = AcquireProducer;
-      answer = answers.Truth true;
-      ask = takes producer_word;
-      back = false;
-      roles_then = record { producer = Some scene.party; consumer = co };
-      producers = refl;
-      consumers = refl;
-      wrote = record { moments = refl; published = refl; handed_out = refl };
-      tells = tt;
-      grants = rw inv.queue.producers refl;
-      steps = omega arith;
-      paid = omega arith;
-      hangs = none_hangs T kd c k _ (pending_here k.read scene.party _ scene.latest)
-          (few_wait en kd c k (pending k.read None scene.latest) refl inv.queue.good inv.queue.hangs);
-      others = λ q ne. kept (record { producer = λ h. cc; consumer = λ h. h }) en c kd k k (keeps_same en kd c _ k q);
-    }),
-  )
-  acquire_producer (Some r) co inv before = (
-    k,
-    refl,
-    ends inv small (record {
-      start = AcquireProducer;
-      answer = answers.Truth false;
-      ask = takes producer_word;
-      back = false;
-      roles_then = record { producer = Some r; consumer = co };
-      producers = refl;
-      consumers = refl;
-      wrote = record { moments = refl; published = refl; handed_out = refl };
-      tells = tt;
-      grants = rw inv.queue.producers refl;
-      steps = omega arith;
-      paid = omega arith;
-      hangs = still_hangs inv k _ refl refl refl before;
-      others = λ q ne st f h. (h, refl);
-    }),
-  )
+  -- and so has the consumer's
+  consumer_is : consumer_of events ≡ ro.consumer
+  consumer_is = inv.queue.consumers
 
-  -- the exchange that asks for the consumer's role keeps the invariant, whoever holds the two roles
-  acquire_consumer : (pr co : Option ℕ) → Inv en kd (with_roles scene pr co) → IsQuiet pr co
-      → StepOf en kd (with_roles scene pr co) AcquireConsumer (acquire_of consumer_word)
-  acquire_consumer pr None inv before = (
-    k,
-    refl,
-    ends inv small (record {
-      start = AcquireConsumer;
-      answer = answers.Truth true;
-      ask = takes consumer_word;
-      back = false;
-      roles_then = record { producer = pr; consumer = Some scene.party };
-      producers = refl;
-      consumers = refl;
-      wrote = record { moments = refl; published = refl; handed_out = refl };
-      tells = tt;
-      grants = rw inv.queue.consumers refl;
-      steps = omega arith;
-      paid = omega arith;
-      hangs = still_hangs inv k _ refl refl refl before;
-      others = λ q ne. kept (record { producer = λ h. h; consumer = λ h. cc }) en c kd k k (keeps_same en kd c _ k q);
-    }),
-  )
-  acquire_consumer pr (Some r) inv before = (
-    k,
-    refl,
-    ends inv small (record {
-      start = AcquireConsumer;
-      answer = answers.Truth false;
-      ask = takes consumer_word;
-      back = false;
-      roles_then = record { producer = pr; consumer = Some r };
-      producers = refl;
-      consumers = refl;
-      wrote = record { moments = refl; published = refl; handed_out = refl };
-      tells = tt;
-      grants = rw inv.queue.consumers refl;
-      steps = omega arith;
-      paid = omega arith;
-      hangs = still_hangs inv k _ refl refl refl before;
-      others = λ q ne st f h. (h, refl);
-    }),
-  )
+  -- the call ends with this answer, which is right of the roles
+  module _ (start : QueueStart T) (call : RoleCall) (at : RoleAt ro p start call) (answer : Answer T)
+      (right : GrantsRight events (Finished p (Queues start) answer)) where
+    -- the holders of the roles once the call has ended
+    abbrev ro' : Roles
+    ro' = roles_after p start (Some answer) ro
 
-  -- the store that gives the producer's role back keeps the invariant, where the party holds the role
-  release_producer : (pr co : Option ℕ) → pr ≡ Some scene.party → Inv en kd (with_roles scene pr co) → IsQuiet pr co
-      → StepOf en kd (with_roles scene pr co) ReleaseProducer (release_of producer_word)
-  release_producer pr co holds inv before = (
-    k,
-    refl,
-    ends inv small (record {
-      start = ReleaseProducer;
-      answer = answers.Done;
-      ask = gives producer_word;
-      back = false;
-      roles_then = record { producer = None; consumer = co };
-      producers = refl;
-      consumers = refl;
-      wrote = record { moments = refl; published = refl; handed_out = refl };
-      tells = tt;
-      grants = (refl, inv.queue.producers ∙ holds);
-      steps = omega arith;
-      paid = omega arith;
-      hangs = none_hangs T kd c k None refl
-          (few_wait en kd c k (pending k.read pr scene.latest)
-          (rw holds (ap (option_map (λ (v : ℕ). (scene.party, v))) before))
-          inv.queue.good inv.queue.hangs);
-      others = λ q ne. kept (record { producer = λ h. absurd (clash pr scene.party q ne holds h); consumer = λ h. h }) en c kd k k (keeps_same en kd c _ k q);
-    }),
-  )
+    -- the events say who holds the producer's role then
+    producers : fold producer_after ro.producer (Finished p (Queues start) answer ∷ []) ≡ ro'.producer
+    producers = grind arith
 
-  -- the store that gives the consumer's role back keeps the invariant, where the party holds the role
-  release_consumer : (pr co : Option ℕ) → co ≡ Some scene.party → Inv en kd (with_roles scene pr co) → IsQuiet pr co
-      → StepOf en kd (with_roles scene pr co) ReleaseConsumer (release_of consumer_word)
-  release_consumer pr co holds inv before = (
-    k,
-    refl,
-    ends inv small (record {
-      start = ReleaseConsumer;
-      answer = answers.Done;
-      ask = gives consumer_word;
-      back = false;
-      roles_then = record { producer = pr; consumer = None };
-      producers = refl;
-      consumers = refl;
-      wrote = record { moments = refl; published = refl; handed_out = refl };
-      tells = tt;
-      grants = (refl, inv.queue.consumers ∙ holds);
-      steps = omega arith;
-      paid = omega arith;
-      hangs = still_hangs inv k _ refl refl refl before;
-      others = λ q ne. kept (record { producer = λ h. h; consumer = λ h. absurd (clash co scene.party q ne holds h) }) en c kd k k (keeps_same en kd c _ k q);
-    }),
-  )
+    -- and who holds the consumer's
+    consumers : fold consumer_after ro.consumer (Finished p (Queues start) answer ∷ []) ≡ ro'.consumer
+    consumers = grind arith
 
-  -- the exchange that asks for the producer's role keeps the invariant
-  pub acquires_producer : Inv en kd scene → IsCalm en kd scene k.read → StepOf en kd scene AcquireProducer (acquire_of producer_word)
-  acquires_producer inv before = acquire_producer scene.roles.producer scene.roles.consumer inv before
+    -- a call on a role writes nothing before its end
+    wrote : Wrote kd c start answer []
+    wrote = grind arith
 
-  -- the exchange that asks for the consumer's role keeps the invariant
-  pub acquires_consumer : Inv en kd scene → IsCalm en kd scene k.read → StepOf en kd scene AcquireConsumer (acquire_of consumer_word)
-  acquires_consumer inv before = acquire_consumer scene.roles.producer scene.roles.consumer inv before
+    -- it tells no length
+    tells : TellsLength c events (Finished p (Queues start) answer)
+    tells = grind arith
 
-  -- the store that gives the producer's role back keeps the invariant
-  pub releases_producer : scene.roles.producer ≡ Some scene.party → Inv en kd scene → IsCalm en kd scene k.read
-      → StepOf en kd scene ReleaseProducer (release_of producer_word)
-  releases_producer holds inv before = release_producer scene.roles.producer scene.roles.consumer holds inv before
+    -- it takes one step
+    most : most_steps en.size kd start (backs + 0) ≡ 1
+    most = grind arith
 
-  -- the store that gives the consumer's role back keeps the invariant
-  pub releases_consumer : scene.roles.consumer ≡ Some scene.party → Inv en kd scene → IsCalm en kd scene k.read
-      → StepOf en kd scene ReleaseConsumer (release_of consumer_word)
-  releases_consumer holds inv before = release_consumer scene.roles.producer scene.roles.consumer holds inv before
+    -- other parties keep their roles
+    keeps : (q : ℕ) → q ≢ p → KeepsRoles ro ro' q
+    keeps = grind (arith, producer_is, consumer_is)
 
-  -- the load of the producer's word keeps the invariant, and leaves the role as it is
-  pub looks_at_producer : Inv en kd scene → IsCalm en kd scene k.read → StepOf en kd scene HasProducer (look_of producer_word)
-  looks_at_producer inv before = (
-    k,
-    refl,
-    ends inv small (record {
-      start = HasProducer;
-      answer = answers.Truth (not (free scene.roles.producer == 1));
-      ask = looks producer_word;
-      back = false;
-      roles_then = scene.roles;
-      producers = refl;
-      consumers = refl;
-      wrote = record { moments = refl; published = refl; handed_out = refl };
-      tells = tt;
-      grants = rw inv.queue.producers (ap answers.Truth (taken_is scene.roles.producer));
-      steps = omega arith;
-      paid = omega arith;
-      hangs = still_hangs inv k _ refl refl refl before;
-      others = λ q ne st f h. (h, refl);
-    }),
-  )
+    -- more than the capacity wait only while a push is pending, and the call is none
+    hangs : (y : Party T) → flight_of (Some y.doing) ≡ None → Hangs T kd c k (pending k.read ro'.producer (put p y latest))
+    hangs = grind (arith, still_hangs, none_hangs, few_wait, pending_here, producer_is)
 
-  -- the load of the consumer's word keeps the invariant, and leaves the role as it is
-  pub looks_at_consumer : Inv en kd scene → IsCalm en kd scene k.read → StepOf en kd scene HasConsumer (look_of consumer_word)
-  looks_at_consumer inv before = (
-    k,
-    refl,
-    ends inv small (record {
-      start = HasConsumer;
-      answer = answers.Truth (not (free scene.roles.consumer == 1));
-      ask = looks consumer_word;
-      back = false;
-      roles_then = scene.roles;
-      producers = refl;
-      consumers = refl;
-      wrote = record { moments = refl; published = refl; handed_out = refl };
-      tells = tt;
-      grants = rw inv.queue.consumers (ap answers.Truth (taken_is scene.roles.consumer));
-      steps = omega arith;
-      paid = omega arith;
-      hangs = still_hangs inv k _ refl refl refl before;
-      others = λ q ne st f h. (h, refl);
-    }),
-  )
+    -- the operation that ends the call, and leaves the words of a queue whose roles have these holders, keeps the invariant
+    role_ends : (ask : Ask) → words_after (layout ro k) (Some ask) ≡ layout ro' k → DoesStep en kd scene [] start (Some ask) false (Done answer) Quiet
+    role_ends ask words = (
+      k,
+      words,
+      ends inv (record {
+        start = start;
+        answer = answer;
+        ask = Some ask;
+        back = false;
+        roles_then = ro';
+        written = [];
+        producers = producers;
+        consumers = consumers;
+        wrote = wrote;
+        tells = tells;
+        grants = right;
+        steps = rw most (omega arith);
+        paid = omega arith;
+        hangs = hangs _ refl;
+        others = λ q ne. kept (keeps q ne) en c kd k k (keeps_same en kd c _ k q);
+      }),
+    )
+
+  -- each step of a call on a role keeps the invariant (`Shows`)
+  pub role_step : (start : QueueStart T) (call : RoleCall) → RoleAt ro p start call → StepOf en kd scene start (Role call)
+  role_step AcquireProducer (Acquire run) at =
+      rw at (role_ends AcquireProducer (Acquire run) at (answers.Truth (free ro.producer == 1)) (rw producer_is (ap answers.Truth (free_is ro.producer)))
+      (record { word = producer_word; op = Exchange 1 0 }) (producer_words T ro k p))
+  role_step ReleaseProducer (Release run) at =
+      rw at.0 (role_ends ReleaseProducer (Release run) at answers.Done (refl, producer_is ∙ at.1) (record { word = producer_word; op = Store 1 }) refl)
+  role_step AcquireConsumer (Acquire run) at =
+      rw at (role_ends AcquireConsumer (Acquire run) at (answers.Truth (free ro.consumer == 1)) (rw consumer_is (ap answers.Truth (free_is ro.consumer)))
+      (record { word = consumer_word; op = Exchange 1 0 }) (consumer_words T ro k p))
+  role_step ReleaseConsumer (Release run) at =
+      rw at.0 (role_ends ReleaseConsumer (Release run) at answers.Done (refl, consumer_is ∙ at.1) (record { word = consumer_word; op = Store 1 }) refl)
+  role_step HasProducer (Look run) at =
+      rw at (role_ends HasProducer (Look run) at (answers.Truth (not (free ro.producer == 1)))
+      (rw producer_is (ap (λ b. answers.Truth (not b)) (free_is ro.producer))) (record { word = producer_word; op = Load }) refl)
+  role_step HasConsumer (Look run) at =
+      rw at (role_ends HasConsumer (Look run) at (answers.Truth (not (free ro.consumer == 1)))
+      (rw consumer_is (ap (λ b. answers.Truth (not b)) (free_is ro.consumer))) (record { word = consumer_word; op = Load }) refl)
+  role_step start call at = absurd at

@@ -5,11 +5,13 @@ use Rattle.laws_queues.proofs.Names.{◌≡◌, ℕ, suc, ◌+◌, ◌-◌, ◌%
 use Rattle.laws_queues.proofs.Names.{map, slice_get, take, drop, refl, sym, ap, subst, ◌∙◌, length-append, length-drop}
 use Rattle.laws_queues.proofs.Names.{length-map, take-map, Item, Index, Value, Roles, QueueKind, IndexQueue, Coding}
 use Rattle.laws_queues.proofs.Names.{IsCoding, item_at, cell_of, stored, waiting_in, cells_of, IsQueue, promise}
-use Rattle.laws_queues.proofs.Names.{KeepsHolders, published, handed_out, Trace, ◌^◌, Option, None, replicate}
+use Rattle.laws_queues.proofs.Names.{published, handed_out, Trace, ◌^◌, Option, None, replicate}
 use Rattle.laws_queues.proofs.Names.{length-replicate, take-nil, Start, Flight, opening_of, goes_of, step_of}
+use Rattle.laws_queues.proofs.Names.{append-nil, ◌++◌}
 use Rattle.laws_queues.proofs.Names.{list_of, words_of_cell, IsKept, Turn, Next, opening, capacity_error, Each-nil}
 use native.Mathlib.Nat.{mul-le-mul_left}
 use Rattle.std.proofs.Common.{arith}
+use Rattle.std.proofs.lemmas.List.{get_or_append_left}
 use Rattle.steps.specs.Queues.Ring.{cell_word}
 use Rattle.model.specs.declared.families.queues.QueueKind.TheVariants as kinds
 use Rattle.model.specs.Promises.Families.{promise_of}
@@ -19,6 +21,7 @@ use Rattle.model.proofs.Frame as frame
 use Rattle.laws_queues.proofs.Queues.Invariant.{machine_kind, family, waiting_is, Queue, Represents, outline}
 use Rattle.laws_queues.proofs.Queues.Stages.{cell_place}
 use Rattle.laws_queues.proofs.Queues.Values.{Val, encoded, item}
+use Rattle.laws_queues.proofs.Ring.Kinds.{are_words, of_indices}
 use Rattle.laws_queues.proofs.Ring.Words.{same_words}
 use Rattle.model.specs.declared.families.Registry.TheVariants as registries
 use Rattle.model.proofs.FamilyLaws as laws
@@ -45,14 +48,20 @@ module _ {T : Type 0} (en : Coding T) where
 
   -- ---- the values that wait in the words
 
+  -- words of an element are of a coding in each kind of queue
+  words_coded : IsCoding en → (kd : QueueKind) → IsCoding (encoded en kd)
+  words_coded law IndexQueue = are_words en of_indices law
+  words_coded law kinds.Overflow = are_words en of_indices law
+  words_coded law kinds.Queue = law
+
   -- what is read from a cell in which the words of `v` stand is `v`
-  item_is : IsCoding en → (kd : QueueKind) (words : List ℕ) (cell : ℕ) (v : Val T kd) → cell + (encoded en kd).size ≤ length words
+  item_is : (kd : QueueKind) → IsCoding (encoded en kd) → (words : List ℕ) (cell : ℕ) (v : Val T kd) → cell + (encoded en kd).size ≤ length words
       → ((i : ℕ) → i < (encoded en kd).size → get_or words (cell + i) 0 ≡ get_or ((encoded en kd).words_of v) i 0) → item_at en kd words cell ≡ item kd v
-  item_is law IndexQueue words cell v long held =
+  item_is IndexQueue law words cell v long held =
       (let same : cell + 0 ≡ cell = omega arith in ap Index (ap (λ n. get_or words n 0) (sym same) ∙ held 0 (omega arith)))
-  item_is law kinds.Overflow words cell v long held =
+  item_is kinds.Overflow law words cell v long held =
       (let same : cell + 0 ≡ cell = omega arith in ap Index (ap (λ n. get_or words n 0) (sym same) ∙ held 0 (omega arith)))
-  item_is law kinds.Queue words cell v long held =
+  item_is kinds.Queue law words cell v long held =
       let size = law.sized v in
       let behind = length-drop cell words in
       let same : take en.size (drop cell words) ≡ en.words_of v =
@@ -62,29 +71,28 @@ module _ {T : Type 0} (en : Coding T) where
 
   -- where the cells from a position on have the values of a list, what is stored there by
   -- the words is that list
-  stored_is :
-      IsCoding en → (kd : QueueKind) (c : ℕ) (words : List ℕ) (position : ℕ) (xs : List (Val T kd))
+  stored_is : (kd : QueueKind) (c : ℕ) (words : List ℕ) (position : ℕ) (xs : List (Val T kd))
       → ((i : ℕ) (v : Val T kd) → slice_get xs i ≡ Some v → item_at en kd words (cell_of en kd c (position + i)) ≡ item kd v)
       → stored en kd c words position (length xs) ≡ map (item kd) xs
-  stored_is law kd c words position [] held = refl
-  stored_is law kd c words position (x ∷ xs) held =
+  stored_is kd c words position [] held = refl
+  stored_is kd c words position (x ∷ xs) held =
       let first : item_at en kd words (cell_of en kd c position) ≡ item kd x =
       (let same : position + 0 ≡ position = omega arith in rw same at (held 0 x refl))
       in
       let rest =
-      stored_is law kd c words (position + 1) xs
+      stored_is kd c words (position + 1) xs
       (λ i v e. let same : position + 1 + i ≡ position + suc i = omega arith in rw same (held (suc i) v e)) in
       rw (first, rest) refl
 
-  -- what waits by the words is what waits in the queue
-  stored_waiting : IsCoding en → (kd : QueueKind) (c : ℕ) (ro : Roles) {k : Core (Val T kd)}
-      → Good (encoded en kd).size (encoded en kd).words_of (cells_of kd c) k
-      → waiting_in en kd c (layout ro k) ≡ map (item kd) k.waiting
-  stored_waiting law kd c ro {k} good =
+  -- what waits by the words of a queue, which can have others behind them, is what waits in the queue
+  pub stored_waiting : (kd : QueueKind) → IsCoding (encoded en kd) → (c : ℕ) (ro : Roles) {k : Core (Val T kd)}
+      → Good (encoded en kd).size (encoded en kd).words_of (cells_of kd c) k → (behind : List ℕ)
+      → waiting_in en kd c (layout ro k ++ behind) ≡ map (item kd) k.waiting
+  stored_waiting kd law c ro {k} good behind =
       let write = good.write in
       let many : k.write - k.read ≡ length k.waiting = omega arith in
       rw many
-      (stored_is law kd c (layout ro k) k.read k.waiting held)
+      (stored_is kd c (layout ro k ++ behind) k.read k.waiting held)
     where
       -- the number of cells
       n : ℕ
@@ -95,7 +103,7 @@ module _ {T : Type 0} (en : Coding T) where
       size = (encoded en kd).size
 
       -- the cell of the read position plus `i` has the value that is the `i`th to wait
-      held : (i : ℕ) (v : Val T kd) → slice_get k.waiting i ≡ Some v → item_at en kd (layout ro k) (cell_of en kd c (k.read + i)) ≡ item kd v
+      held : (i : ℕ) (v : Val T kd) → slice_get k.waiting i ≡ Some v → item_at en kd (layout ro k ++ behind) (cell_of en kd c (k.read + i)) ≡ item kd v
       held i v element_is =
           let below = at_below size (encoded en kd).words_of n k.waiting i v element_is in
           let few = good.few in
@@ -105,12 +113,14 @@ module _ {T : Type 0} (en : Coding T) where
           let low : (k.read + i) % n < n = omega arith in
           let step : size * ((k.read + i) % n + 1) ≤ size * n = mul-le-mul_left size (omega arith) in
           let all = good.cells in
-          let word : (j : ℕ) → j < size → get_or (layout ro k) (4 + size * ((k.read + i) % n) + j) 0 ≡ get_or ((encoded en kd).words_of v) j 0 =
+          let longer = length-append k.cells behind in
+          let word : (j : ℕ) → j < size → get_or (layout ro k ++ behind) (4 + size * ((k.read + i) % n) + j) 0 ≡ get_or ((encoded en kd).words_of v) j 0 =
           λ j js.
-          word_at k.write k.read (free ro.producer) (free ro.consumer) k.cells (4 + size * ((k.read + i) % n) + j) (size * ((k.read + i) % n) + j) (omega arith)
-          ∙ good.held i v element_is j js
+          word_at k.write k.read (free ro.producer) (free ro.consumer) (k.cells ++ behind) (4 + size * ((k.read + i) % n) + j)
+          (size * ((k.read + i) % n) + j) (omega arith)
+          ∙ (get_or_append_left k.cells behind 0 (size * ((k.read + i) % n) + j) (omega arith) ∙ good.held i v element_is j js)
           in
-          rw first (item_is law kd (layout ro k) (4 + size * ((k.read + i) % n)) v (omega arith) word)
+          rw first (item_is kd law (layout ro k ++ behind) (4 + size * ((k.read + i) % n)) v (omega arith) word)
 
   -- the list that the calls answer as has, of what waits, no more than the capacity, from the front
   listed_is : (kd : QueueKind) (c : ℕ) (k : Core (Val T kd))
@@ -139,7 +149,8 @@ module _ {T : Type 0} (en : Coding T) where
       let good = s.holds.good in
       -- what waits, and the two positions, by the words of the machine
       let rest : waiting_in en kd c world.words ≡ map (item kd) core_now.waiting =
-      ap (waiting_in en kd c) s.fit.words ∙ stored_waiting law kd c s.state.roles good in
+      ap (waiting_in en kd c) (s.fit.words ∙ sym (append-nil (layout s.state.roles core_now)))
+      ∙ stored_waiting kd (words_coded law kd) c s.state.roles good [] in
       let long : length (map {B = Item T} (item kd) core_now.waiting) ≡ length core_now.waiting = length-map core_now.waiting (item {T = T} kd) in
       let few = good.few in
       let read : get_or world.words 1 0 ≡ core_now.read = ap (λ ws. get_or ws 1 0) s.fit.words in

@@ -9,6 +9,7 @@ use Rattle.laws_queues.proofs.Names.{TellsLength, cells_of, producer_after, cons
 use Rattle.laws_queues.proofs.Names.{pending_at, pending, beside, effect_of, effects_of, roles_after, party_of, put}
 use Rattle.laws_queues.proofs.Names.{doing_of, flight_of, Open, span_of, as_call, answer_in, one_if, old_of}
 use Rattle.laws_queues.proofs.Names.{words_after, change_of, step_count, party_after, ending_of}
+use Rattle.laws_queues.proofs.Names.{Acted, Acts, AnswersRight, list_of, answers_from}
 use Rattle.std.proofs.Common.{arith}
 use native.Mathlib.Nat.{mul-le-mul_right}
 use Rattle.steps.specs.Queues.Ring.{cell_word}
@@ -153,6 +154,12 @@ pub record GoesOn {T : Type 0} (en : Coding T) (kd : QueueKind) (scene : Scene T
   pub knows : KnowsFlight scene.capacity k' scene.party scene.events (scene.since + change_of (layout scene.roles scene.core) ask)
       (changes_then en kd scene ask) (scene.backs + one_if back) flight
 
+-- the party's call, which has not turned back and is no pending push, is about to take a step; `inv` holds before it
+pub record TakesStep {T : Type 0} (en : Coding T) (kd : QueueKind) (scene : Scene T kd) : Type 0 where
+  pub inv : Inv en kd scene
+  pub no_backs : scene.backs ≡ 0
+  pub before : IsCalm en kd scene scene.core.read
+
 -- a step that ends the call with an answer, leaves the core, and publishes, hands out and acts nothing
 pub record Ending {T : Type 0} (en : Coding T) (kd : QueueKind) (scene : Scene T kd) : Type 0 where
   pub start : QueueStart T
@@ -161,10 +168,11 @@ pub record Ending {T : Type 0} (en : Coding T) (kd : QueueKind) (scene : Scene T
   pub back : Bool
   -- who holds the roles afterwards, as the end of the call says
   pub roles_then : Roles
+  pub written : List (Event T)  -- what the call has written before its end
   pub producers : fold producer_after scene.roles.producer (Finished scene.party (Queues start) answer ∷ []) ≡ roles_then.producer
   pub consumers : fold consumer_after scene.roles.consumer (Finished scene.party (Queues start) answer ∷ []) ≡ roles_then.consumer
-  -- the answer is one of a call that has written nothing, and tells the truth
-  pub wrote : Wrote kd scene.capacity start answer []
+  -- the answer is one of a call that has written this, and tells the truth
+  pub wrote : Wrote kd scene.capacity start answer written
   pub tells : TellsLength scene.capacity scene.events (Finished scene.party (Queues start) answer)
   pub grants : GrantsRight scene.events (Finished scene.party (Queues start) answer)
   -- the steps and the turns back of the call are within their bounds
@@ -176,6 +184,29 @@ pub record Ending {T : Type 0} (en : Coding T) (kd : QueueKind) (scene : Scene T
   pub others : (q : ℕ) → q ≢ scene.party → (s : QueueStart T) (f : QueueFlight T) → At en kd scene.capacity scene.roles scene.core q s f
       → At en kd scene.capacity roles_then scene.core q s f
       × (has_written {T = T} scene.capacity scene.core q f ≡ has_written scene.capacity scene.core q f)
+
+-- a step that ends the call with an answer, with which the call acts, and leaves the queue and the roles
+pub record Acting {T : Type 0} (en : Coding T) (kd : QueueKind) (scene : Scene T kd) : Type 0 where
+  pub start : QueueStart T
+  pub answer : Answer T
+  pub ask : Option Ask
+  pub words : words_after (layout scene.roles scene.core) ask ≡ layout scene.roles scene.core
+  pub producers : fold producer_after scene.roles.producer (Finished scene.party (Queues start) answer ∷ []) ≡ scene.roles.producer
+  pub consumers : fold consumer_after scene.roles.consumer (Finished scene.party (Queues start) answer ∷ []) ≡ scene.roles.consumer
+  -- the answer is one of a call that has written its act, and tells the truth
+  pub wrote : Wrote kd scene.capacity start answer (Acted scene.party (Queues start) answer ∷ [])
+  pub tells : (before : List (Event T)) → TellsLength scene.capacity before (Finished scene.party (Queues start) answer)
+  pub grants : (before : List (Event T)) → GrantsRight before (Finished scene.party (Queues start) answer)
+  pub right : AnswersRight scene.capacity scene.events (Acted scene.party (Queues start) answer)
+  -- the list that the calls answer as stays, and gives this answer
+  pub goes : fold (list_of kd scene.capacity).after (listed kd scene.capacity scene.core.waiting) (Queues start ∷ [])
+      ≡ listed kd scene.capacity scene.core.waiting
+  pub answers : answers_from (list_of kd scene.capacity) (listed kd scene.capacity scene.core.waiting) (Queues start ∷ []) ≡ answer ∷ []
+  -- the steps and the turns back of the call are within their bounds
+  pub steps : scene.steps + step_count ask ≤ most_steps en.size kd start (scene.backs + 0)
+  pub paid : scene.backs + 0 ≤ changes_then en kd scene ask - (scene.since + change_of (layout scene.roles scene.core) ask)
+  -- the call is no pending push
+  pub calm : IsCalm en kd scene scene.core.read
 
 module _ {T : Type 0} {en : Coding T} {kd : QueueKind} {scene : Scene T kd} (inv : Inv en kd scene) where
   open scene use {capacity as c, roles as ro, core as k, party as p}
@@ -191,18 +222,21 @@ module _ {T : Type 0} {en : Coding T} {kd : QueueKind} {scene : Scene T kd} (inv
   pub same_queue : SameQueue en kd scene k
   same_queue = record { waits = refl; write = refl; read = refl; good = inv.queue.good; others = λ q ne st f h. (h, refl) }
 
-  module _ (small : scene.core.write < 2 ^ 64) where
-    -- a step with which the call goes on, and which moves no position and writes nothing, keeps the
-    -- invariant (`Shows`)
-    pub quiet : IsCalm en kd scene k.read → {k' : Core (Val T kd)} → SameQueue en kd scene k' → (on : GoesOn en kd scene k')
-        → Stays en kd scene on.start on.ask on.back (GoOn on.flight) Quiet
-    quiet = grind (arith, still_hangs, append-nil, map, item, listed)
+  -- a step with which the call goes on, and which moves no position and writes nothing, keeps the
+  -- invariant (`Shows`)
+  pub quiet : IsCalm en kd scene k.read → {k' : Core (Val T kd)} → SameQueue en kd scene k' → (on : GoesOn en kd scene k')
+      → Stays en kd scene on.start on.ask on.back (GoOn on.flight) Quiet
+  quiet = grind (arith, still_hangs, append-nil, map, item, listed)
 
-    -- a step that ends the call, and publishes, hands out and acts nothing, keeps the invariant (`Shows`)
-    pub ends : (e : Ending en kd scene)
-        → Shows en kd scene e.roles_then k (Open (Queues e.start) []) (party_then en kd scene e.start e.ask e.back (Done e.answer))
-        (Finished p (Queues e.start) e.answer ∷ []) (changes_then en kd scene e.ask)
-    ends = grind (arith, append-nil, map, item)
+  -- a step that ends the call, and publishes, hands out and acts nothing, keeps the invariant (`Shows`)
+  pub ends : (e : Ending en kd scene)
+      → Shows en kd scene e.roles_then k (Open (Queues e.start) e.written) (party_then en kd scene e.start e.ask e.back (Done e.answer))
+      (Finished p (Queues e.start) e.answer ∷ []) (changes_then en kd scene e.ask)
+  ends = grind (arith, append-nil, map, item)
+
+  -- a step that ends the call, which acts with its answer, keeps the invariant (`Shows`)
+  pub acts : (a : Acting en kd scene) → Leaves en kd scene ro [] a.start a.ask false (Done a.answer) Acts
+  acts a = (k, a.words, grind (arith, still_hangs, append-nil, map, item))
 
   -- a step with the fields of `Shows` keeps the invariant
   pub alone : {wrote : List (Event T)} {start : QueueStart T} (ask : Option Ask) (back : Bool)

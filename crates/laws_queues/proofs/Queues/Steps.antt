@@ -1,16 +1,12 @@
 -- Each step of a queue's call, and each begin of one, keeps the invariant.
-use Rattle.laws_queues.proofs.Names.{◌≡◌, ℕ, ◌-◌, ◌^◌, ◌<◌, ◌≤◌, false, Option, Some, None, option_map}
-use Rattle.laws_queues.proofs.Names.{List, [], ◌∷◌, ◌++◌, map, get_or, refl, sym, ap, subst, ◌∙◌}
-use Rattle.laws_queues.proofs.Names.{append-nil, OneWord, Len, Running, Begun, Start}
-use Rattle.laws_queues.proofs.Names.{Queues, Flight, QueueStart, AcquireProducer, ReleaseProducer}
-use Rattle.laws_queues.proofs.Names.{AcquireConsumer, ReleaseConsumer, PushIndex, Push, Pop, Peek, HasProducer, HasConsumer, IsEmpty, IsFull}
-use Rattle.laws_queues.proofs.Names.{RoleCall, Acquire, Release, Look, LengthOf, QueueFlight, Role, Indices, Values, Length}
-use Rattle.laws_queues.proofs.Names.{Party, QueueKind, IndexQueue, Coding, IsCoding, one_word}
-use Rattle.laws_queues.proofs.Names.{first_of, want_of, ask_of, is_question, kept_after_begin, acquire_of, release_of, look_of}
-use Rattle.laws_queues.proofs.Names.{first, lacks_role, call_of}
-use Rattle.laws_queues.proofs.Names.{pending_at, party_of, doing_of, flight_of, Open, span_of, first_row, old_of}
-use Rattle.laws_queues.proofs.Names.{party_at_begin, Next, Trace}
-use Rattle.laws_queues.proofs.Names.{row_passed, MayBegin, StandsThere, ComesFrom}
+use Rattle.laws_queues.proofs.Names.{◌≡◌, ℕ, ◌-◌, ◌^◌, ◌<◌, ◌≤◌, false, Option, Some, None, option_map, [], ◌∷◌}
+use Rattle.laws_queues.proofs.Names.{◌++◌, map, get_or, refl, sym, ap, subst, ◌∙◌, append-nil, OneWord, Len}
+use Rattle.laws_queues.proofs.Names.{Running, Begun, Start, Queues, Flight, QueueStart, PushIndex, Push, Pop, Peek}
+use Rattle.laws_queues.proofs.Names.{IsEmpty, IsFull, LengthOf, QueueFlight, Role, Indices, Values, Length, Party}
+use Rattle.laws_queues.proofs.Names.{QueueKind, IndexQueue, Coding, IsCoding, one_word, first_of, want_of}
+use Rattle.laws_queues.proofs.Names.{is_question, kept_after_begin, first, lacks_role, call_of, pending_at}
+use Rattle.laws_queues.proofs.Names.{party_of, doing_of, flight_of, Open, span_of, first_row, party_at_begin, Next}
+use Rattle.laws_queues.proofs.Names.{Trace, row_passed, MayBegin, StandsThere, ComesFrom}
 use Rattle.std.proofs.Common.{arith}
 use Rattle.steps.specs.declared.copied.Buffer as cells
 use Rattle.model.specs.declared.families.Flight.TheVariants as flights
@@ -32,49 +28,25 @@ use Rattle.laws_queues.proofs.Overflow.Pushes.{overflow_push_step}
 use Rattle.laws_queues.proofs.Queues.Begins.{IsFirst, first_is}
 use Rattle.laws_queues.proofs.Queues.Fresh.{IsFreshTurn, fresh_there}
 use Rattle.laws_queues.proofs.Queues.Invariant.{Queue, machine_kind, Scene, Inv, Shows, family, holds_more, owes, queue_part}
-use Rattle.laws_queues.proofs.Queues.Knows.{IsFreshAt, layout, len_at, in_one, in_cell, has_written}
-use Rattle.laws_queues.proofs.Queues.Knows.{KnowsLen, KnowsFlight, number_of, RoleAt, LengthAt, IndexAt, ValueAt, At}
+use Rattle.laws_queues.proofs.Queues.Knows.{IsFreshAt, layout, in_one, in_cell, has_written}
+use Rattle.laws_queues.proofs.Queues.Knows.{KnowsLen, KnowsFlight, number_of, LengthAt, IndexAt, ValueAt, At}
 use Rattle.laws_queues.proofs.Queues.Lengths.{len_step, is_empty_step, is_full_step}
 use Rattle.laws_queues.proofs.Queues.Pending.{pending_put, hangs_same}
-use Rattle.laws_queues.proofs.Queues.Roles.{acquires_producer, acquires_consumer, releases_producer, releases_consumer}
-use Rattle.laws_queues.proofs.Queues.Roles.{looks_at_producer, looks_at_consumer}
-use Rattle.laws_queues.proofs.Queues.Stages.{IsCalm, DoesStep, StepOf, MovesOf, of_step}
-use Rattle.laws_queues.proofs.Queues.Values.{Val, encoded, item}
+use Rattle.laws_queues.proofs.Queues.Roles.{role_step}
+use Rattle.laws_queues.proofs.Queues.Stages.{IsCalm, TakesStep, StepOf, MovesOf, of_step}
+use Rattle.laws_queues.proofs.Queues.Values.{Val, item}
 use Rattle.laws_queues.proofs.Ring.Kinds as ring
-use Rattle.laws_queues.proofs.Ring.Kinds.{Ring, of_indices, of_values, kind_of, Room, words_in, ring_want, ring_after, ring_effect}
-use Rattle.laws_queues.proofs.Ring.Knows.{IsFresh, push_at, pop_at, peek_at, ring_number, PushAt, PopAt, PeekAt}
+use Rattle.laws_queues.proofs.Ring.Calls.{RingStep}
+use Rattle.laws_queues.proofs.Ring.Kinds.{Ring, of_indices, of_values, kind_of, Room, words_in, enc}
+use Rattle.laws_queues.proofs.Ring.Knows.{IsFresh, ring_number, PushAt, PopAt, PeekAt}
 use Rattle.laws_queues.proofs.Ring.Peeks.{peek_step}
 use Rattle.laws_queues.proofs.Ring.Pops.{pop_step}
 use Rattle.laws_queues.proofs.Ring.Pushes.{push_step}
 
 -- ---- one step of a call
 
--- the party's call, which has not turned back and is no pending push, is about to take a step; `inv` holds before it
-record TakesStep {T : Type 0} (en : Coding T) (kd : QueueKind) (scene : Scene T kd) : Type 0 where
-  inv : Inv en kd scene
-  small : scene.core.write < 2 ^ 64
-  no_backs : scene.backs ≡ 0
-  before : IsCalm en kd scene scene.core.read
-
--- the invariant holds before the step, and the write position fits its word
-module _ {T : Type 0} {en : Coding T} {kd : QueueKind} {scene : Scene T kd} (small : scene.core.write < 2 ^ 64) (inv : Inv en kd scene) where
-  -- the step of a call on a role keeps the invariant: it keeps the invariant (`Shows`)
-  role_step : (start : QueueStart T) (call : RoleCall) → RoleAt scene.roles scene.party start call → scene.steps ≤ 0
-      → scene.backs ≡ 0 → IsCalm en kd scene scene.core.read → StepOf en kd scene start (Role call)
-  role_step AcquireProducer (Acquire run) at few_steps backs_are_zero before =
-      rw at (acquires_producer en scene small few_steps backs_are_zero inv before)
-  role_step ReleaseProducer (Release run) at few_steps backs_are_zero before =
-      rw at.0 (releases_producer en scene small few_steps backs_are_zero at.1 inv before)
-  role_step AcquireConsumer (Acquire run) at few_steps backs_are_zero before =
-      rw at (acquires_consumer en scene small few_steps backs_are_zero inv before)
-  role_step ReleaseConsumer (Release run) at few_steps backs_are_zero before =
-      rw at.0 (releases_consumer en scene small few_steps backs_are_zero at.1 inv before)
-  role_step HasProducer (Look run) at few_steps backs_are_zero before =
-      rw at (looks_at_producer en scene small few_steps backs_are_zero inv before)
-  role_step HasConsumer (Look run) at few_steps backs_are_zero before =
-      rw at (looks_at_consumer en scene small few_steps backs_are_zero inv before)
-  role_step start call at few_steps backs_are_zero before = absurd at
-
+-- the invariant holds before the step
+module _ {T : Type 0} {en : Coding T} {kd : QueueKind} {scene : Scene T kd} (inv : Inv en kd scene) where
   -- a step of `len`, `is_empty` or `is_full` keeps the invariant (`Shows`)
   length_step : (start : QueueStart T) (which : LengthOf) (run : Running Len (Unit {0}) (Unit {0}))
       → LengthAt scene.capacity start which run.call.capacity
@@ -82,11 +54,11 @@ module _ {T : Type 0} {en : Coding T} {kd : QueueKind} {scene : Scene T kd} (sma
       → KnowsLen scene.capacity scene.core scene.party scene.events scene.since scene.changes scene.backs run.call.stage
       → IsCalm en kd scene scene.core.read → StepOf en kd scene start (Length which run)
   length_step starts.Len measures.Len run at few_steps knows_len before =
-      rw at (len_step inv small before run.call.stage few_steps knows_len)
+      rw at (len_step inv before run.call.stage few_steps knows_len)
   length_step IsEmpty measures.IsEmpty run at few_steps knows_len before =
-      rw at (is_empty_step inv small before run.call.stage few_steps knows_len)
+      rw at (is_empty_step inv before run.call.stage few_steps knows_len)
   length_step IsFull measures.IsFull run at few_steps knows_len before =
-      rw at (is_full_step inv small before run.call.stage few_steps knows_len)
+      rw at (is_full_step inv before run.call.stage few_steps knows_len)
   length_step start which call at few_steps knows_len before = absurd at
 
 -- a push of a bounded queue that is to load the write position does not find the last
@@ -106,44 +78,32 @@ fresh_ring en write of_values (rings.Peek run) is_fresh = tt
 
 -- Calls of a bounded queue of either kind: the index queue or the queue of values.
 module _ {T : Type 0} {en : Coding T} (law : IsCoding en) (r : Ring) {scene : Scene T (kind_of r)} (takes : TakesStep en (kind_of r) scene) where
-  open takes use {inv, small, no_backs, before}
-
-  -- the words of the queue before the step
-  abbrev words : List ℕ
-  words = layout scene.roles scene.core
-
-  -- the next step of this call keeps the invariant (`Shows`)
-  abbrev RingStep : QueueStart T → RingCall (Val T (kind_of r)) (Room r) → Type 0
-  RingStep start call =
-      DoesStep en (kind_of r) scene [] start (ask_of (ring_want en r call)) false
-      (ring_after en r call (old_of words (ask_of (ring_want en r call)))) (ring_effect en r call)
-
   -- a step of a bounded queue's push keeps the invariant (`Shows`)
   push_call : (v : Val T (kind_of r)) (call : RingCall (Val T (kind_of r)) (Room r))
-      → PushAt (encoded en (kind_of r)) (words_in r) scene.capacity scene.roles scene.core scene.party v call
-      → scene.steps ≤ ring_number (encoded en (kind_of r)) (words_in r) call → IsFreshRing scene.core.write call → RingStep (ring.push r v) call
+      → PushAt (enc en r) (words_in r) scene.capacity scene.roles scene.core scene.party v call
+      → scene.steps ≤ ring_number (enc en r) (words_in r) call → IsFreshRing scene.core.write call → RingStep r takes (ring.push r v) call
   push_call v (rings.Push run) at few_steps fresh =
-      rw (at.1, at.2) (push_step r law inv small before v at.0 no_backs run.call.stage fresh at.3 few_steps)
+      rw (at.1, at.2) (push_step r law takes v at.0 run.call.stage fresh at.3 few_steps)
   push_call v (rings.Pop run) at few_steps fresh = absurd at
   push_call v (rings.Peek run) at few_steps fresh = absurd at
 
   -- a step of a bounded queue's pop keeps the invariant (`Shows`)
   pop_call : (call : RingCall (Val T (kind_of r)) (Room r))
-      → PopAt (encoded en (kind_of r)) (words_in r) scene.capacity scene.roles scene.core scene.party call
-      → scene.steps ≤ ring_number (encoded en (kind_of r)) (words_in r) call → RingStep Pop call
+      → PopAt (enc en r) (words_in r) scene.capacity scene.roles scene.core scene.party call
+      → scene.steps ≤ ring_number (enc en r) (words_in r) call → RingStep r takes Pop call
   pop_call (rings.Push run) at few_steps = absurd at
   pop_call (rings.Pop run) at few_steps =
-      rw at.1 (pop_step r law inv small before run.room at.0 no_backs run.call.stage at.2 few_steps)
+      rw at.1 (pop_step r law takes run.room at.0 run.call.stage at.2 few_steps)
   pop_call (rings.Peek run) at few_steps = absurd at
 
   -- a step of a bounded queue's peek keeps the invariant (`Shows`)
   peek_call : (call : RingCall (Val T (kind_of r)) (Room r))
-      → PeekAt (encoded en (kind_of r)) (words_in r) scene.capacity scene.roles scene.core scene.party call
-      → scene.steps ≤ ring_number (encoded en (kind_of r)) (words_in r) call → RingStep Peek call
+      → PeekAt (enc en r) (words_in r) scene.capacity scene.roles scene.core scene.party call
+      → scene.steps ≤ ring_number (enc en r) (words_in r) call → RingStep r takes Peek call
   peek_call (rings.Push run) at few_steps = absurd at
   peek_call (rings.Pop run) at few_steps = absurd at
   peek_call (rings.Peek run) at few_steps =
-      rw at.1 (peek_step r law inv small before run.room at.0 no_backs run.call.stage at.2 few_steps)
+      rw at.1 (peek_step r law takes run.room at.0 run.call.stage at.2 few_steps)
 
 module _ {T : Type 0} {en : Coding T} (law : IsCoding en) where
   -- a step of a push, pop or peek of the index queue keeps the invariant (`Shows`)
@@ -184,7 +144,7 @@ pub record Ready {T : Type 0} (en : Coding T) (kd : QueueKind) (scene : Scene T 
   pub fresh : IsFreshAt {T = T} scene.core.write flight
   pub is : IsCall scene start flight
 
-module _ {T : Type 0} {en : Coding T} {scene : Scene T kinds.Overflow} (small : scene.core.write < 2 ^ 64) (inv : Inv en kinds.Overflow scene) where
+module _ {T : Type 0} {en : Coding T} {scene : Scene T kinds.Overflow} (inv : Inv en kinds.Overflow scene) where
   -- if this is the party's call under way, its next step keeps the invariant
   abbrev MovesFrom : QueueStart T → OverflowCall → Type 0
   MovesFrom start call = IsCall scene start (Overflow call) → MovesOf en kinds.Overflow scene start (Overflow call)
@@ -195,40 +155,45 @@ module _ {T : Type 0} {en : Coding T} {scene : Scene T kinds.Overflow} (small : 
   overflow_step (PushIndex v) (overflows.Push run) ready =
       let at = ready.at in
       subst (λ n. MovesFrom (PushIndex v) (overflow_push_at n run.given run.room run.call.stage)) (sym at.1)
-      (rw at.2 (λ is. overflow_push_step inv small v run.room at.0 ready.knows run.call.stage ready.fresh at.3 ready.steps is.0 is.1))
+      (rw at.2 (λ is. overflow_push_step inv v run.room at.0 ready.knows run.call.stage ready.fresh at.3 ready.steps is.0 is.1))
       ready.is
   overflow_step Pop (overflows.Pop run) ready =
       let at = ready.at in
       subst (λ n. MovesFrom Pop (overflow_pop_at n run.room run.call.stage)) (sym at.1)
-      (λ is. overflow_pop_step inv small run.room at.0 run.call.stage at.2 ready.steps ready.knows is.0 is.1) ready.is
+      (λ is. overflow_pop_step inv run.room at.0 run.call.stage at.2 ready.steps ready.knows is.0 is.1) ready.is
   overflow_step start call ready = absurd ready.at
+
+-- the call under way, which has not turned back and is no pending push, is about to take a step
+takes_step : {T : Type 0} {en : Coding T} {kd : QueueKind} {scene : Scene T kd} {start : QueueStart T} {flight : QueueFlight T}
+    → Inv en kd scene → Ready en kd scene start flight → scene.backs ≡ 0
+    → pending_at scene.core.read (Some (flights.Queues flight)) ≡ None → TakesStep en kd scene
+takes_step {scene} inv ready no_backs calm =
+    record { inv = inv; no_backs = no_backs; before = ap (pending_at scene.core.read) ready.is.0 ∙ calm }
 
 module _ {T : Type 0} {en : Coding T} (law : IsCoding en) where
   -- the next step of any call of a queue keeps the invariant
-  pub step_moves : (kd : QueueKind) (scene : Scene T kd) → scene.core.write < 2 ^ 64 → Inv en kd scene
+  pub step_moves : (kd : QueueKind) (scene : Scene T kd) → Inv en kd scene
       → (start : QueueStart T) (flight : QueueFlight T) → Ready en kd scene start flight → MovesOf en kd scene start flight
-  step_moves kd scene small inv start (Role call) ready =
-      of_step inv start (Role call) ready.is.1
-      (role_step small inv start call ready.at ready.steps ready.knows (ap (pending_at scene.core.read) ready.is.0))
-  step_moves IndexQueue scene small inv start (Indices call) ready =
+  step_moves kd scene inv start (Role call) ready =
+      of_step inv start (Role call) ready.is.1 (role_step (takes_step inv ready ready.knows refl) ready.steps start call ready.at)
+  step_moves IndexQueue scene inv start (Indices call) ready =
       of_step inv start (Indices call) ready.is.1
-      (index_step law (record { inv = inv; small = small; no_backs = ready.knows; before = ap (pending_at scene.core.read) ready.is.0 }) start call
-      ready.at (fresh_ring en scene.core.write of_indices call ready.fresh) ready.steps)
-  step_moves kinds.Overflow scene small inv start (Indices call) ready = absurd ready.at
-  step_moves kinds.Queue scene small inv start (Indices call) ready = absurd ready.at
-  step_moves IndexQueue scene small inv start (Values call) ready = absurd ready.at
-  step_moves kinds.Overflow scene small inv start (Values call) ready = absurd ready.at
-  step_moves kinds.Queue scene small inv start (Values call) ready =
+      (index_step law (takes_step inv ready ready.knows refl) start call ready.at
+      (fresh_ring en scene.core.write of_indices call ready.fresh) ready.steps)
+  step_moves kinds.Overflow scene inv start (Indices call) ready = absurd ready.at
+  step_moves kinds.Queue scene inv start (Indices call) ready = absurd ready.at
+  step_moves IndexQueue scene inv start (Values call) ready = absurd ready.at
+  step_moves kinds.Overflow scene inv start (Values call) ready = absurd ready.at
+  step_moves kinds.Queue scene inv start (Values call) ready =
       of_step inv start (Values call) ready.is.1
-      (value_step law (record { inv = inv; small = small; no_backs = ready.knows; before = ap (pending_at scene.core.read) ready.is.0 }) start call
-      ready.at (fresh_ring en scene.core.write of_values call ready.fresh) ready.steps)
-  step_moves IndexQueue scene small inv start (Overflow call) ready = absurd ready.at
-  step_moves kinds.Overflow scene small inv start (Overflow call) ready =
-      overflow_step small inv start call ready
-  step_moves kinds.Queue scene small inv start (Overflow call) ready = absurd ready.at
-  step_moves kd scene small inv start (Length which call) ready =
+      (value_step law (takes_step inv ready ready.knows refl) start call ready.at (fresh_ring en scene.core.write of_values call ready.fresh) ready.steps)
+  step_moves IndexQueue scene inv start (Overflow call) ready = absurd ready.at
+  step_moves kinds.Overflow scene inv start (Overflow call) ready =
+      overflow_step inv start call ready
+  step_moves kinds.Queue scene inv start (Overflow call) ready = absurd ready.at
+  step_moves kd scene inv start (Length which call) ready =
       of_step inv start (Length which call) ready.is.1
-      (length_step small inv start which call ready.at ready.steps ready.knows (ap (pending_at scene.core.read) ready.is.0))
+      (length_step inv start which call ready.at ready.steps ready.knows (ap (pending_at scene.core.read) ready.is.0))
 
 -- ---- a turn of the machine
 
@@ -281,7 +246,7 @@ module _ {T : Type 0} {en : Coding T} (law : IsCoding en) (kd : QueueKind) (c : 
         (registries.Queues s.state.roles) start flight
     comes fresh {start = (Queues start)} {flight = (flights.Queues flight)} here =
         let moves =
-        step_moves law kd (scene_of x since) s.holds.within (inv_of x since) start flight (record {
+        step_moves law kd (scene_of x since) (inv_of x since) start flight (record {
           at = here.at;
           steps = here.steps;
           knows = here.knows;

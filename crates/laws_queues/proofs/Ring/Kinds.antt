@@ -20,7 +20,7 @@ use Rattle.model.specs.declared.families.queues.calls.RingCall.TheVariants as ri
 use Rattle.model.specs.Families.Queues.Spans.{HandsOut}
 use Rattle.laws_queues.proofs.Queues.Core.{Core}
 use Rattle.laws_queues.proofs.Queues.Keeping.{RingKeeps, Keeps}
-use Rattle.laws_queues.proofs.Queues.Knows.{in_one, in_cell, has_written, Hangs, listed, KnowsFlight, number_of, At}
+use Rattle.laws_queues.proofs.Queues.Knows.{in_one, in_cell, has_written, Hangs, listed, number_of, At}
 use Rattle.laws_queues.proofs.Queues.Values.{Val, encoded, item}
 use Rattle.laws_queues.proofs.Ring.Knows.{ring_number, PushAt, PopAt, PeekAt}
 
@@ -144,13 +144,6 @@ module _ {T : Type 0} where
   pub wrote_none : (r : Ring) (c : ℕ) (k : Core (Val T (kind_of r))) (p : ℕ) (call : RingCall (Val T (kind_of r)) (Room r))
       → has_written {T = T} c k p (flight r call) ≡ []
   wrote_none = grind arith
-
-  -- of the counts, a call of a bounded queue knows that it has not turned back
-  pub knows : (r : Ring) (c : ℕ) (k : Core (Val T (kind_of r))) (p : ℕ) (events : List (Event T))
-      (since changes backs : ℕ) (call : RingCall (Val T (kind_of r)) (Room r))
-      → backs ≡ 0
-      → KnowsFlight c k p events since changes backs (flight r call)
-  knows = grind arith
 
   -- how many steps a call of a bounded queue has taken at most, by its stage
   pub number : (en : Coding T) (r : Ring) (call : RingCall (Val T (kind_of r)) (Room r)) (backs : ℕ)

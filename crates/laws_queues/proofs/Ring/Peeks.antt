@@ -1,53 +1,41 @@
 -- Each step of a bounded queue's peek keeps the invariant. They are the steps of a pop without the last,
 -- which moves the read position.
-use Rattle.laws_queues.proofs.Names.{◌≡◌, ℕ, ◌+◌, ◌^◌, ◌<◌, ◌≤◌, ◌==◌, nat_lt, Bool, true, false, ◌||◌, Option, Some}
-use Rattle.laws_queues.proofs.Names.{List, [], length, get_or, map, slice_get, refl, sym, ap, subst, ◌∙◌, set-get_or}
-use Rattle.laws_queues.proofs.Names.{nat_tests, Ask, Load, After, GoOn, Done, QueueFlight, RingCall, Quiet, Item}
-use Rattle.laws_queues.proofs.Names.{Peek, Answer, Queues, Coding, IsCoding, ask_of, answer_of_item, load_of_write}
-use Rattle.laws_queues.proofs.Names.{load_of_read, Open, old_of, words_after, change_of, step_count}
+use Rattle.laws_queues.proofs.Names.{◌≡◌, ℕ, ◌+◌, ◌<◌, ◌≤◌, ◌==◌, nat_lt, Bool, true, false, ◌||◌, Option, Some}
+use Rattle.laws_queues.proofs.Names.{List, [], length, get_or, map, slice_get, refl, sym, ap, ◌∙◌, nat_tests, Ask}
+use Rattle.laws_queues.proofs.Names.{After, GoOn, Done, QueueFlight, RingCall, Quiet, Item, Peek, Answer, Coding}
+use Rattle.laws_queues.proofs.Names.{IsCoding, answer_of_item, load_of_write, load_of_read, words_after, step_count}
 use Rattle.std.proofs.Common.{arith}
 use Rattle.steps.specs.declared.queues.peek.PeekStage.{PeekStage}
 use Rattle.steps.specs.declared.queues.peek.PeekStage.TheVariants as peeks
 use Rattle.steps.specs.Queues.Ring.{cell_word}
 use Rattle.model.specs.declared.event.Answer.TheVariants as answers
 use Rattle.laws_queues.proofs.Queues.Core.{Good}
-use Rattle.laws_queues.proofs.Queues.Invariant.{Scene, Inv, waiting_is}
+use Rattle.laws_queues.proofs.Queues.Invariant.{Scene, waiting_is}
 use Rattle.laws_queues.proofs.Queues.Knows.{layout}
-use Rattle.laws_queues.proofs.Queues.Stages.{IsCalm, first_of_some, cell_asked, DoesStep, same_queue, quiet, ends}
-use Rattle.laws_queues.proofs.Queues.Values.{Val, encoded, item}
-use Rattle.laws_queues.proofs.Ring.Kinds.{Ring, kind_of, Room, words_in, with_word, flight, got, read_in}
-use Rattle.laws_queues.proofs.Ring.Kinds.{ring_want, ring_after, are_words, calm, wrote_none, knows, number}
-use Rattle.laws_queues.proofs.Ring.Kinds.{peek_here, none_hangs, cells_are, answer_is, most_peek}
+use Rattle.laws_queues.proofs.Queues.Stages.{TakesStep, first_of_some, cell_asked, DoesStep, same_queue, ends}
+use Rattle.laws_queues.proofs.Queues.Values.{Val, item}
+use Rattle.laws_queues.proofs.Ring.Calls.{good_before, RingStep, leads_on, word_load, word_stays, with_loaded}
+use Rattle.laws_queues.proofs.Ring.Kinds.{Ring, kind_of, Room, words_in, flight, got, enc, read_in, ring_after, are_words}
+use Rattle.laws_queues.proofs.Ring.Kinds.{peek_here, none_hangs, answer_is, most_peek}
 use Rattle.laws_queues.proofs.Ring.Knows.{peek_at, KnowsPeek, peek_number}
 use Rattle.laws_queues.proofs.Ring.Words.{none_waits, some_waits, loads_more, loads_last}
 
 -- The party `p` holds the consumer's role and has a peek under way. `c` is the capacity, `k` the queue
 -- before the step (positions, values that wait, cells).
-module _ {T : Type 0} {en : Coding T} (r : Ring) (law : IsCoding en) {scene : Scene T (kind_of r)}
-    (inv : Inv en (kind_of r) scene) (small : scene.core.write < 2 ^ 64)
-    (before : IsCalm en (kind_of r) scene scene.core.read) (room : Room r)
-    (holds : scene.roles.consumer ≡ Some scene.party) (no_backs : scene.backs ≡ 0) where
+module _ {T : Type 0} {en : Coding T} (r : Ring) (law : IsCoding en) {scene : Scene T (kind_of r)} (takes : TakesStep en (kind_of r) scene)
+    (room : Room r) (holds : scene.roles.consumer ≡ Some scene.party) where
   open scene use {capacity as c, roles as ro, core as k, party as p, steps, backs, since, changes, events}
+  open takes use {inv, no_backs}
 
   abbrev size : ℕ
-  size = (encoded en (kind_of r)).size
-
-  abbrev words_of : Val T (kind_of r) → List ℕ
-  words_of = (encoded en (kind_of r)).words_of
+  size = (enc en r).size
 
   abbrev items : List (Val T (kind_of r)) → List (Item T)
   items xs = map (item (kind_of r)) xs
 
-  -- elements are coded as `IsCoding` asks
-  lawful : IsCoding (encoded en (kind_of r))
-  lawful = are_words en r law
-
-  good_before : Good size words_of c k
-  good_before = rw (← cells_are r c) inv.queue.good
-
-  -- the capacity is below 2 ^ 32
-  fits : c < 2 ^ 32
-  fits = inv.queue.fits
+  -- the queue before the step is right
+  good : Good size (enc en r).words_of c k
+  good = good_before r takes
 
   -- the peek at a stage
   abbrev at : PeekStage → RingCall (Val T (kind_of r)) (Room r)
@@ -60,35 +48,18 @@ module _ {T : Type 0} {en : Coding T} (r : Ring) (law : IsCoding en) {scene : Sc
 
   -- the peek's step at this stage keeps the invariant (`Shows`)
   abbrev StageKeeps : PeekStage → Type 0
-  StageKeeps stage =
-      StepKeeps (ask_of (ring_want en r (at stage)))
-      (ring_after en r (at stage) (old_of (layout ro k) (ask_of (ring_want en r (at stage)))))
+  StageKeeps stage = RingStep r takes Peek (at stage)
 
   -- what the peek knows at this stage, with this room
   abbrev PeekKnows : Room r → PeekStage → Type 0
-  PeekKnows there stage = KnowsPeek (encoded en (kind_of r)) c k (words_in r there) stage
+  PeekKnows there stage = KnowsPeek (enc en r) c k (words_in r there) stage
 
   -- a step that leaves the queue as it is, after which the peek is at this stage with this room
   goes_on : (ask : Option Ask) (room' : Room r) (stage : PeekStage)
       → words_after (layout ro k) ask ≡ layout ro k → PeekKnows room' stage → steps + step_count ask ≤ peek_number size stage
       → StepKeeps ask (GoOn (flight r (peek_at c room' stage)))
   goes_on ask room' stage words known most =
-      quiet inv small before (same_queue inv) (record {
-        start = Peek;
-        ask = ask;
-        back = false;
-        flight = flight r (peek_at c room' stage);
-        calm = calm T r k.read (peek_at c room' stage);
-        words = words;
-        here = record {
-          span = ap (λ es. Open (Queues Peek) es) (sym (wrote_none r c k p (peek_at c room' stage)));
-          steps = rw (number en r (peek_at c room' stage) (backs + 0)) most;
-          at = peek_here en r c ro k p (peek_at c room' stage) (holds, refl, known);
-        };
-        knows =
-            knows r c k p events (since + change_of (layout ro k) ask) (changes + change_of (layout ro k) ask)
-            (backs + 0) (peek_at c room' stage) (omega arith);
-      })
+      leads_on r takes Peek ask (peek_at c room' stage) (same_queue inv) words (peek_here en r c ro k p (peek_at c room' stage) (holds, refl, known)) most
 
   -- a step that ends the peek with the oldest value that waits, or None
   tells : (ask : Option Ask) (answer : Answer T) → words_after (layout ro k) ask ≡ layout ro k
@@ -96,12 +67,13 @@ module _ {T : Type 0} {en : Coding T} (r : Ring) (law : IsCoding en) {scene : Sc
   tells ask answer words right most = (
     k,
     words,
-    ends inv small (record {
+    ends inv (record {
       start = Peek;
       answer = answer;
       ask = ask;
       back = false;
       roles_then = ro;
+      written = [];
       producers = refl;
       consumers = refl;
       wrote = record { moments = refl; published = refl; handed_out = refl };
@@ -131,14 +103,14 @@ module _ {T : Type 0} {en : Coding T} (r : Ring) (law : IsCoding en) {scene : Sc
       -- nothing waits: the peek ends with None
       go true t =
           let goes : ring_after en r (at (peeks.LoadsWrite k.read)) k.write ≡ Done (answers.PoppedNone) = rw t refl in
-          let none = none_waits good_before t in
+          let none = none_waits good t in
           rw goes (tells (Some load_of_write) answers.PoppedNone refl
           (sym (ap (λ (xs : List (Val T (kind_of r))). answer_of_item {T = T} (slice_get (items xs) 0)) none)) (omega arith))
       -- something waits: the peek goes on to load the first word of its value
       go false t =
           let goes : ring_after en r (at (peeks.LoadsWrite k.read)) k.write ≡ GoOn (flight r (at (loads_cell 0))) = rw t refl in
-          let first = first_of_some k.waiting (some_waits good_before t) in
-          let one = lawful.some in
+          let first = first_of_some k.waiting (some_waits good t) in
+          let one = (are_words en r law).some in
           let known : PeekKnows room (loads_cell 0) =
           (long, first.0, first.1, refl, first.2, refl, omega arith, λ i h. absurd (omega arith)) in
           rw goes (goes_on (Some load_of_write) room (loads_cell 0) refl known (omega arith))
@@ -147,21 +119,13 @@ module _ {T : Type 0} {en : Coding T} (r : Ring) (law : IsCoding en) {scene : Sc
   loads_word : (i : ℕ) → PeekKnows room (loads_cell i) → steps ≤ 2 + i → StageKeeps (loads_cell i)
   loads_word i known few_steps = go (nat_lt (i + 1) size) refl
     where
-      -- the load of a word of the cell
-      ask : Option Ask
-      ask = Some (record { word = cell_asked size c k.read i; op = Load })
-
       -- the word that the step loads
       old : ℕ
       old = get_or (layout ro k) (cell_asked size c k.read i) 0
 
-      -- the room with the loaded word in its place
+      -- the room with this word in its place
       next : Room r
-      next = with_word r room i old
-
-      -- a load of a word of the cell leaves the words as they are
-      same : words_after (layout ro k) ask ≡ layout ro k
-      same = set-get_or (layout ro k) (cell_asked size c k.read i) 0
+      next = with_loaded r takes room i
 
       -- the cases are whether a further word of the value follows
       go : (t : Bool) → nat_lt (i + 1) size ≡ t → StageKeeps (loads_cell i)
@@ -169,15 +133,16 @@ module _ {T : Type 0} {en : Coding T} (r : Ring) (law : IsCoding en) {scene : Sc
       go true t =
           let goes : ring_after en r (at (loads_cell i)) old ≡ GoOn (flight r (peek_at c next (loads_cell (i + 1)))) = rw t refl in
           let further : i + 1 < size = grind (arith, nat_tests) in
-          rw goes (goes_on ask next (loads_cell (i + 1)) same (loads_more r law ro fits good_before room i known further) (omega arith))
+          rw goes (goes_on (word_load r takes i) next (loads_cell (i + 1)) (word_stays r takes i)
+          (loads_more r law ro inv.queue.fits good room i known further) (omega arith))
       -- it was the last word: the peek ends with the front value
       go false t =
           let v : Val T (kind_of r) = read_in en r next in
           let goes : ring_after en r (at (loads_cell i)) old ≡ Done (got r v) = rw t refl in
           let below = known.6 in
           let last : size ≡ i + 1 = (let over : size ≤ i + 1 = grind (arith, nat_tests) in omega arith) in
-          let has = loads_last r law ro fits good_before room i known last in
-          rw goes (tells ask (got r v) same
+          let has = loads_last r law ro inv.queue.fits good room i known last in
+          rw goes (tells (word_load r takes i) (got r v) (word_stays r takes i)
           (sym (ap (λ (xs : List (Val T (kind_of r))). answer_of_item {T = T} (slice_get (items xs) 0)) has.2 ∙ answer_is r v))
           (omega arith))
 

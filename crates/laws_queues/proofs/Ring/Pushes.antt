@@ -1,11 +1,10 @@
 -- Each step of a bounded queue's push keeps the invariant.
-use Rattle.laws_queues.proofs.Names.{◌≡◌, ℕ, ◌+◌, ◌-◌, ◌*◌, ◌%◌, ◌^◌, ◌<◌, ◌≤◌, ◌==◌, nat_lt, Bool, true, false}
-use Rattle.laws_queues.proofs.Names.{◌||◌, Option, Some, List, [], ◌∷◌, ◌++◌, length, get_or, map, refl, sym, ap}
-use Rattle.laws_queues.proofs.Names.{subst, ◌∙◌, append-nil, nat_tests, map-append, length-map, Ask, Store, After}
-use Rattle.laws_queues.proofs.Names.{GoOn, Done, distance, after_position, QueueFlight, RingCall, Effect, Quiet, Acts}
-use Rattle.laws_queues.proofs.Names.{Publishes, Item, Answer, Queues, Published, Acted, Coding, IsCoding}
-use Rattle.laws_queues.proofs.Names.{ask_of, write_word, appended, load_of_write, load_of_read, published, handed_out}
-use Rattle.laws_queues.proofs.Names.{Open, old_of, words_after, change_of, step_count}
+use Rattle.laws_queues.proofs.Names.{◌≡◌, ◌≢◌, ℕ, ◌+◌, ◌-◌, ◌*◌, ◌%◌, ◌^◌, ◌<◌, ◌≤◌, ◌==◌, nat_lt, Bool, true}
+use Rattle.laws_queues.proofs.Names.{false, ◌||◌, Option, Some, List, [], ◌∷◌, ◌++◌, length, get_or, map, refl, sym}
+use Rattle.laws_queues.proofs.Names.{ap, subst, ◌∙◌, nat_tests, map-append, length-map, Ask, Store, After, GoOn}
+use Rattle.laws_queues.proofs.Names.{Done, distance, after_position, QueueFlight, RingCall, Effect, Quiet, Acts}
+use Rattle.laws_queues.proofs.Names.{Publishes, Item, Answer, Coding, IsCoding, write_word, appended, load_of_write}
+use Rattle.laws_queues.proofs.Names.{load_of_read, words_after, change_of, step_count}
 use Rattle.std.proofs.Common.{arith}
 use Rattle.steps.specs.declared.queues.ring.PushStage.{PushStage}
 use Rattle.steps.specs.declared.queues.ring.PushStage.TheVariants as pushes
@@ -13,13 +12,13 @@ use Rattle.steps.specs.Queues.Ring.{cell_word}
 use Rattle.model.specs.declared.event.Answer.TheVariants as answers
 use Rattle.laws_queues.proofs.Queues.Core as core
 use Rattle.laws_queues.proofs.Queues.Core.{Core, Holds, Good, filled, fills, one_filled, publishes, set_at}
-use Rattle.laws_queues.proofs.Queues.Invariant.{Scene, Inv, waiting_is}
+use Rattle.laws_queues.proofs.Queues.Invariant.{Scene, waiting_is}
 use Rattle.laws_queues.proofs.Queues.Keeping.{clash, same_roles, kept}
 use Rattle.laws_queues.proofs.Queues.Knows.{free, layout}
-use Rattle.laws_queues.proofs.Queues.Stages.{IsCalm, cell_asked, asked_place, Leaves, DoesStep, SameQueue, same_queue, quiet}
-use Rattle.laws_queues.proofs.Queues.Values.{Val, encoded, item}
-use Rattle.laws_queues.proofs.Ring.Kinds.{Ring, kind_of, Room, flight, push, ring_want, ring_after, ring_effect}
-use Rattle.laws_queues.proofs.Ring.Kinds.{are_words, calm, wrote_none, knows, number, push_here, ring_keeps}
+use Rattle.laws_queues.proofs.Queues.Stages.{TakesStep, cell_asked, asked_place, Leaves, DoesStep, SameQueue, same_queue, acts}
+use Rattle.laws_queues.proofs.Queues.Values.{Val, item}
+use Rattle.laws_queues.proofs.Ring.Calls.{good_before, RingStep, leads_on}
+use Rattle.laws_queues.proofs.Ring.Kinds.{Ring, kind_of, Room, flight, push, enc, ring_after, are_words, push_here, ring_keeps}
 use Rattle.laws_queues.proofs.Ring.Kinds.{none_hangs, cells_are, list_after_push, list_answers_push, listed_is}
 use Rattle.laws_queues.proofs.Ring.Kinds.{push_roles, push_grants, push_tells, push_producer, push_consumer}
 use Rattle.laws_queues.proofs.Ring.Kinds.{false_is_right, true_is_right, named, wrote_false, wrote_true, most_push}
@@ -28,35 +27,27 @@ use Rattle.laws_queues.proofs.Ring.Knows.{push_at, IsFresh, KnowsPush, push_numb
 
 -- The party `p` holds the producer's role and pushes `v`. `c` is the capacity, `k` the queue before the
 -- step (positions, values that wait, cells).
-module _ {T : Type 0} {en : Coding T} (r : Ring) (law : IsCoding en) {scene : Scene T (kind_of r)}
-    (inv : Inv en (kind_of r) scene) (small : scene.core.write < 2 ^ 64)
-    (before : IsCalm en (kind_of r) scene scene.core.read) (v : Val T (kind_of r))
-    (holds : scene.roles.producer ≡ Some scene.party) (no_backs : scene.backs ≡ 0) where
+module _ {T : Type 0} {en : Coding T} (r : Ring) (law : IsCoding en) {scene : Scene T (kind_of r)} (takes : TakesStep en (kind_of r) scene)
+    (v : Val T (kind_of r)) (holds : scene.roles.producer ≡ Some scene.party) where
   open scene use {capacity as c, roles as ro, core as k, party as p, steps, backs, since, changes, events}
+  open takes use {inv, no_backs}
 
   abbrev size : ℕ
-  size = (encoded en (kind_of r)).size
+  size = (enc en r).size
 
   abbrev words_of : Val T (kind_of r) → List ℕ
-  words_of = (encoded en (kind_of r)).words_of
+  words_of = (enc en r).words_of
 
   abbrev items : List (Val T (kind_of r)) → List (Item T)
   items xs = map (item (kind_of r)) xs
 
   -- elements are coded as `IsCoding` asks
-  lawful : IsCoding (encoded en (kind_of r))
+  lawful : IsCoding (enc en r)
   lawful = are_words en r law
 
-  good_before : Good size words_of c k
-  good_before = rw (← cells_are r c) inv.queue.good
-
-  -- the capacity is below 2 ^ 32
-  fits : c < 2 ^ 32
-  fits = inv.queue.fits
-
-  -- what was published is what was handed out and what waits
-  book : published events ≡ handed_out events ++ items k.waiting
-  book = inv.queue.book
+  -- the queue before the step is right
+  good_now : Good size words_of c k
+  good_now = good_before r takes
 
   -- the push of `v` at a stage
   abbrev at : PushStage → RingCall (Val T (kind_of r)) (Room r)
@@ -74,31 +65,15 @@ module _ {T : Type 0} {en : Coding T} (r : Ring) (law : IsCoding en) {scene : Sc
 
   -- the push's step at this stage keeps the invariant (`Shows`)
   abbrev StageKeeps : PushStage → Type 0
-  StageKeeps stage =
-      StepKeeps (ask_of (ring_want en r (at stage)))
-      (ring_after en r (at stage) (old_of (layout ro k) (ask_of (ring_want en r (at stage)))))
-      (ring_effect en r (at stage))
+  StageKeeps stage = RingStep r takes (push r v) (at stage)
 
   -- a step that changes at most the cells of the queue, after which the push is at this stage
   goes_on : (ask : Option Ask) (stage : PushStage) {k' : Core (Val T (kind_of r))} → SameQueue en (kind_of r) scene k'
-      → words_after (layout ro k) ask ≡ layout ro k' → KnowsPush (encoded en (kind_of r)) c k' v stage
+      → words_after (layout ro k) ask ≡ layout ro k' → KnowsPush (enc en r) c k' v stage
       → steps + step_count ask ≤ push_number size stage → StepKeeps ask (GoOn (flight r (at stage))) Quiet
   goes_on ask stage {k'} same words known most =
       stays ask (GoOn (flight r (at stage))) Quiet
-      (quiet inv small before same (record {
-        start = push r v;
-        ask = ask;
-        back = false;
-        flight = flight r (at stage);
-        calm = calm T r k.read (at stage);
-        words = words;
-        here = record {
-          span = ap (λ es. Open (Queues (push r v)) es) (sym (wrote_none r c k' p (at stage)));
-          steps = rw (number en r (at stage) (backs + 0)) most;
-          at = push_here en r c ro k' p v (at stage) (holds, refl, refl, known);
-        };
-        knows = knows r c k' p events (since + change_of (layout ro k) ask) (changes + change_of (layout ro k) ask) (backs + 0) (at stage) (omega arith);
-      }))
+      (leads_on r takes (push r v) ask (at stage) same words (push_here en r c ro k' p v (at stage) (holds, refl, refl, known)) most)
 
   -- the load of the write position leads on to the load of the read position, as the write
   -- position is not the last
@@ -120,45 +95,26 @@ module _ {T : Type 0} {en : Coding T} (r : Ring) (law : IsCoding en) {scene : Sc
   -- the load of the read position ends the push with false, where the queue is full
   refused : length k.waiting ≡ c → steps ≤ 1 → StepKeeps (Some load_of_read) (Done (answers.Truth false)) Acts
   refused lap few_steps =
-      let reached = inv.queue.reached in
       let long : length (items k.waiting) ≡ length k.waiting = length-map k.waiting (item (kind_of r)) in
       let not_below : nat_lt (length (items k.waiting)) c ≡ false = grind (arith, nat_tests) in
       let none : appended c (items k.waiting) (item (kind_of r) v) ≡ items k.waiting = rw not_below refl in
-      let most = most_push en r v (backs + 0) in
-      stays (Some load_of_read) (Done (answers.Truth false)) Acts (
-        k,
-        refl,
-        record {
-          -- the events that the step writes: each may follow in its span, and each tells the truth
-          own = (refl, (refl, tt));
-          stands = ((refl, refl), ((refl, wrote_false r c p v), tt));
-          grants = (tt, (push_grants r c (events ++ Acted p (Queues (push r v)) (answers.Truth false) ∷ []) p v false, tt));
-          producers = push_producer r c events p v false ro.producer;
-          consumers = push_consumer r c events p v false ro.consumer;
-          right = (false_is_right r c events p v (ap length (waiting_is events (items k.waiting) book) ∙ (long ∙ lap)), (tt, tt));
-          lengths = (tt, (push_tells r c (events ++ Acted p (Queues (push r v)) (answers.Truth false) ∷ []) p v false, tt));
-          -- the queue afterwards, and the list that its calls answer as
-          good = inv.queue.good;
-          hangs = none_hangs T r c k _;
-          out = omega arith;
-          book = append-nil (items k.waiting);
-          goes = list_after_push r c k.waiting v ∙ (none ∙ sym (listed_is r c k.waiting));
-          answers = list_answers_push r c k.waiting v ∙ ap (λ x. answers.Truth x ∷ []) not_below;
-          -- the party's call afterwards, and the calls of other parties
-          here =
-              record {
-                answer = answers.Truth false;
-                wrote = Acted p (Queues (push r v)) (answers.Truth false) ∷ [];
-                span = refl;
-                steps = rw most (omega arith);
-              };
-          knows = omega arith;
-          up = record { write = omega arith; read = omega arith; paid = omega arith };
-          others = λ q ne st f h. (h, refl);
-          reached = omega arith;
-          within = omega arith;
-        },
-      )
+      stays (Some load_of_read) (Done (answers.Truth false)) Acts (acts inv (record {
+        start = push r v;
+        answer = answers.Truth false;
+        ask = Some load_of_read;
+        words = refl;
+        producers = push_producer r c events p v false ro.producer;
+        consumers = push_consumer r c events p v false ro.consumer;
+        wrote = wrote_false r c p v;
+        tells = λ es. push_tells r c es p v false;
+        grants = λ es. push_grants r c es p v false;
+        right = false_is_right r c events p v (ap length (waiting_is events (items k.waiting) inv.queue.book) ∙ (long ∙ lap));
+        goes = list_after_push r c k.waiting v ∙ (none ∙ sym (listed_is r c k.waiting));
+        answers = list_answers_push r c k.waiting v ∙ ap (λ x. answers.Truth x ∷ []) not_below;
+        steps = rw (most_push en r v (backs + 0)) (omega arith);
+        paid = omega arith;
+        calm = takes.before;
+      }))
 
   -- the stage at which the push stores the word `i` of its element
   abbrev stores_cell : ℕ → PushStage
@@ -201,18 +157,18 @@ module _ {T : Type 0} {en : Coding T} (r : Ring) (law : IsCoding en) {scene : Sc
 
       -- the queue with the word in its cell is right
       good : Good size words_of c next
-      good = fills good_before i word room below
+      good = fills good_now i word room below
 
       -- the words after the store are those of the queue with the next word of the element in its cell
       words : words_after (layout ro k) ask ≡ layout ro next
       words =
           let few = lawful.few in
-          let place = asked_place size c k.write i (omega arith) fits few below in
+          let place = asked_place size c k.write i (omega arith) inv.queue.fits few below in
           set_at k.write k.read (free ro.producer) (free ro.consumer) k.cells (cell_asked size c k.write i) (size * (k.write % c) + i) word place
 
       -- one more word of the element stands in the cell
       more : Holds size words_of c next.cells next.write v (i + 1)
-      more = one_filled good_before v i room below so_far
+      more = one_filled good_now v i room below so_far
 
       -- the calls of other parties stand where they stood, and have written the same, once the word is stored
       same : SameQueue en (kind_of r) scene next
@@ -225,7 +181,7 @@ module _ {T : Type 0} {en : Coding T} (r : Ring) (law : IsCoding en) {scene : Sc
             others =
                 λ q ne. kept (same_roles ro q) en c (kind_of r) k next (ring_keeps en r (record {
                   push = λ mine w stage h. absurd (clash ro.producer p q ne holds mine);
-                  pop = λ mine other stage h. fill_keeps (encoded en (kind_of r)) c k i word other stage h;
+                  pop = λ mine other stage h. fill_keeps (enc en r) c k i word other stage h;
                 }));
           }
 
@@ -264,71 +220,26 @@ module _ {T : Type 0} {en : Coding T} (r : Ring) (law : IsCoding en) {scene : Sc
       let all : appended c (items k.waiting) (item (kind_of r) v) ≡ items (k.waiting ++ v ∷ []) = rw is_below joined in
       let most = most_push en r v (backs + 0) in
       let after : Core (Val T (kind_of r)) = core.published size words_of c k v in
+      let good_then = publishes good_now v room whole in
+      let name = named {T = T} r v in
+      let wrote = wrote_true {T = T} r {c = c} p v in
+      let list = list_after_push r c k.waiting v ∙ (all ∙ sym (listed_is r c (k.waiting ++ v ∷ []))) in
+      let answer = list_answers_push r c k.waiting v ∙ ap (λ x. answers.Truth x ∷ []) is_below in
+      let others =
+      λ (q : ℕ) (ne : q ≢ p). kept (same_roles ro q) en c (kind_of r) k after (ring_keeps en r (record {
+        push = λ mine w stage h. absurd (clash ro.producer p q ne holds mine);
+        pop = λ mine other stage h. publish_keeps (enc en r) c k v other stage h;
+      })) in
       stays (Some (record { word = write_word; op = Store (after_position k.write) }))
       (Done (answers.Truth true)) (Publishes (item (kind_of r) v)) (
         after,
         ap (λ n. n ∷ k.read ∷ free ro.producer ∷ free ro.consumer ∷ k.cells) next,
-        record {
-          -- the events that the step writes: each may follow in its span, and each tells the truth
-          own = (refl, (refl, (refl, tt)));
-          stands = ((named r v, refl), ((refl, refl), ((refl, wrote_true r p v), tt)));
-          grants = (
-            tt,
-            (
-              tt,
-              (
-                push_grants r c
-                    ((events ++ Published p (item (kind_of r) v) ∷ []) ++ Acted p (Queues (push r v)) (answers.Truth true) ∷ [])
-                    p v true,
-                tt,
-              ),
-            ),
-          );
-          producers = push_producer r c events p v true ro.producer;
-          consumers = push_consumer r c events p v true ro.consumer;
-          right = (tt, (true_is_right r c (events ++ Published p (item (kind_of r) v) ∷ []) p v, (tt, tt)));
-          lengths = (
-            tt,
-            (
-              tt,
-              (
-                push_tells r c
-                    ((events ++ Published p (item (kind_of r) v) ∷ []) ++ Acted p (Queues (push r v)) (answers.Truth true) ∷ [])
-                    p v true,
-                tt,
-              ),
-            ),
-          );
-          -- the queue afterwards, and the list that its calls answer as
-          good = rw (cells_are r c) (publishes good_before v room whole);
-          hangs = none_hangs T r c after _;
-          out = omega arith;
-          book = joined;
-          goes = list_after_push r c k.waiting v ∙ (all ∙ sym (listed_is r c (k.waiting ++ v ∷ [])));
-          answers = list_answers_push r c k.waiting v ∙ ap (λ x. answers.Truth x ∷ []) is_below;
-          -- the party's call afterwards, and the calls of other parties
-          here =
-              record {
-                answer = answers.Truth true;
-                wrote = Published p (item (kind_of r) v) ∷ Acted p (Queues (push r v)) (answers.Truth true) ∷ [];
-                span = refl;
-                steps = rw most (omega arith);
-              };
-          knows = omega arith;
-          up = record { write = omega arith; read = omega arith; paid = omega arith };
-          others =
-              λ q ne. kept (same_roles ro q) en c (kind_of r) k after (ring_keeps en r (record {
-                push = λ mine w stage h. absurd (clash ro.producer p q ne holds mine);
-                pop = λ mine other stage h. publish_keeps (encoded en (kind_of r)) c k v other stage h;
-              }));
-          reached = omega arith;
-          within = omega arith;
-        },
+        grind (arith, push_grants, push_tells, push_producer, push_consumer, true_is_right, cells_are, none_hangs),
       )
 
   -- each step of a push keeps the invariant (`Shows`)
   pub push_step : (stage : PushStage) → IsFresh k.write stage
-      → KnowsPush (encoded en (kind_of r)) c k v stage → steps ≤ push_number size stage → StageKeeps stage
+      → KnowsPush (enc en r) c k v stage → steps ≤ push_number size stage → StageKeeps stage
   push_step pushes.LoadsWrite fresh known few_steps = loads_write fresh few_steps
   push_step (pushes.LoadsRead write) fresh known few_steps = rw known.0 (loads_read known.1 few_steps)
   push_step (pushes.StoresCell write cell i) fresh known few_steps =

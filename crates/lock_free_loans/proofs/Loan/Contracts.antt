@@ -33,9 +33,9 @@ in_turn_more Does (y ∷ xs) x old now new each does = (each.0, each.1, in_turn_
 -- ---- the set
 
 -- what a pass had seen before a call is the beginning of what it has seen behind it
-pub begins_before : (p : ℕ) (start : Start ℕ) (answer : Answer ℕ) (wrote : List (Event ℕ)) (old new : View ℕ)
+pub begins_before : {p : ℕ} {start : Start ℕ} {answer : Answer ℕ} {wrote : List (Event ℕ)} {old new : View ℕ}
     → Called p start answer wrote old new → IsBeginning old.seen new.seen
-begins_before p start answer wrote old new called =
+begins_before {p} {start} {answer} {wrote} {old} {new} called =
     record {
       rest = called.others ++ Begun p start ∷ (called.during ++ Finished p start answer ∷ []);
       is = called.is ∙ append_assoc old.seen called.others (Begun p start ∷ (called.during ++ Finished p start answer ∷ []));
@@ -57,7 +57,7 @@ pub has_freed : (old new : Pass) (index : ℕ) (state : ReleaseState) → SamePa
 has_freed old new index state goes unlocked given =
     record {
       given = subst (λ s. HasGiven index s (view old) (view new)) unlocked given;
-      goes = set_goes old new goes (begins_before _ _ _ _ (view old) (view new) given.called);
+      goes = set_goes old new goes (begins_before given.called);
       aside = goes.aside;
     }
 
@@ -145,7 +145,7 @@ pops_none v =
     record { share = refl; since = itself v.seen; first = first_all v.turns; numbers = []; popped = refl; aside = omega arith }
 
 -- A call pops several numbers one after the other: `before` is what it has popped so far, and the view goes on to `new`.
-module _ (old now new : View ℕ) (before : Popping old now) (goes : Goes now new) where
+module _ {old now new : View ℕ} (before : Popping old now) (goes : Goes now new) where
   -- the view goes on from where the pops began
   pub still_goes : Goes old new
   still_goes =
@@ -157,24 +157,24 @@ module _ (old now new : View ℕ) (before : Popping old now) (goes : Goes now ne
       }
 
   -- a pop that found a number adds it to those that were taken out
-  pub pops_on : (answer : Option ℕ) (none : Bool) → is_some answer ≡ not none → none ≡ false
+  pub pops_on : (answer : Option ℕ) {none : Bool} → is_some answer ≡ not none → none ≡ false
       → HasPopped (option_map Index answer) now new → new.aside ≤ now.aside + 1 → Popping old new
-  pops_on None none is off popped once = absurd (true≢false (sym (is ∙ ap not off)))
-  pops_on (Some x) none is off popped once =
+  pops_on None is off popped once = absurd (true≢false (sym (is ∙ ap not off)))
+  pops_on (Some x) is off popped once =
       record {
-        share = goes.share ∙ before.share;
-        since = begins_further old.seen now.seen new.seen before.since goes.since;
-        first = first_further old.turns now.turns new.turns before.first goes.first;
+        share = still_goes.share;
+        since = still_goes.since;
+        first = still_goes.first;
         numbers = before.numbers ++ x ∷ [];
         popped = in_turn_more HasPoppedOne before.numbers x old now new before.popped popped;
         aside = omega (arith, before.aside, length-append before.numbers (x ∷ []));
       }
 
-module _ (old now new : View ℕ) (before : Popping old now) where
+module _ {old now new : View ℕ} (before : Popping old now) where
   -- a pop that found none ends the pops: the queue is emptied
-  pub is_emptied : (answer : Option ℕ) (none : Bool) → is_some answer ≡ not none → none ≡ true
+  pub is_emptied : (answer : Option ℕ) {none : Bool} → is_some answer ≡ not none → none ≡ true
       → HasPopped (option_map Index answer) now new → IfNone answer (FoundNone now new) → new.aside ≤ now.aside + 1 → HasEmptied old new
-  is_emptied None none is on popped found once =
+  is_emptied None is on popped found once =
       record {
         numbers = before.numbers;
         last = now;
@@ -183,13 +183,13 @@ module _ (old now new : View ℕ) (before : Popping old now) where
         empty = found;
         aside = omega (arith, before.aside);
       }
-  is_emptied (Some x) none is on popped found once = absurd (true≢false (is ∙ ap not on))
+  is_emptied (Some x) is on popped found once = absurd (true≢false (is ∙ ap not on))
 
 -- What was seen before pops in turn is the beginning of what is seen behind them.
 in_turn_since : (xs : List ℕ) (old new : View ℕ) → InTurn HasPoppedOne xs old new → IsBeginning old.seen new.seen
 in_turn_since [] old new same = subst (λ (v : View ℕ). IsBeginning old.seen v.seen) (sym same) (itself old.seen)
 in_turn_since (x ∷ xs) old new each =
-    begins_further old.seen each.0.seen new.seen (begins_before _ _ _ _ old each.0 each.1.called) (in_turn_since xs each.0 new each.2)
+    begins_further old.seen each.0.seen new.seen (begins_before each.1.called) (in_turn_since xs each.0 new each.2)
 
 -- a queue that was emptied had nothing waiting since
 pub emptied_once : (old new : View ℕ) → HasEmptied old new → FoundNone old new

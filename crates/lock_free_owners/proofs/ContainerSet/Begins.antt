@@ -1,12 +1,12 @@
 -- The calls on a container at a pass whose last call may rest: each may begin (`.._begins`), and each
 -- of its steps keeps the rule of the table.
-use Rattle.lock_free_owners.proofs.Names.{◌≡◌, ◌⊎◌, ℕ, ◌+◌, ◌<◌, None, [], refl, sym, subst, arith, nat_lt}
+use Rattle.lock_free_owners.proofs.Names.{◌≡◌, ℕ, ◌+◌, ◌<◌, None, [], refl, sym, subst, arith, nat_lt}
 use Rattle.lock_free_owners.proofs.Names.{true, nat_tests, first_add, add_want, add_after, first_remove}
 use Rattle.lock_free_owners.proofs.Names.{remove_want, remove_after, first_replace, replace_want, replace_after}
 use Rattle.lock_free_owners.proofs.Names.{empty, first_borrowed, borrowed_want, borrowed_after, Owned, Replacement}
 use Rattle.lock_free_owners.proofs.Names.{GiveBack, CountOf, Coding, IsCoding, View, adds_value, removes_value}
-use Rattle.lock_free_owners.proofs.Names.{replaces_value, counts_values, sees_lock, IsResting}
-use Rattle.lock_free_owners.proofs.Names.{Calling, At, AsksFor, container_words, Keeps, rested_keeps}
+use Rattle.lock_free_owners.proofs.Names.{replaces_value, counts_values, sees_lock}
+use Rattle.lock_free_owners.proofs.Names.{Calling, At, Ends, AsksFor, container_words, Keeps, rested_keeps}
 use Rattle.steps.specs.Indices.Robust.Looks.{locked_after}
 use Rattle.steps.specs.Queues.Ring.{load}
 use Rattle.steps.specs.declared.ask.Op.TheVariants as ops
@@ -25,21 +25,16 @@ use Rattle.lock_free_owners.specs.Container.Idle.{IsIdle}
 use Rattle.lock_free_owners.specs.Container.Turns.{CallAt, BeginsAdd, BeginsRemove, BeginsReplace, BeginsCount}
 use Rattle.lock_free_owners.specs.Container.Turns.{BeginsLock, AddAt, AddEnds, RemoveAt, RemoveEnds, ReplaceAt}
 use Rattle.lock_free_owners.specs.Container.Turns.{ReplaceEnds, CountAt, CountEnds, LockAt, LockEnds}
-use Rattle.lock_free_owners.proofs.ContainerSet.Idle.{rests}
+use Rattle.lock_free_owners.proofs.ContainerSet.Idle.{rested_begins}
 
 module _ {T : Type 0} (code : Coding T) where
   -- ---- a call that begins
 
   module _ {C E : Type 0} (begins : ℕ → C → Type 0) (call : Calling T C (Unit {0}) E) where
-    -- A call is about to begin by a pass that rests or has no call under way.
-    begins_by : (v : View T) (c : C) → begins v.capacity c → (v.going ≡ None → At code kinds.Container call v v c tt)
-        → (v.going ≡ None) ⊎ IsResting code v → CallAt code begins call v v c tt
-    begins_by v c begins_holds at either = grind arith
-
     -- A call is about to begin by an idle pass.
     pub begins_at : (v : View T) (c : C) → begins v.capacity c → (v.going ≡ None → At code kinds.Container call v v c tt) → IsIdle v → v.other ≡ []
         → 0 < v.share.part → CallAt code begins call v v c tt
-    begins_at v c first at idle alone any = begins_by v c first at (rests code v alone any idle)
+    begins_at v c = rested_begins code (λ capacity c m. begins capacity c) (At code kinds.Container call) (Ends code kinds.Container call) v c tt
 
   -- ---- add
 

@@ -71,8 +71,7 @@ module _ {T : Type 0} where
 
   -- A call that goes on or ends has one end at most.
   ending_short : (p : ℕ) (start : Start T) (o : Option (Answer T)) → IsShort (ending_of p start o)
-  ending_short p start None = tt
-  ending_short p start (Some answer) = tt
+  ending_short p start o = grind arith
 
   -- The empty list has no element.
   no_more : {A : Type 0} (e : Event T) (pre post : List (Event T)) → [] ≡ pre ++ e ∷ post → A

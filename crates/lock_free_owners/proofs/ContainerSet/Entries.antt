@@ -22,14 +22,6 @@ module _ {T : Type 0} where
   get_of_take (suc n) zero (e ∷ es) below = refl
   get_of_take (suc n) (suc i) (e ∷ es) below = get_of_take n i es (omega arith)
 
-  -- behind the first n elements nothing is shown
-  past_all : (at n i : ℕ) (es : List (Element T)) → n ≤ i → shown_from at (drop i (take n es)) ≡ []
-  past_all at zero zero es past = refl
-  past_all at zero (suc i) es past = refl
-  past_all at (suc n) zero es past = absurd (omega arith)
-  past_all at (suc n) (suc i) [] past = refl
-  past_all at (suc n) (suc i) (e ∷ es) past = past_all at n i es (omega arith)
-
   -- Below the capacity, the entries from an index on are the element there, if it shows a value, before
   -- the entries from the next index on.
   entries_step : (state : ContainerState T) (index : ℕ) → index < state.capacity
@@ -55,10 +47,6 @@ module _ {T : Type 0} where
       → entries_from state index ≡ entries_from state (index + 1)
   entries_pass state index below none =
       entries_step state index below ∙ ap (λ s. shown_first s index (entries_from state (index + 1))) none
-
-  -- From the capacity on, a state has no entries.
-  pub entries_over : (state : ContainerState T) (index : ℕ) → state.capacity ≤ index → entries_from state index ≡ []
-  entries_over state index past = past_all index state.capacity index state.shown.elements past
 
   -- there are no more than indices
   first_fits : (s : Option T) (index : ℕ) (rest : List (ℕ × T)) → length (shown_first s index rest) ≤ suc (length rest)

@@ -1,14 +1,14 @@
 -- What contracts say of whole calls on a container, from what their driver knows once they have ended:
 -- what each call wrote, that its answer is right, and what it tells of the lock.
-use Rattle.lock_free_owners.proofs.Names.{Option, IfSome, ◌≡◌, ⊎_elim, ℕ, ◌<◌, ◌≤◌, ◌==◌, Bool, true, false}
+use Rattle.lock_free_owners.proofs.Names.{◌≡◌, ⊎_elim, ℕ, ◌<◌, ◌≤◌, ◌==◌, Bool, true, false}
 use Rattle.lock_free_owners.proofs.Names.{true≢false, Ok, Err, IfOk, OnOk, List, [], ◌∷◌, ◌++◌, refl, sym, ap, subst}
-use Rattle.lock_free_owners.proofs.Names.{◌∙◌, append_assoc, arith, Added, Removed, Replaced, Owned, Replacement}
+use Rattle.lock_free_owners.proofs.Names.{◌∙◌, arith, Added, Removed, Replaced, Owned, Replacement}
 use Rattle.lock_free_owners.proofs.Names.{ReleaseMode, LockIfLastIndex, Default, ReleaseState, GiveBack, Answer}
-use Rattle.lock_free_owners.proofs.Names.{Number, Truth, Event, Begun, Filled, Granted, FreedOf, Hidden, Finished}
+use Rattle.lock_free_owners.proofs.Names.{Number, Truth, Event, Filled, Granted, FreedOf, Hidden, Finished}
 use Rattle.lock_free_owners.proofs.Names.{Container, ContainerStart, Add, Remove, Replace, Len, IsEmpty, Coding}
 use Rattle.lock_free_owners.proofs.Names.{added, removed, replaced, is_locked, IsUnlocked, HeldSometime, count_most}
 use Rattle.lock_free_owners.proofs.Names.{View}
-use Rattle.lock_free_owners.proofs.Names.{IsHistory, Called, IsBeginning, Goes, KeepsState, Calling, Ends, LeavesState}
+use Rattle.lock_free_owners.proofs.Names.{IsHistory, Called, IsBeginning, Calling, Ends}
 use Rattle.steps.specs.declared.container.enums.ContainerAddFailure.{ContainerAddFailure}
 use Rattle.steps.specs.declared.container.enums.ContainerAddFailure.TheVariants as failures
 use Rattle.steps.specs.declared.indices.enums.ReleaseState.TheVariants as states
@@ -21,17 +21,15 @@ use Rattle.lock_free_owners.specs.Container.Contracts.{IsSound, HasMade, HasAdde
 use Rattle.lock_free_owners.specs.Container.Contracts.{HasTested, HasLooked, Answered, WasNotAdded}
 use Rattle.lock_free_owners.specs.Container.Contracts.{RemovesRight, IsRightRemove, IsRightReplace, IsRightLength, IsRightTest, IsRightLook}
 use Rattle.lock_free_owners.specs.Worn.{MayBeWorn}
-use Rattle.lock_free_owners.specs.Container.Steps.{FewAside}
 use Rattle.lock_free_owners.specs.Container.Turns.{AddEnds, RemoveEnds, ReplaceEnds, CountEnds, LockEnds}
 use Rattle.history.specs.Settled.{EndsSettled}
 use Rattle.lock_free_owners.proofs.ContainerSet.Sound.{sound_history}
 use Rattle.lock_free_owners.proofs.ContainerSet.Resting.{settled_so}
-use Rattle.lock_free_owners.proofs.ContainerSet.Began.{history_of as began_history, share_from, capacity_from}
-use Rattle.lock_free_owners.proofs.ContainerSet.Began.{AnsweredBy, idle_from, later, ended_goes, ended_aside, ended_called, ended_answered}
-use Rattle.lock_free_owners.proofs.ContainerSet.Began.{ended_keeps}
+use Rattle.lock_free_owners.proofs.ContainerSet.Began.{history_of as began_history, capacity_from}
+use Rattle.lock_free_owners.proofs.ContainerSet.Began.{AnsweredBy, idle_from, later, ended_called, ended_answered}
 use Rattle.history.proofs.Known.{begins_further}
 use Rattle.history.proofs.Locks.{lock_stays, not_locked}
-use Rattle.lock_free_owners.proofs.RobustSet.Events.{find_own, covers}
+use Rattle.lock_free_owners.proofs.RobustSet.Events.{covers, wrote_there}
 
 module _ {T : Type 0} (code : Coding T) where
   -- ---- what any call leaves
@@ -46,27 +44,6 @@ module _ {T : Type 0} (code : Coding T) where
     -- What the pass has seen behind the call is a history of the container.
     pub history_of : IsHistory code kinds.Container base.capacity w.seen
     history_of = began_history ends.settled call ends.over
-
-    -- The call keeps the share.
-    pub share_of : w.share ≡ base.share
-    share_of = ends.over.share ∙ share_from ends.settled
-
-    -- The call keeps the capacity that the pass knows.
-    pub capacity_of : w.capacity ≡ base.capacity
-    capacity_of = ends.over.capacity ∙ capacity_from ends.settled
-
-    -- What the pass knows goes on from what it knew before the call.
-    pub goes : Goes base w
-    goes = ended_goes ends.settled call ends.over
-
-    -- The call leaves at most one operation aside, and one more where the last call rested.
-    pub few_aside : FewAside base w
-    few_aside = ended_aside ends.settled call ends.over
-
-    module _ (leaves : LeavesState call) (by_same : (was : Option ℕ) (p : ℕ) → call.by was p → IfSome was (λ q. q ≡ p)) where
-      -- The call keeps the state that the pass has.
-      pub keeps : KeepsState base w
-      keeps = ended_keeps ends.settled call leaves by_same ends.over
 
     module _ (start : ContainerStart T) (is_start : call.start ≡ Container start) (answer : Answer T) (is_answer : call.answer e tt ≡ answer) where
       -- In the history it is a call with this begin and this answer.
@@ -91,46 +68,12 @@ module _ {T : Type 0} (code : Coding T) where
       abbrev p : ℕ
       p = ends.over.party
 
-      -- The begin of the call.
-      abbrev begin : Event T
-      begin = Begun p (Container start)
-
-      -- The end of the call.
-      abbrev end : Event T
-      end = Finished p (Container start) answer
-
-      -- The history behind the call is sound.
-      sound : IsSound code base.capacity w.seen
-      sound = sound_history code base.capacity w.seen history_of
-
-      -- What is seen behind the settled view goes on from what the pass had seen before.
-      onward : (xs : List (Event T)) → IsBeginning base.seen (from.seen ++ xs)
-      onward xs = later ends.settled xs
-
       -- if the call wrote this event, what `Before` says of the history before it holds, and that
       -- history goes on from what the pass had seen
       pub wrote_at : (event : ℕ → Event T) (first : List (Event T)) → (rest : List (Event T)) × (ends.over.wrote ≡ first ++ event p ∷ rest)
           → {Before : ℕ → List (Event T) → Type 0} → ((before after : List (Event T)) → w.seen ≡ before ++ event p ∷ after → Before p before)
           → WroteAt event Before base w
-      wrote_at event first (rest, is) held =
-          let c = made_call in
-          let part = find_own p c.during first rest (event p) (c.during_own ∙ is) in
-          let others : List (Event T) = from.seen ++ c.others in
-          let whole : w.seen ≡ (others ++ begin ∷ part.0) ++ event p ∷ (part.1 ++ end ∷ []) =
-          c.is
-          ∙ (ap (λ ds. others ++ begin ∷ (ds ++ end ∷ [])) part.2
-          ∙ (ap (λ zs. others ++ begin ∷ zs) (append_assoc part.0 (event p ∷ part.1) (end ∷ []))
-          ∙ sym (append_assoc others (begin ∷ part.0) (event p ∷ (part.1 ++ end ∷ [])))))
-          in
-          let front = append_assoc from.seen c.others (begin ∷ part.0) in
-          record {
-            by = p;
-            before = others ++ begin ∷ part.0;
-            after = part.1 ++ end ∷ [];
-            is = whole;
-            since = subst (IsBeginning base.seen) (sym front) (onward (c.others ++ begin ∷ part.0));
-            held = held (others ++ begin ∷ part.0) (part.1 ++ end ∷ []) whole;
-          }
+      wrote_at event first (rest, is) held = wrote_there (later ends.settled) made_call event first rest is held
 
       -- the last answer, and what stood before it
       pub answered : AnsweredBy start answer base w
@@ -142,7 +85,7 @@ module _ {T : Type 0} (code : Coding T) where
       open_since once =
           let c = made_call in
           let covered = covers p (Container start) c.during (from.seen ++ c.others) once.part once.rest once.is once.within in
-          not_locked (begins_further _ _ _ (onward c.others) covered) once.held
+          not_locked (begins_further _ _ _ (later ends.settled c.others) covered) once.held
 
   -- what an answer speaks of is a beginning of what the pass has seen
   pub last_of : {start : ContainerStart T} {answer : Answer T} {Right : ℕ → List (Event T) → Type 0} {old new : View T}
@@ -183,17 +126,7 @@ module _ {T : Type 0} (code : Coding T) where
 
       -- a count of the indices that have an owner is at most the capacity
       pub counted_most : n ≤ base.capacity
-      counted_most = go (is_locked counted_answered.before) refl
-        where
-          -- the number that is counted is at most the capacity, whether the container was locked
-          -- or not
-          go : (b : Bool) → is_locked counted_answered.before ≡ b → n ≤ base.capacity
-          go true t = (let none = counted_answered.right.none t in omega arith)
-          go false t =
-              let count = counted_answered.right.some t in
-              let most = count_most count.chosen base.capacity in
-              let is = count.is in
-              omega arith
+      counted_most = grind (arith, is_locked, counted_answered, count_most)
 
       -- The number is 0 where the lock had been seen.
       pub counted_none : is_locked base.seen ≡ true → n ≡ 0
@@ -233,12 +166,7 @@ module _ {T : Type 0} (code : Coding T) where
     removed_so : (mode : ReleaseMode) (answer : Removed) → AnsweredBy (Remove given.index given.owner mode) (removed answer) base w
         → Answered (Remove given.index given.owner mode) (removed answer)
         (RemovesRight (MayBeWorn w.seen) base.capacity (record { index = given.index; owner = given.owner; mode = mode }) answer) base w
-    removed_so Default (Err e) h = h
-    removed_so LockIfLastIndex (Err e) h = h
-    removed_so Default (Ok states.Locked) h = h
-    removed_so LockIfLastIndex (Ok states.Locked) h = h
-    removed_so Default (Ok states.Unlocked) h = h
-    removed_so LockIfLastIndex (Ok states.Unlocked) h = h
+    removed_so mode answer h = grind arith
 
     -- The answer of a remove is right.
     pub removed_right : (answer : Removed) → RemoveEnds code given base answer tt w → IsRightRemove given answer base w

@@ -1,8 +1,8 @@
 -- How many indices a find of a container has counted: one that a step has ended, and one that stands at its question.
 use Rattle.lock_free_owners.proofs.Names.{◌≡◌, ℕ, ◌+◌, true, false, Some, None, List, [], ◌∷◌, ◌++◌, refl, sym, ap}
-use Rattle.lock_free_owners.proofs.Names.{subst, ◌∙◌, append_assoc, append_cancel_left, same_from_push, After, Done}
+use Rattle.lock_free_owners.proofs.Names.{arith, subst, ◌∙◌, append_assoc, append_cancel_left, same_from_push, After, Done}
 use Rattle.lock_free_owners.proofs.Names.{Buffer, Answer, Number, Event, Finished, Start, Container, Flight, Coding}
-use Rattle.lock_free_owners.proofs.Names.{want_of, goes_of, is_question, IsFilledWith, IsCount, read_in, Span, Open}
+use Rattle.lock_free_owners.proofs.Names.{want_of, goes_of, is_question, IsFilledWith, IsCount, Span, Open}
 use Rattle.lock_free_owners.proofs.Names.{span_of, after_turn, events_of, ending_of, number_of, count_later, IsRun}
 use Rattle.lock_free_owners.proofs.Names.{LastStep, call_in, refusal_as, container_effects, containers_owe}
 use Rattle.steps.specs.declared.container.find.FindStage.{FindStage}
@@ -55,13 +55,7 @@ module _ {T : Type 0} (code : Coding T) (capacity p owner number : ℕ) where
     -- the bound of a find that asks about an index is the number behind this index
     bound_is : (coding : Coding T) (stage : FindStage) (index : ℕ) (value : T)
         → question_in coding (Some (asking stage)) ≡ Some (index, value) → index + 1 ≡ below_question stage
-    bound_is coding (finds.LoadsCell k found) index value e = absurd (cc)
-    bound_is coding (finds.LoadsCount k found) index value e = absurd (cc)
-    bound_is coding (finds.LoadsWord k found count at) index value e = absurd (cc)
-    bound_is coding (finds.ChecksCount k found count) index value e = absurd (cc)
-    bound_is coding (finds.Asks k found) index value e =
-        let same : ◌≡◌ {A = ℕ × T} (k, read_in coding room) (index, value) = cc in
-        ap (λ (z : ℕ × T). z.0 + 1) (sym same)
+    bound_is coding stage index value e = grind arith
 
     -- a find at a question, which a no would end with this number, has counted the owner's indices
     -- up to the one that it asks about

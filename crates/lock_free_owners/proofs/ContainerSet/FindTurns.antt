@@ -1,6 +1,6 @@
 -- A find of a container between two turns, as a call of the history: each of its steps keeps the rule
 -- of the table, an answer may end it, and what it has then copied and counted.
-use Rattle.lock_free_owners.proofs.Names.{◌≡◌, ◌⊎◌, inl, inr, ℕ, ◌+◌, ◌<◌, nat_lt, Bool, true, false, Option}
+use Rattle.lock_free_owners.proofs.Names.{◌≡◌, inl, inr, ℕ, ◌+◌, ◌<◌, nat_lt, Bool, true, false, Option}
 use Rattle.lock_free_owners.proofs.Names.{Some, None, List, [], ◌∷◌, ◌++◌, slice_set, refl, sym, ap, subst, ◌∙◌}
 use Rattle.lock_free_owners.proofs.Names.{IsMachine, total_words, weaker_owes, append-nil, fold, arith, find_asks, find_want, empty, by_test, After, GoOn}
 use Rattle.lock_free_owners.proofs.Names.{Done, Buffer, Number, Event, Begun, Copied, Container, Coding, IsCoding}
@@ -26,7 +26,7 @@ use Rattle.lock_free_owners.specs.Container.Idle.{asks, may_rest, IsIdle}
 use Rattle.history.specs.Steps.{TakesAtMost}
 use Rattle.lock_free_owners.proofs.ContainerSet.Counted.{counted_owes}
 use Rattle.lock_free_owners.proofs.ContainerSet.FindCounts.{counts_whole, counts_below}
-use Rattle.lock_free_owners.proofs.ContainerSet.Idle.{rests, idle_none}
+use Rattle.lock_free_owners.proofs.ContainerSet.Idle.{rested_begins, idle_none}
 use Rattle.lock_free_owners.proofs.ContainerSet.Resting.{settled_so, resting_so}
 use Rattle.lock_free_owners.proofs.ContainerSet.Began.{idle_from, capacity_from, share_from, seen_is, made_is}
 use Rattle.lock_free_owners.proofs.ContainerSet.Began.{ended_goes, ended_aside, ended_knows, ended_called, ended_answered, under_goes, under_aside, under_knows}
@@ -152,21 +152,12 @@ module _ {T : Type 0} (code : Coding T) (law : IsCoding code) (owner : ℕ) wher
       (λ n w h. let tells = find_tells at n w h.0 in (tells.0, tells.1, h.1))
       (counted told (find_want code.size c) (v, []) (keeps (at_its_word c.capacity c.stage word) sized known at))
 
-  -- a find may begin where no call is under way, or where the last one rests
-  begins_by : (v : View T) → 0 < v.capacity → owner < empty → (v.going ≡ None) ⊎ IsResting code v → v.other ≡ [] → 0 < v.share.part
-      → FindAt code owner v v (first_find v.capacity) (fresh_cell, [])
-  begins_by v some fits (inl idle) alone any =
-      inl (record {
-        from = v;
-        settled = inl (refl, idle);
-        stage = begins_first v (first_find v.capacity) (fresh_cell, []) (refl, some, fits, refl) idle alone any;
-      })
-  begins_by v some fits (inr resting) alone any = inr (record { is = refl; resting = resting; first = (refl, some, fits, refl) })
-
   -- A find of a container with places is about to begin by an idle pass.
   pub find_begins : (v : View T) → 0 < v.capacity → owner < empty → IsIdle v → v.other ≡ [] → 0 < v.share.part
       → FindAt code owner v v (first_find v.capacity) (fresh_cell, [])
-  find_begins v some fits idle alone any = begins_by v some fits (rests code v alone any idle) alone any
+  find_begins v some fits idle alone any =
+      rested_begins code (BeginsFind owner) (FindBegun code owner) (FindOver code owner) v (first_find v.capacity) (fresh_cell, []) (refl, some, fits, refl)
+      (λ none. begins_first v (first_find v.capacity) (fresh_cell, []) (refl, some, fits, refl) none alone any) idle alone any
 
   -- ---- at its question
 

@@ -298,33 +298,16 @@ module _ {T F : Type 0} (find : FindCase T F) (few : find.code.size ≤ 128) whe
   -- on, and 139 more, are left.
   lands_lower : (capacity index found : ℕ) (stage : FindStage) (v w : View T) → PassesTo capacity index found stage v w
       → find_left code.size capacity stage ≤ 140 * (capacity - index) + 139
-  lands_lower capacity index found (finds.LoadsCell at count) v w to = absurd to
-  lands_lower capacity index found (finds.LoadsCount at count) v w to = (let low = to.0 in omega arith)
-  lands_lower capacity index found (finds.LoadsWord at count number place) v w to = absurd to
-  lands_lower capacity index found (finds.ChecksCount at count number) v w to = absurd to
-  lands_lower capacity index found (finds.Asks at count) v w to = absurd to
+  lands_lower capacity index found stage v w to = grind (arith, find_left)
 
   -- passing cells does not add to the steps that are left
   passes_lower : (c d : Find T (Buffer 128)) (stage : FindStage) (v w : View T) → c.stage ≡ stage → PassesFrom c stage (GoOn d) v w → left d ≤ left c
-  passes_lower c d (finds.LoadsCell index found) v w is to =
-      let size : d.capacity ≡ c.capacity = to.0 in
-      let lower = lands_lower c.capacity index found d.stage v w to.1 in
-      let same = ap (λ n. find_left code.size n d.stage) size in
-      let here = ap (find_left code.size c.capacity) is in
-      omega arith
-  passes_lower c d (finds.LoadsCount index found) v w is to = (let same = ap left_after to.0 in omega arith)
-  passes_lower c d (finds.LoadsWord index found count at) v w is to = (let same = ap left_after to.0 in omega arith)
-  passes_lower c d (finds.ChecksCount index found count) v w is to = (let same = ap left_after to.0 in omega arith)
-  passes_lower c d (finds.Asks index found) v w is to = (let same = ap left_after to.0 in omega arith)
+  passes_lower c d stage v w is to = grind (arith, lands_lower, find_left)
 
   -- after each turn fewer steps are left
   turns_lower : (c d : Find T (Buffer 128)) (stage : FindStage) (v w : View T) (m n : Buffer 128) (x : T) (p q : F)
       → FindTurns code owner stage v c m (GoOn d) n w → FindMoves step code.size id c owner stage x p (GoOn d) q → left d < left c
-  turns_lower c d (finds.LoadsCell index found) v w m n x p q goes moves = find_fewer code.size few c d owner goes.0 (sym goes.1)
-  turns_lower c d (finds.LoadsCount index found) v w m n x p q goes moves = find_fewer code.size few c d owner goes.0 (sym goes.1)
-  turns_lower c d (finds.LoadsWord index found count at) v w m n x p q goes moves = find_fewer code.size few c d owner goes.0 (sym goes.1)
-  turns_lower c d (finds.ChecksCount index found count) v w m n x p q goes moves = find_fewer code.size few c d owner goes.0 (sym goes.1)
-  turns_lower c d (finds.Asks index found) v w m n x p q goes moves = find_fewer code.size few c d owner (says moves.0) (sym moves.2)
+  turns_lower c d stage v w m n x p q goes moves = grind (arith, find_fewer)
 
   -- Passing cells does not add to the steps that are left, where the find goes on behind them.
   pub passed_lower : (c : Find T (Buffer 128)) {d : Find T (Buffer 128)} {a : After (Find T (Buffer 128)) ℕ} (v u : View T) → a ≡ GoOn d

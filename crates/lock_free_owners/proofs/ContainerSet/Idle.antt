@@ -10,6 +10,8 @@ use Rattle.model.specs.declared.families.Registry.{Registry}
 use Rattle.model.specs.declared.families.Registry.TheVariants as registries
 use Rattle.model.specs.declared.families.container.calls.ContainerFlight.{ContainerFlight}
 use Rattle.model.specs.declared.families.container.calls.ContainerFlight.TheVariants as calls
+use Rattle.model.specs.declared.turn.Kind.TheVariants as kinds
+use Rattle.history.specs.Settled.{AtRested}
 use Rattle.lock_free_owners.specs.Container.Idle.{asks, is_at_question, may_rest, IsIdle}
 
 module _ {T : Type 0} (code : Coding T) (v : View T) (fresh : v.other ≡ []) (some : 0 < v.share.part) where
@@ -64,10 +66,22 @@ module _ {T : Type 0} (code : Coding T) (v : View T) (fresh : v.other ≡ []) (s
   pub rests : IsIdle v → Rests
   rests idle = by_party v.party v.going refl refl idle
 
+-- A call whose first stage and room are as `begins` says of the capacity; `at` says how it stands at each stage, and `over` how it ends.
+module _ {T C M E : Type 0} (code : Coding T) (begins : ℕ → C → M → Type 0) (at : View T → View T → C → M → Type 0)
+    (over : View T → E → M → View T → Type 0) where
+  -- It is about to begin by a pass that rests or has no call under way.
+  begins_by : (v : View T) (c : C) (m : M) → begins v.capacity c m → (v.going ≡ None → at v v c m) → (v.going ≡ None) ⊎ IsResting code v
+      → AtRested code kinds.Container begins at over v v c m
+  begins_by v c m first here either = grind arith
+
+  -- It is about to begin by an idle pass.
+  pub rested_begins : (v : View T) (c : C) (m : M) → begins v.capacity c m → (v.going ≡ None → at v v c m) → IsIdle v → v.other ≡ []
+      → 0 < v.share.part → AtRested code kinds.Container begins at over v v c m
+  rested_begins v c m first here idle alone any = begins_by v c m first here (rests code v alone any idle)
+
 -- with none under way it is between two
 none_rests : (T : Type 0) (party : Option ℕ) → may_rest {T = T} party None ≡ true
-none_rests T None = refl
-none_rests T (Some p) = refl
+none_rests T party = grind arith
 
 -- A pass with no call under way is idle.
 pub idle_none : {T : Type 0} (v : View T) → v.going ≡ None → IsIdle v

@@ -7,8 +7,9 @@ use Rattle.lock_free_owners.proofs.Names.{look_takes, look_after, look_kept, Num
 use Rattle.lock_free_owners.proofs.Names.{Done, ContainerState, Answer, Event, ContainerStart, UpdateState, Coding}
 use Rattle.lock_free_owners.proofs.Names.{IsCoding, looked, settled_if, weaker_owes, View, HasCopied, look_start}
 use Rattle.lock_free_owners.proofs.Names.{state_of_look, looking, HasLookedAll, RestedLooks, RestedLooked, IsMachine}
-use Rattle.lock_free_owners.proofs.Names.{Goes, IsResting, Keeps}
+use Rattle.lock_free_owners.proofs.Names.{coding_by, IsResting, Keeps}
 use Rattle.steps.specs.declared.ask.Want.{Want}
+use Rattle.steps.specs.declared.words.Words.{Ghosts}
 use Rattle.steps.specs.declared.container.look.Look.{Look as Looking}
 use Rattle.steps.specs.declared.container.look.LookStage.{LookStage}
 use Rattle.model.specs.declared.families.container.calls.LookOf.{LookOf}
@@ -20,9 +21,9 @@ use Rattle.history.proofs.StateRests.{state_rests_keep, state_rests_idle, state_
 use Rattle.lock_free_owners.specs.Container.Bare.{Still, LookStands, LookEnds}
 use Rattle.lock_free_owners.specs.Container.Idle.{IsIdle}
 use Rattle.lock_free_owners.specs.Container.LookTurns.{IsOnHistory, LookAt, LookOver, IsPast, LookOnAt, LookOnOver}
-use Rattle.lock_free_owners.specs.Container.Names.{unnumbered}
+use Rattle.lock_free_owners.specs.declared.mpmc.container.Pass.{Pass}
+use Rattle.lock_free_owners.specs.Container.Names.{container_of, unnumbered, view, SamePass}
 use Rattle.lock_free_owners.specs.Container.Contracts.{HasMade}
-use Rattle.lock_free_owners.specs.Container.Steps.{FewAside}
 use Rattle.lock_free_owners.proofs.ContainerSet.Resting.{settled_so}
 use Rattle.lock_free_owners.proofs.ContainerSet.Began.{AnsweredBy, capacity_from, idle_from, share_from}
 use Rattle.lock_free_owners.proofs.ContainerSet.Began.{ended_answered, ended_goes, ended_aside, ended_knows}
@@ -202,18 +203,6 @@ module _ {T : Type 0} (code : Coding T) (which : LookOf) (from w : View T) (seen
     (ends : RestedLooked code which from.capacity seen from changed m w) where
   -- ---- what it leaves as a call of the history
 
-  -- A look that has ended leaves no call under way.
-  pub look_idle : w.going ≡ None
-  look_idle = ends.over.0.idle
-
-  -- What the pass knows goes on from what it knew before the look.
-  pub look_goes : Goes from w
-  look_goes = ended_goes ends.settled (looking code which from.capacity seen) ends.over.0
-
-  -- The look leaves at most one operation aside, and one more where the last call rested.
-  pub look_aside : FewAside from w
-  look_aside = ended_aside ends.settled (looking code which from.capacity seen) ends.over.0
-
   -- The look answers what is right by the events before its end.
   pub look_answered : AnsweredBy (look_start which) (looked which (state_of_look from.capacity seen m) changed) from w
   look_answered =
@@ -224,6 +213,19 @@ module _ {T : Type 0} (code : Coding T) (which : LookOf) (from w : View T) (seen
   pub look_made : HasMade (look_start which) (looked which (state_of_look from.capacity seen m) changed)
       (λ by es. HasLookedAll from.capacity by changed es) from w
   look_made = grind (arith, capacity_from, idle_from, ended_called, settled_so, looking, look_start, looked, state_of_look)
+
+-- A look of a state that has ended leaves of its pass what `SamePass` says.
+pub look_same : {T : Type 0} {words : Ghosts T} {old new : Pass T words} (which : LookOf) (seen : Numbers) (changed : Bool) (m : Showing T)
+    → container_of new ≡ container_of old → RestedLooked (coding_by words) which (view old).capacity seen (view old) changed m (view new)
+    → SamePass old new
+look_same {words = words} {old = old} which seen changed m container ends =
+    let call = looking (coding_by words) which (view old).capacity seen in
+    record {
+      container = container;
+      idle = ends.over.0.idle;
+      goes = ended_goes ends.settled call ends.over.0;
+      aside = ended_aside ends.settled call ends.over.0;
+    }
 
 -- what was written may be said more widely
 pub made_as : {T : Type 0} (start : ContainerStart T) (answer : Answer T) (Wrote More : ℕ → List (Event T) → Type 0) (v w : View T)

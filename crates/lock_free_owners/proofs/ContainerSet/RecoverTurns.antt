@@ -1,12 +1,12 @@
 -- A recovery of a container between two turns, as a call of the history: each of its steps keeps the
 -- rule of the table, and it may take an answer of its closure.
-use Rattle.lock_free_owners.proofs.Names.{◌≡◌, ◌⊎◌, inl, inr, ℕ, ◌<◌, nat_lt, Bool, true, false, None}
+use Rattle.lock_free_owners.proofs.Names.{◌≡◌, inl, inr, ℕ, ◌<◌, nat_lt, Bool, true, false, None}
 use Rattle.lock_free_owners.proofs.Names.{List, [], ◌∷◌, ◌++◌, slice_set, refl, sym, ap, subst, ◌∙◌, append_assoc}
 use Rattle.lock_free_owners.proofs.Names.{◌+◌, IsMachine, total_words, weaker_owes, append-nil, arith, goes_to, empty, by_test, After, GoOn, Done, DeadOwner}
 use Rattle.lock_free_owners.proofs.Names.{Buffer, ReleaseState, State, Event, Begun, Copied, Asked, Finished}
 use Rattle.lock_free_owners.proofs.Names.{Container, Coding, IsCoding, is_question, is_locked, fresh_cell, kept_at}
 use Rattle.lock_free_owners.proofs.Names.{Each, number_of, Word, DriverTold, View, wrote_visits, told_yet, Called}
-use Rattle.lock_free_owners.proofs.Names.{Goes, room_of, IsResting, SettledFrom, Waits, IsUnderWay, Ends, AsksFor}
+use Rattle.lock_free_owners.proofs.Names.{room_of, IsResting, SettledFrom, Waits, IsUnderWay, Ends, AsksFor}
 use Rattle.lock_free_owners.proofs.Names.{recover_call, container_recover_keeps, container_recover_hears}
 use Rattle.lock_free_owners.proofs.Names.{container_recover_first, recover_did, container_words, Keeps, rested_asks}
 use Rattle.lock_free_owners.proofs.Names.{apart_asked, room_fresh}
@@ -30,10 +30,9 @@ use Rattle.lock_free_owners.specs.Container.RecoverTurns.{Visiting, BeginsRecove
 use Rattle.lock_free_owners.specs.Container.RecoverTurns.{recover_visiting, RecoverBegun, RecoverAt, RecoverEnds}
 use Rattle.lock_free_owners.specs.Container.RecoverTurns.{RecoverTells}
 use Rattle.lock_free_owners.specs.Container.Contracts.{IsRightRecovery}
-use Rattle.lock_free_owners.specs.Container.Steps.{FewAside}
-use Rattle.lock_free_owners.proofs.ContainerSet.Idle.{rests}
-use Rattle.lock_free_owners.proofs.ContainerSet.Began.{AnsweredBy, idle_from, seen_is, from_since, ended_goes}
-use Rattle.lock_free_owners.proofs.ContainerSet.Began.{ended_aside, ended_called, ended_answered, open_since}
+use Rattle.lock_free_owners.proofs.ContainerSet.Idle.{rested_begins}
+use Rattle.lock_free_owners.proofs.ContainerSet.Began.{AnsweredBy, idle_from, seen_is, from_since}
+use Rattle.lock_free_owners.proofs.ContainerSet.Began.{ended_called, ended_answered, open_since}
 use Rattle.lock_free_owners.proofs.ContainerSet.Sound.{sound_history}
 use Rattle.history.proofs.Locks.{lock_stays, not_locked}
 use Rattle.lock_free_owners.proofs.RobustSet.Events.{find_own, covers}
@@ -147,21 +146,13 @@ module _ {T : Type 0} (code : Coding T) (law : IsCoding code) (given : DeadOwner
       let keeps = recover_keeps base v c (room, visits) key words slots id in
       weaker told more (recover_want code.size c given) (v, []) (λ n w h. recover_tells at n w h) (keeps sized known at)
 
-  -- a recovery may begin where no call is under way, or where the last one rests
-  begins_by : (v : View T) → given.owner < empty → (v.going ≡ None) ⊎ IsResting code v → v.other ≡ [] → 0 < v.share.part
-      → RecoverAt code given v v (first_recover v.capacity) (fresh_cell, [])
-  begins_by v fits (inl idle) alone any =
-      inl (record {
-        from = v;
-        settled = inl (refl, idle);
-        stage = begins_first v (first_recover v.capacity) (fresh_cell, []) (refl, fits, refl) idle alone any;
-      })
-  begins_by v fits (inr resting) alone any = inr (record { is = refl; resting = resting; first = (refl, fits, refl) })
-
   -- A recovery of an owner that there may be is about to begin by an idle pass.
   pub recover_begins : (v : View T) → given.owner < empty → IsIdle v → v.other ≡ [] → 0 < v.share.part
       → RecoverAt code given v v (first_recover v.capacity) (fresh_cell, [])
-  recover_begins v fits idle alone any = begins_by v fits (rests code v alone any idle) alone any
+  recover_begins v fits idle alone any =
+      rested_begins code (BeginsRecover given) (RecoverBegun code given) (Ends code kinds.Container (recovering code given)) v (first_recover v.capacity)
+      (fresh_cell, []) (refl, fits, refl)
+      (λ none. begins_first v (first_recover v.capacity) (fresh_cell, []) (refl, fits, refl) none alone any) idle alone any
 
   -- ---- at its question
 
@@ -245,14 +236,6 @@ module _ {T : Type 0} (code : Coding T) (law : IsCoding code) (given : DeadOwner
   -- base and w are what the pass knew before the recovery and after it, e is its answer, m its
   -- room then
   module _ {base w : View T} {e : ReleaseState} {m : Visiting T} (ends : RecoverEnds code given base e m w) where
-    -- What the pass knows goes on from what it knew before the recovery.
-    pub recovered_goes : Goes base w
-    recovered_goes = ended_goes ends.settled (recovering code given) ends.over
-
-    -- The recovery leaves at most one operation aside, and one more where the last call rested.
-    pub recovered_aside : FewAside base w
-    recovered_aside = ended_aside ends.settled (recovering code given) ends.over
-
     -- In the history, a recovery that has ended is one call, and its party wrote just the
     -- events of its visits.
     pub recovered_called : Called ends.over.party (Container (starts.Recover given.owner given.mode)) (State e)

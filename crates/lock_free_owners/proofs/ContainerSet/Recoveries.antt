@@ -1,6 +1,6 @@
 -- A recovery of a container between two turns: where it stands on the history, and what its closure was asked.
 use Rattle.std.proofs.Common.{arith}
-use Rattle.lock_free_owners.proofs.Names.{◌≡◌, ◌<◌, ◌∙◌, ℕ, Bool, true, false, List, [], if◌then◌else◌, refl, sym, ap}
+use Rattle.lock_free_owners.proofs.Names.{◌≡◌, ◌<◌, ◌∙◌, ℕ, Bool, false, List, [], if◌then◌else◌, refl, sym, ap}
 use Rattle.lock_free_owners.proofs.Names.{subst}
 use Rattle.lock_free_owners.proofs.Names.{recover_kept, After, GoOn, Done, Buffer, ReleaseState}
 use Rattle.lock_free_owners.proofs.Names.{IsCoding, is_locked, fresh_cell, kept_at, number_of, View, value_of_room}
@@ -24,8 +24,7 @@ use Rattle.lock_free_owners.proofs.Rules.Container.Recovering.{RecoveryCase, Ask
 
 -- An answer has the number 1 for yes and 0 for no.
 same_number : (b : Bool) → number_of b ≡ (if b then 1 else 0)
-same_number true = refl
-same_number false = refl
+same_number b = grind arith
 
 module _ {T F : Type 0} (recovery : RecoveryCase T F) where
   open recovery use {code, step, capacity as cap, given, base, predicate as f}
@@ -70,20 +69,12 @@ module _ {T F : Type 0} (recovery : RecoveryCase T F) where
     knows : Knows recovery c.stage
     knows = go c.stage refl
       where
+        asks : (index count : ℕ) → c.stage ≡ recovers.Asks index count → shut ≡ false
+        asks index count is = asked_open code law given c is h.at
+
         -- at each stage at which it asks, the container was not locked when it began
         go : (stage : RecoverStage) → c.stage ≡ stage → Knows recovery stage
-        go recovers.LoadsCounter is = tt
-        go (recovers.LoadsCell index) is = tt
-        go (recovers.LoadsCount index) is = tt
-        go (recovers.LoadsWord index count at) is = tt
-        go (recovers.ChecksCount index count) is = tt
-        go (recovers.Asks index count) is = asked_open code law given c is h.at
-        go (recovers.EmptiesCell index count) is = tt
-        go (recovers.Hides index count) is = tt
-        go (recovers.Raises index raise) is = tt
-        go (recovers.Locks index lock) is = tt
-        go recovers.LoadsCounterAgain is = tt
-        go (recovers.AddsChange state) is = tt
+        go stage is = grind (arith, asks)
 
     -- a step, or an answer, leaves the recovery where it goes on, or ends it, with what the
     -- closure was asked
@@ -186,18 +177,7 @@ module _ {T F : Type 0} (recovery : RecoveryCase T F) where
 
   -- a recovery that stands where it may stands at a cell below the capacity, if at a cell
   in_sight : (stage : RecoverStage) → RecoverIn code.size cap given.mode stage → IsWithin cap stage
-  in_sight recovers.LoadsCounter at = tt
-  in_sight (recovers.LoadsCell index) at = at
-  in_sight (recovers.LoadsCount index) at = tt
-  in_sight (recovers.LoadsWord index count place) at = tt
-  in_sight (recovers.ChecksCount index count) at = tt
-  in_sight (recovers.Asks index count) at = tt
-  in_sight (recovers.EmptiesCell index count) at = tt
-  in_sight (recovers.Hides index count) at = tt
-  in_sight (recovers.Raises index raise) at = tt
-  in_sight (recovers.Locks index lock) at = tt
-  in_sight recovers.LoadsCounterAgain at = tt
-  in_sight (recovers.AddsChange state) at = tt
+  in_sight stage at = grind arith
 
   -- If the recovery stands at a cell, the cell is one of the container.
   pub may_pass : {v : View T} {c : Recover T (Buffer 128)} {m : Buffer 128} {p : F} → Standing v c m p → IsWithin c.capacity c.stage

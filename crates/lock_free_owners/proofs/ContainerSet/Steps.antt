@@ -1,7 +1,7 @@
 -- How many operations the calls of a container take, from the bounds of the model.
 use Rattle.std.proofs.Common.{arith}
-use Rattle.lock_free_owners.proofs.Names.{◌≡◌, inl, inr, ℕ, ◌+◌, ◌*◌, ◌≤◌, Bool, refl, sym, ap, subst, Coding, View, Calling, Ends}
-use Rattle.lock_free_owners.proofs.Names.{Owned, Added, GiveBack, Removed, Replacement, Replaced, ReleaseMode, ReleaseState}
+use Rattle.lock_free_owners.proofs.Names.{◌≡◌, inl, inr, ℕ, ◌+◌, ◌*◌, ◌≤◌, Bool, ap, subst, Coding, View, Calling, Ends}
+use Rattle.lock_free_owners.proofs.Names.{Owned, Added, Removed, Replacement, Replaced, ReleaseMode, ReleaseState}
 use Rattle.lock_free_owners.proofs.Names.{Default, LockIfLastIndex, CountOf, SettledFrom, adds_value, removes_value, replaces_value}
 use Rattle.lock_free_owners.proofs.Names.{counts_values, sees_lock, looking, RestedLooked, Numbers, Showing}
 use Rattle.model.specs.declared.families.container.calls.CountOf.TheVariants as counts
@@ -53,59 +53,56 @@ module _ {T : Type 0} {code : Coding T} {base from : View T} (settled : SettledF
       → TakesBy code kinds.Container n (guarantee_of kinds.Container n code.size call.start) from w) (capacity_from settled)
       (λ one. let took = takes code kinds.Container call from w e m (idle_from settled) in took (container_pays code from.capacity) one ends) least)
 
-module _ {T : Type 0} (code : Coding T) (base w : View T) where
+-- A call led from the view `base`, of a container of this capacity, to w.
+module _ {T : Type 0} (code : Coding T) {base w : View T} {capacity : ℕ} (is : base.capacity ≡ capacity) where
   -- An add takes at most what the model says of it.
-  pub add_takes : (given : Owned T) (answer : Added) → AddEnds code given base answer tt w
-      → ContainerTakes (base.capacity + 7 + code.size) (base.capacity + 1) base w
-  add_takes given answer ends = takes_so ends.settled (adds_value code.size given) (omega arith) ends.over
+  pub add_takes : (given : Owned T) {answer : Added} → AddEnds code given base answer tt w
+      → ContainerTakes (capacity + 7 + code.size) (capacity + 1) base w
+  add_takes given ends =
+      subst (λ n. ContainerTakes (n + 7 + code.size) (n + 1) base w) is (takes_so ends.settled (adds_value code.size given) (omega arith) ends.over)
 
-  -- how many operations a remove takes, by its mode
-  pub remove_takes : (given : GiveBack) (answer : Removed) → RemoveEnds code given base answer tt w → RemoveTakes base.capacity given.mode base w
-  remove_takes given answer ends = by given.mode refl
-    where
-      of : (mode : ReleaseMode) → Type 0
-      of mode = RemoveTakes base.capacity mode base w
-
-      with_mode : ReleaseMode → GiveBack
-      with_mode mode = record { index = given.index; owner = given.owner; mode = mode }
-
-      -- of each mode: a remove took at most what the model says of it in this mode
-      by : (mode : ReleaseMode) → given.mode ≡ mode → of given.mode
-      by Default is =
-          subst of (sym is)
-          (takes_so ends.settled (removes_value (with_mode Default)) (omega arith)
-          (subst (λ (z : GiveBack). Ends code kinds.Container (removes_value z) ends.from answer tt w) (ap with_mode is) ends.over))
-      by LockIfLastIndex is =
-          subst of (sym is)
-          (takes_so ends.settled (removes_value (with_mode LockIfLastIndex)) (omega arith)
-          (subst (λ (z : GiveBack). Ends code kinds.Container (removes_value z) ends.from answer tt w) (ap with_mode is) ends.over))
-
-  -- A replace takes at most five operations and one for each word of the value.
-  pub replace_takes : (given : Replacement T) (answer : Replaced) → ReplaceEnds code given base answer tt w → TakesFew (5 + code.size) base w
-  replace_takes given answer ends = takes_so ends.settled (replaces_value code.size given) (omega arith) ends.over
+  -- A remove takes at most what the model says of it in its mode.
+  pub remove_takes : (index owner : ℕ) (mode : ReleaseMode) {answer : Removed}
+      → RemoveEnds code (record { index = index; owner = owner; mode = mode }) base answer tt w → RemoveTakes capacity mode base w
+  remove_takes index owner Default ends =
+      subst (λ n. RemoveTakes n Default base w) is
+      (takes_so ends.settled (removes_value (record { index = index; owner = owner; mode = Default })) (omega arith) ends.over)
+  remove_takes index owner LockIfLastIndex ends =
+      subst (λ n. RemoveTakes n LockIfLastIndex base w) is
+      (takes_so ends.settled (removes_value (record { index = index; owner = owner; mode = LockIfLastIndex })) (omega arith) ends.over)
 
   -- A count takes capacity + 2 operations alone, and as many more for each change of a word by others.
-  pub count_takes : (which : CountOf) (n : ℕ) → CountEnds code which base n tt w
-      → ContainerTakes (base.capacity + 2) (base.capacity + 2) base w
-  count_takes counts.Len n ends = takes_so ends.settled (counts_values counts.Len) (omega arith) ends.over
-  count_takes counts.IsEmpty n ends = takes_so ends.settled (counts_values counts.IsEmpty) (omega arith) ends.over
-
-  -- A call of `is_locked` takes one operation.
-  pub lock_takes : (b : Bool) → LockEnds code base b tt w → TakesFew 1 base w
-  lock_takes b ends = takes_so ends.settled sees_lock (omega arith) ends.over
+  pub count_takes : (which : CountOf) {n : ℕ} → CountEnds code which base n tt w → ContainerTakes (capacity + 2) (capacity + 2) base w
+  count_takes counts.Len ends =
+      subst (λ n. ContainerTakes (n + 2) (n + 2) base w) is (takes_so ends.settled (counts_values counts.Len) (omega arith) ends.over)
+  count_takes counts.IsEmpty ends =
+      subst (λ n. ContainerTakes (n + 2) (n + 2) base w) is (takes_so ends.settled (counts_values counts.IsEmpty) (omega arith) ends.over)
 
   -- a recovery took at most what the model says of it
-  pub recover_takes : (owner : ℕ) (mode : ReleaseMode) (state : ReleaseState) (m : Visiting T)
-      → RecoverEnds code (record { owner = owner; mode = mode }) base state m w → RecoverTakes code.size base.capacity mode base w
-  recover_takes owner Default state m ends =
-      takes_so ends.settled (recovering code (record { owner = owner; mode = Default })) (omega arith) ends.over
-  recover_takes owner LockIfLastIndex state m ends =
-      takes_so ends.settled (recovering code (record { owner = owner; mode = LockIfLastIndex })) (omega arith) ends.over
+  pub recover_takes : (owner : ℕ) (mode : ReleaseMode) {state : ReleaseState} {m : Visiting T}
+      → RecoverEnds code (record { owner = owner; mode = mode }) base state m w → RecoverTakes code.size capacity mode base w
+  recover_takes owner Default ends =
+      subst (λ n. RecoverTakes code.size n Default base w) is
+      (takes_so ends.settled (recovering code (record { owner = owner; mode = Default })) (omega arith) ends.over)
+  recover_takes owner LockIfLastIndex ends =
+      subst (λ n. RecoverTakes code.size n LockIfLastIndex base w) is
+      (takes_so ends.settled (recovering code (record { owner = owner; mode = LockIfLastIndex })) (omega arith) ends.over)
 
   -- a look of a state took at most what the model says of it
   pub look_takes : (which : LookOf) (seen : Numbers) (changed : Bool) (m : Showing T)
-      → RestedLooked code which base.capacity seen base changed m w → LookTakes code.size base.capacity base w
+      → RestedLooked code which base.capacity seen base changed m w → LookTakes code.size capacity base w
   look_takes which_looks.GetState seen changed m ends =
-      takes_so ends.settled (looking code which_looks.GetState base.capacity seen) (omega arith) ends.over.0
+      subst (λ n. LookTakes code.size n base w) is
+      (takes_so ends.settled (looking code which_looks.GetState base.capacity seen) (omega arith) ends.over.0)
   look_takes which_looks.UpdateState seen changed m ends =
-      takes_so ends.settled (looking code which_looks.UpdateState base.capacity seen) (omega arith) ends.over.0
+      subst (λ n. LookTakes code.size n base w) is
+      (takes_so ends.settled (looking code which_looks.UpdateState base.capacity seen) (omega arith) ends.over.0)
+
+module _ {T : Type 0} (code : Coding T) {base w : View T} where
+  -- A replace takes at most five operations and one for each word of the value.
+  pub replace_takes : (given : Replacement T) {answer : Replaced} → ReplaceEnds code given base answer tt w → TakesFew (5 + code.size) base w
+  replace_takes given ends = takes_so ends.settled (replaces_value code.size given) (omega arith) ends.over
+
+  -- A call of `is_locked` takes one operation.
+  pub lock_takes : {b : Bool} → LockEnds code base b tt w → TakesFew 1 base w
+  lock_takes ends = takes_so ends.settled sees_lock (omega arith) ends.over

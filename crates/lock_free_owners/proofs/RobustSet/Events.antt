@@ -2,7 +2,9 @@
 use Rattle.lock_free_owners.proofs.Names.{◌≡◌, ℕ, Bool, true, false, List, [], ◌∷◌, ◌++◌, refl, sym}
 use Rattle.lock_free_owners.proofs.Names.{ap, subst, ◌∙◌, Event, Begun, Start, BeginsNone}
 use Rattle.lock_free_owners.proofs.Names.{whose, is_party, IsBeginning}
+use Rattle.lock_free_owners.proofs.Names.{append_assoc, Answer, Finished, View, Called}
 use Rattle.history.specs.Known.{events_by}
+use Rattle.lock_free_owners.specs.Robust.Contracts.{WroteAt}
 
 module _ {T : Type 0} where
   -- The list `xs` has the event `e` at some place.
@@ -54,3 +56,33 @@ module _ {T : Type 0} (p : ℕ) (start : Start T) (since : List (Event T)) where
       let more : before ++ Begun p start ∷ since ≡ part ++ rest = cc in
       let longer = covers before part rest more none in
       record { rest = longer.rest; is = ap (λ z. z ∷ part) (sym same) ∙ ap (λ zs. e ∷ zs) longer.is }
+
+-- A list of events is a beginning of itself with more behind it.
+pub ahead : {T : Type 0} (xs ys : List (Event T)) → IsBeginning xs (xs ++ ys)
+ahead xs ys = record { rest = ys; is = refl }
+
+-- A call of party p led from the view `from`, which goes on from `base`, to w, and wrote the events `wrote`.
+module _ {T : Type 0} {p : ℕ} {start : Start T} {answer : Answer T} {wrote : List (Event T)} {base from w : View T}
+    (onward : (xs : List (Event T)) → IsBeginning base.seen (from.seen ++ xs)) (c : Called p start answer wrote from w) where
+  -- If it wrote this event, what `Before` says of the history before that held, and that history goes on from `base`.
+  pub wrote_there : (event : ℕ → Event T) (first rest : List (Event T)) → wrote ≡ first ++ event p ∷ rest → {Before : ℕ → List (Event T) → Type 0}
+      → ((before after : List (Event T)) → w.seen ≡ before ++ event p ∷ after → Before p before) → WroteAt event Before base w
+  wrote_there event first rest is held =
+      let begin : Event T = Begun p start in
+      let end : Event T = Finished p start answer in
+      let part = find_own p c.during first rest (event p) (c.during_own ∙ is) in
+      let others : List (Event T) = from.seen ++ c.others in
+      let whole : w.seen ≡ (others ++ begin ∷ part.0) ++ event p ∷ (part.1 ++ end ∷ []) =
+      c.is
+      ∙ (ap (λ ds. others ++ begin ∷ (ds ++ end ∷ [])) part.2
+      ∙ (ap (λ zs. others ++ begin ∷ zs) (append_assoc part.0 (event p ∷ part.1) (end ∷ []))
+      ∙ sym (append_assoc others (begin ∷ part.0) (event p ∷ (part.1 ++ end ∷ [])))))
+      in
+      record {
+        by = p;
+        before = others ++ begin ∷ part.0;
+        after = part.1 ++ end ∷ [];
+        is = whole;
+        since = subst (IsBeginning base.seen) (sym (append_assoc from.seen c.others (begin ∷ part.0))) (onward (c.others ++ begin ∷ part.0));
+        held = held (others ++ begin ∷ part.0) (part.1 ++ end ∷ []) whole;
+      }

@@ -1,7 +1,7 @@
 -- What contracts say of whole calls on a robust set, from what their driver knows once they have ended:
 -- what each call wrote, that its answer is right, and what it tells of the lock.
 use Rattle.lock_free_owners.proofs.Names.{◌≡◌, ◌⊎◌, ⊎_elim, ℕ, ◌+◌, ◌<◌, ◌≤◌, Bool, true, false, true≢false, None, Ok, Err}
-use Rattle.lock_free_owners.proofs.Names.{IfOk, IfErr, OnOk, List, [], ◌∷◌, ◌++◌, refl, sym, ap, ◌∙◌}
+use Rattle.lock_free_owners.proofs.Names.{IfOk, IfErr, OnOk, List, [], ◌∷◌, ◌++◌, refl, sym, ◌∙◌}
 use Rattle.lock_free_owners.proofs.Names.{append_assoc, arith, Acquired, Released, ReleaseMode, LockIfLastIndex}
 use Rattle.lock_free_owners.proofs.Names.{Default, ReleaseState, OutOfIndices, WasLocked, GiveBack, Answer, State}
 use Rattle.lock_free_owners.proofs.Names.{Event, Begun, Filled, Granted, FreedOf, Finished, Robust}
@@ -14,7 +14,7 @@ use Rattle.model.specs.declared.families.indices.robust.RobustStart.{RobustStart
 use Rattle.model.specs.declared.families.indices.robust.RobustStart.TheVariants.{Acquire, Recover}
 use Rattle.model.specs.declared.turn.Kind.TheVariants as kinds
 use Rattle.model.specs.Families.Indices.Robust.Calls.{acquire_answer, release_answer}
-use Rattle.lock_free_owners.specs.Robust.Contracts.{HasTaken, HasGiven, HasRecovered, HasCounted, HasLooked, WroteAt}
+use Rattle.lock_free_owners.specs.Robust.Contracts.{HasTaken, HasGiven, HasRecovered, HasCounted, HasLooked}
 use Rattle.lock_free_owners.specs.Robust.Contracts.{WasFilled, WasGranted, WasFreed, IsSound, Answered, WasRefused}
 use Rattle.lock_free_owners.specs.Robust.Contracts.{HasReleased, FoundLock, FoundState, OnlyLooked}
 use Rattle.lock_free_owners.specs.Robust.Contracts.{IsRightRelease, IsRightRecovery, IsRightCount, IsRightLook}
@@ -34,7 +34,7 @@ use Rattle.lock_free_owners.proofs.Worn.Laws.{worn_set}
 use Rattle.history.proofs.Known.{begins_further}
 use Rattle.history.proofs.OneRun.{first_further}
 use Rattle.history.proofs.Locks.{lock_stays, not_locked}
-use Rattle.lock_free_owners.proofs.RobustSet.Events.{find_own}
+use Rattle.lock_free_owners.proofs.RobustSet.Events.{ahead, wrote_there}
 
 -- what an answer says, in the words of the laws
 abbrev pub AnsweredBy : RobustStart → Answer ℕ → View ℕ → View ℕ → Type 0
@@ -54,29 +54,6 @@ module _ (base w : View ℕ) (h : IsHistory one_word kinds.Robust base.capacity 
     -- The end of the call.
     abbrev last : Event ℕ
     last = Finished p (Robust start) answer
-
-    -- what was so when it wrote this event
-    pub wrote_at : (event : ℕ → Event ℕ) (first rest : List (Event ℕ)) → wrote ≡ first ++ event p ∷ rest
-        → {Before : ℕ → List (Event ℕ) → Type 0}
-        → ((before after : List (Event ℕ)) → w.seen ≡ before ++ event p ∷ after → Before p before)
-        → WroteAt event Before base w
-    wrote_at event first rest is held =
-        let part = find_own p c.during first rest (event p) (c.during_own ∙ is) in
-        let others : List (Event ℕ) = base.seen ++ c.others in
-        let whole : w.seen ≡ (others ++ begin ∷ part.0) ++ event p ∷ (part.1 ++ last ∷ []) =
-        c.is
-        ∙ (ap (λ ds. others ++ begin ∷ (ds ++ last ∷ [])) part.2
-        ∙ (ap (λ zs. others ++ begin ∷ zs) (append_assoc part.0 (event p ∷ part.1) (last ∷ []))
-        ∙ sym (append_assoc others (begin ∷ part.0) (event p ∷ (part.1 ++ last ∷ [])))))
-        in
-        record {
-          by = p;
-          before = others ++ begin ∷ part.0;
-          after = part.1 ++ last ∷ [];
-          is = whole;
-          since = record { rest = c.others ++ begin ∷ part.0; is = append_assoc base.seen c.others (begin ∷ part.0) };
-          held = held (others ++ begin ∷ part.0) (part.1 ++ last ∷ []) whole;
-        }
 
     -- the last answer, and what stood before it
     pub answered_by : AnsweredBy start answer base w
@@ -135,7 +112,7 @@ module _ (base w : View ℕ) (m : Unit {0}) (idle : base.going ≡ None) where
     filled (Err e) ends = tt
     filled (Ok index) ends =
         let t = taken (Ok index) ends in
-        wrote_at base w ends.history t.called (λ by. Filled by index owner) []
+        wrote_there (ahead base.seen) t.called (λ by. Filled by index owner) []
         (Granted t.by index owner ∷ []) t.tells.1
         (λ before after is. (let does_it = (sound base w ends.history).does before after (Filled t.by index owner) is in (does_it.0, does_it.1, does_it.3)))
 
@@ -143,7 +120,7 @@ module _ (base w : View ℕ) (m : Unit {0}) (idle : base.going ≡ None) where
     granted_so : (index : ℕ) → Ends one_word kinds.Robust (takes_owned owner) base (Ok index) m w → WasGranted index owner base w
     granted_so index ends =
         let t = taken (Ok index) ends in
-        wrote_at base w ends.history t.called (λ by. Granted by index owner)
+        wrote_there (ahead base.seen) t.called (λ by. Granted by index owner)
         (Filled t.by index owner ∷ []) [] t.tells.1
         (λ before after is. (
           ((sound base w ends.history).does before after (Granted t.by index owner) is).0,
@@ -216,7 +193,7 @@ module _ (base w : View ℕ) (m : Unit {0}) (idle : base.going ≡ None) where
         → (given mode (Ok state) ends).wrote ≡ FreedOf (given mode (Ok state) ends).by index owner ∷ rest → WasFreed index owner base w
     freed_so mode state rest ends is =
         let t = given mode (Ok state) ends in
-        wrote_at base w ends.history t.called (λ by. FreedOf by index owner) [] rest is
+        wrote_there (ahead base.seen) t.called (λ by. FreedOf by index owner) [] rest is
         (λ before after at. ((sound base w ends.history).does before after (FreedOf t.by index owner) at).0)
 
     -- a release that answers a state has freed its index

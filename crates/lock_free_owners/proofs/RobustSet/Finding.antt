@@ -38,11 +38,6 @@ module _ (c : Find) (cap : ℕ) (is : c.capacity ≡ cap) where
       → GoesDown cap (find_left cap (finds.LoadsCell first so_many)) (find_takes c (finds.LoadsCell index found) owner k)
   load_down so_many found owner k first_up_to_index index_below_cap = grind (arith, by_eq, find_left, at_find, one_more, find_comes_to, comes_down)
 
-  -- An answer of the closure leaves a find fewer steps than it had at its question.
-  pub ask_down : (index found owner : ℕ) (answer : CallbackProgression) → index < cap
-      → GoesDown cap (find_left cap (finds.Asks index found)) (find_takes c (finds.Asks index found) owner (says answer))
-  ask_down index found owner answer index_below_cap = grind (arith, comes_down)
-
 -- A find of a robust set: its closure, the set and the owner, and the view in which it began.
 pub record FindCase (F : Type 0) : Type 1 where
   -- how the closure answers when it is called with an index, and what becomes of it

@@ -6,77 +6,24 @@ use Rattle.std.proofs.lemmas.Bool.{cases_eq}
 use Rattle.std.proofs.lemmas.List.Sums.{sum_by-append}
 use Rattle.steps.specs.Indices.Robust.Parts.{locked}
 use Rattle.steps.specs.declared.indices.enums.ReleaseMode.{ReleaseMode}
-use Rattle.steps.specs.declared.indices.enums.ReleaseMode.TheVariants.{Default, LockIfLastIndex}
-use Rattle.steps.specs.declared.container.recover.RecoverStage.{RecoverStage}
-use Rattle.steps.specs.declared.container.recover.RecoverStage.TheVariants as container_recovers
-use Rattle.steps.specs.declared.container.remove.RemoveStage.{RemoveStage}
-use Rattle.steps.specs.declared.container.remove.RemoveStage.TheVariants as removes
-use Rattle.steps.specs.declared.indices.robust.recover.RecoverStage as recovers
-use Rattle.steps.specs.declared.indices.robust.release.ReleaseStage.{ReleaseStage}
-use Rattle.steps.specs.declared.indices.robust.release.ReleaseStage.TheVariants as releases
 use Rattle.model.specs.declared.event.Answer.{Answer}
 use Rattle.model.specs.declared.event.Event.{Event}
 use Rattle.model.specs.declared.event.Start.{Start}
 use Rattle.model.specs.declared.families.Flight.{Flight}
 use Rattle.model.specs.declared.families.Flight.TheVariants as flights
-use Rattle.model.specs.declared.families.container.calls.ContainerFlight.{ContainerFlight}
-use Rattle.model.specs.declared.families.container.calls.ContainerFlight.TheVariants as container_calls
-use Rattle.model.specs.declared.families.indices.robust.calls.RobustFlight.{RobustFlight}
-use Rattle.model.specs.declared.families.indices.robust.calls.RobustFlight.TheVariants as robust_calls
 use Rattle.model.specs.Turns.{ending_of}
 use Rattle.model.specs.World.{Trace, flight_in}
 use Rattle.laws_indices.proofs.Sums.{sum_below, sum_moved, sum_longer}
 use Rattle.lock_free_owners.specs.Worn.{change, changes}
 use Rattle.laws_robust.proofs.Counter.{tested}
-use Rattle.lock_free_owners.proofs.Worn.Parts.{locks_in, lock_late_most, release_late, counts_move}
+use Rattle.lock_free_owners.proofs.Worn.Parts.{locks_in, lock_late_most, counts_move}
 use Rattle.laws_robust.proofs.Counter.{counter_of}
-use Rattle.lock_free_owners.proofs.Worn.RobustPays.{late_in, late_in_most, recover_late, robust_credit, robust_late, robust_locks}
-use Rattle.lock_free_owners.proofs.Worn.ContainerPays.{remove_late, container_credit, container_late, container_locks}
-use Rattle.lock_free_owners.proofs.Worn.ContainerPays as container
-
--- ---- ---- a call that may not lock is not late, and any call is late by 1 at most
+use Rattle.lock_free_owners.proofs.Worn.RobustPays.{late_in, late_in_most, robust_credit, robust_late, robust_locks}
+use Rattle.lock_free_owners.proofs.Worn.ContainerPays.{container_credit, container_late, container_locks}
 
 -- In a mode that does not lock, a call is late by 0.
 late_by_mode : (mode : ReleaseMode) (n : ℕ) → locks_in mode ≡ false → late_in mode n ≡ 0
-late_by_mode Default n e = refl
-late_by_mode LockIfLastIndex n e = absurd (cc)
-
--- a call of a robust set that may not lock is not late
-robust_not_late : (n : ℕ) (flight : RobustFlight) → robust_locks flight ≡ false → robust_late n flight ≡ 0
-robust_not_late n (robust_calls.Release run) e = late_by_mode run.given.mode (release_late n run.call.stage) e
-robust_not_late n (robust_calls.Recover run) e = late_by_mode run.given (recover_late n run.call.stage) e
-robust_not_late n (robust_calls.Acquire run) e = refl
-robust_not_late n (robust_calls.Find run) e = refl
-robust_not_late n (robust_calls.BorrowedIndices run) e = refl
-robust_not_late n (robust_calls.IsLocked run) e = refl
-
--- A release of a robust set is late by 1 at most.
-release_late_most : (n : ℕ) (stage : ReleaseStage) → release_late n stage ≤ 1
-release_late_most n (releases.Locks lock) = lock_late_most n lock
-release_late_most n stage = omega arith
-
--- A remove is late by 1 at most.
-remove_late_most : (n : ℕ) (stage : RemoveStage) → remove_late n stage ≤ 1
-remove_late_most n (removes.Releases count stage) = release_late_most n stage
-remove_late_most n stage = omega arith
-
--- A recovery of a robust set is late by 1 at most.
-recover_late_most : (n : ℕ) (stage : recovers.RecoverStage) → recover_late n stage ≤ 1
-recover_late_most n (recovers.TheVariants.Locks index lock) = lock_late_most n lock
-recover_late_most n stage = omega arith
-
--- A recovery of a container is late by 1 at most.
-container_recover_late_most : (n : ℕ) (stage : RecoverStage) → container.recover_late n stage ≤ 1
-container_recover_late_most n (container_recovers.Locks index lock) = lock_late_most n lock
-container_recover_late_most n stage = omega arith
-
--- a call of a robust set is late by 1 at most
-robust_late_once : (n : ℕ) (flight : RobustFlight) → robust_late n flight ≤ 1
-robust_late_once n (robust_calls.Release run) =
-    let most = release_late_most n run.call.stage in let less = late_in_most run.given.mode (release_late n run.call.stage) in omega arith
-robust_late_once n (robust_calls.Recover run) =
-    let most = recover_late_most n run.call.stage in let less = late_in_most run.given (recover_late n run.call.stage) in omega arith
-robust_late_once n flight = omega arith
+late_by_mode mode n e = grind arith
 
 -- ---- a call of any family
 
@@ -114,48 +61,21 @@ module _ {T : Type 0} where
   locks_of None = false
   locks_of (Some flight) = locks flight
 
-  -- a call of a container that may not lock is not late
-  container_not_late : (n : ℕ) (flight : ContainerFlight T) → container_locks flight ≡ false → container_late n flight ≡ 0
-  container_not_late n (container_calls.Remove run) e = late_by_mode run.given.mode (remove_late n run.call.stage) e
-  container_not_late n (container_calls.Recover run) e = late_by_mode run.given.mode (container.recover_late n run.call.stage) e
-  container_not_late n (container_calls.Add run) e = refl
-  container_not_late n (container_calls.Replace run) e = refl
-  container_not_late n (container_calls.Find run) e = refl
-  container_not_late n (container_calls.Look which call) e = refl
-  container_not_late n (container_calls.Count which run) e = refl
-  container_not_late n (container_calls.IsLocked run) e = refl
-
   -- A call that may not lock is not late.
   not_late : (n : ℕ) (flight : Flight T) → locks flight ≡ false → late n flight ≡ 0
-  not_late n (flights.Robust flight) e = robust_not_late n flight e
-  not_late n (flights.Container flight) e = container_not_late n flight e
-  not_late n flight e = refl
+  not_late n flight e = grind (arith, late_by_mode)
 
   -- a party whose call may not lock, or that has none, is not late
   pub none_late : (n : ℕ) (o : Option (Flight T)) → locks_of o ≡ false → late_of n o ≡ 0
-  none_late n None e = refl
-  none_late n (Some flight) e = not_late n flight e
-
-  -- a call of a container is late by 1 at most
-  container_late_once : (n : ℕ) (flight : ContainerFlight T) → container_late n flight ≤ 1
-  container_late_once n (container_calls.Remove run) =
-      let most = remove_late_most n run.call.stage in let less = late_in_most run.given.mode (remove_late n run.call.stage) in omega arith
-  container_late_once n (container_calls.Recover run) =
-      let most = container_recover_late_most n run.call.stage in
-      let less = late_in_most run.given.mode (container.recover_late n run.call.stage) in
-      omega arith
-  container_late_once n flight = omega arith
+  none_late n o e = grind (arith, not_late)
 
   -- A call is late by 1 at most.
   late_once : (n : ℕ) (flight : Flight T) → late n flight ≤ 1
-  late_once n (flights.Robust flight) = robust_late_once n flight
-  late_once n (flights.Container flight) = container_late_once n flight
-  late_once n flight = omega arith
+  late_once n flight = grind (arith, lock_late_most, late_in_most)
 
   -- no party is late by more than 1
   pub late_most : (n : ℕ) (o : Option (Flight T)) → late_of n o ≤ 1
-  late_most n None = omega arith
-  late_most n (Some flight) = late_once n flight
+  late_most n o = grind (arith, late_once)
 
   -- ---- what all calls have
 
@@ -206,8 +126,7 @@ module _ {T : Type 0} where
 
   -- The end of a call is no change.
   pub ends_none : (p : ℕ) (start : Start T) (o : Option (Answer T)) → changes (ending_of p start o) ≡ 0
-  ends_none p start None = refl
-  ends_none p start (Some answer) = refl
+  ends_none p start o = grind arith
 
   -- the turn of party p leads from old to new, and writes es; before and after are the credits of
   -- all calls together

@@ -1,14 +1,12 @@
 -- The generation counter of a container is at its end only after at least a third of 2^64 - 2 changes.
 use Rattle.std.proofs.Common.{◌≡◌, ℕ, ◌<◌, ◌==◌, Bool, true, false, Option, Some, None, option_map, if◌then◌else◌}
-use Rattle.std.proofs.Common.{nat_lt, List, length, refl, sym, ap, subst, ◌∙◌, arith}
+use Rattle.std.proofs.Common.{List, length, refl, sym, ap, subst, ◌∙◌, arith}
 use Rattle.steps.specs.Indices.Robust.Parts.{locked}
 use Rattle.steps.specs.declared.ask.After.{After}
-use Rattle.steps.specs.declared.ask.After.TheVariants.{GoOn, Done}
 use Rattle.steps.specs.declared.ask.Ask.{Ask}
 use Rattle.steps.specs.declared.container.state.ContainerState.{ContainerState}
 use Rattle.steps.specs.Container.Remove.{first_remove}
 use Rattle.steps.specs.declared.indices.enums.ReleaseMode.{ReleaseMode}
-use Rattle.steps.specs.declared.indices.enums.ReleaseMode.TheVariants.{Default, LockIfLastIndex}
 use Rattle.model.specs.declared.event.Answer.{Answer}
 use Rattle.model.specs.declared.event.Start.{Start}
 use Rattle.model.specs.declared.event.Start.TheVariants.{Container}
@@ -17,7 +15,6 @@ use Rattle.model.specs.declared.families.Flight.TheVariants as flights
 use Rattle.model.specs.declared.families.Registry.{Registry}
 use Rattle.model.specs.declared.families.Registry.TheVariants as registries
 use Rattle.model.specs.declared.families.container.ContainerStart.{ContainerStart}
-use Rattle.model.specs.declared.families.container.ContainerStart.TheVariants as starts
 use Rattle.model.specs.declared.families.container.calls.ContainerFlight.{ContainerFlight}
 use Rattle.model.specs.declared.party.Doing.{Doing}
 use Rattle.model.specs.declared.party.Doing.TheVariants.{Going, Over}
@@ -27,8 +24,7 @@ use Rattle.model.specs.declared.turn.Turn.{Turn}
 use Rattle.model.specs.Coding.{Coding}
 use Rattle.model.specs.Families.{first_of, want_of, ask_of, is_question, beside_of, step_of}
 use Rattle.model.specs.Families.Indices.Reading.{is_locked}
-use Rattle.model.specs.Families.Container.Calls.{first, place_of, want, after}
-use Rattle.model.specs.Families.Container.Opening.{names_owner}
+use Rattle.model.specs.Families.Container.Calls.{first, want, after}
 use Rattle.model.specs.Families.Container.Reading.{Act, acts_of}
 use Rattle.model.specs.Families.Container.States.{state_of}
 use Rattle.model.specs.Families.Container.Steps as calls
@@ -64,23 +60,13 @@ use Rattle.lock_free_owners.proofs.Worn.Turns.{left, SameLocks, PaysBy, BeginPay
 pub some_same : {A : Type 0} (x y : A) → Some x ≡ Some y → x ≡ y
 some_same x y e = cc
 
--- a remove at its first stage has no credit; the cases are whether its index is below the capacity
+-- a remove at its first stage has no credit
 first_credit : (c index : ℕ) (mode : ReleaseMode) → remove_credit mode (first_remove c index).stage ≡ 0
-first_credit c index mode = go (nat_lt index c) refl
-  where
-    -- the cases are whether the index is below the capacity
-    go : (t : Bool) → nat_lt index c ≡ t → remove_credit mode (first_remove c index).stage ≡ 0
-    go true t = rw t refl
-    go false t = rw t refl
+first_credit c index mode = grind arith
 
 -- a remove at its first stage is not late
 first_late : (n c index : ℕ) → remove_late n (first_remove c index).stage ≡ 0
-first_late n c index = go (nat_lt index c) refl
-  where
-    -- the cases are whether the index is below the capacity
-    go : (t : Bool) → nat_lt index c ≡ t → remove_late n (first_remove c index).stage ≡ 0
-    go true t = rw t refl
-    go false t = rw t refl
+first_late n c index = grind arith
 
 module _ {T : Type 0} (code : Coding T) where
   -- ---- a step, as one of any family
@@ -91,13 +77,11 @@ module _ {T : Type 0} (code : Coding T) where
 
   -- What it can still add is the same, read as a call of any structure.
   same_left : (new : ℕ) (a : After (ContainerFlight T) (Answer T)) → left new (any_call a) ≡ container_left new a
-  same_left new (GoOn flight) = refl
-  same_left new (Done answer) = refl
+  same_left new a = grind arith
 
   -- Whether it may lock is the same, read as a call of any structure.
   same_locks : (may : Bool) (a : After (ContainerFlight T) (Answer T)) → SameMode may a → SameLocks may (any_call a)
-  same_locks may (GoOn flight) h = h
-  same_locks may (Done answer) h = tt
+  same_locks may a h = grind arith
 
   -- A step of a call of a container, read as a step of any structure.
   abbrev any_step : ℕ → ContainerFlight T → ℕ → List ℕ → List (ℕ × ContainerState T) → Step (Flight T) (Registry T) T
@@ -142,37 +126,17 @@ module _ {T : Type 0} where
   -- as it begins, a call has no more credit than its begin is good for, and may lock only if its
   -- name says so
   begins_so : (n c p : ℕ) (start : ContainerStart T) → BeginPays n p (Container start) (flights.Container (first c start))
-  begins_so n c p (starts.Add value owner) = record { pays = omega arith; mode = λ e. absurd (cc) }
-  begins_so n c p (starts.Remove index owner Default) =
-      record { pays = (let none = first_credit c (place_of c index) Default in omega arith); mode = λ e. absurd (cc) }
-  begins_so n c p (starts.Remove index owner LockIfLastIndex) =
-      record {
-        pays =
-            (let none = first_credit c (place_of c index) LockIfLastIndex in let also = first_late n c (place_of c index) in omega arith);
-        mode = λ e. refl;
-      }
-  begins_so n c p (starts.Replace index value owner) = record { pays = omega arith; mode = λ e. absurd (cc) }
-  begins_so n c p (starts.Find owner) = record { pays = omega arith; mode = λ e. absurd (cc) }
-  begins_so n c p (starts.Recover owner Default) = record { pays = omega arith; mode = λ e. absurd (cc) }
-  begins_so n c p (starts.Recover owner LockIfLastIndex) = record { pays = omega arith; mode = λ e. refl }
-  begins_so n c p starts.GetState = record { pays = omega arith; mode = λ e. absurd (cc) }
-  begins_so n c p starts.UpdateState = record { pays = omega arith; mode = λ e. absurd (cc) }
-  begins_so n c p starts.Len = record { pays = omega arith; mode = λ e. absurd (cc) }
-  begins_so n c p starts.IsEmpty = record { pays = omega arith; mode = λ e. absurd (cc) }
-  begins_so n c p starts.IsLocked = record { pays = omega arith; mode = λ e. absurd (cc) }
+  begins_so n c p start = grind (arith, first_credit, first_late)
 
   -- where a begin is admitted, its call has no more than the begin pays for
   begins_by : (n c p : ℕ) (start : ContainerStart T) (flight : Flight T) (b : Bool)
       → option_map flights.Container (if b then Some (first c start) else None) ≡ Some flight → BeginPays n p (Container start) flight
-  begins_by n c p start flight true e =
-      subst (BeginPays n p (Container start)) (some_same (flights.Container (first c start)) flight e) (begins_so n c p start)
-  begins_by n c p start flight false e = absurd (cc)
+  begins_by n c p start flight b e = grind (arith, begins_so)
 
   -- Each call that the machine of a container begins has no more than its begin pays for.
   begins_any : (n c p : ℕ) (start : Start T) (kept : Registry T) (flight : Flight T) → first_of kinds.Container c start kept ≡ Some flight
       → BeginPays n p start flight
-  begins_any n c p (Container start) kept flight e = begins_by n c p start flight (names_owner start) e
-  begins_any n c p start kept flight e = absurd (cc)
+  begins_any n c p start kept flight e = grind (arith, begins_by)
 
 module _ {T : Type 0} (code : Coding T) (c : ℕ) where
   -- The terms of the laws of any open run: an owner is gone by a recovery's word too, and steps for the

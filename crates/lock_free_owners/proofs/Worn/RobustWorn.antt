@@ -1,11 +1,9 @@
 -- The generation counter of a robust index set is at its end only after at least a third of 2^64 - 2 changes.
-use Rattle.std.proofs.Common.{◌≡◌, ◌≢◌, ℕ, ◌-◌, ◌*◌, ◌^◌, ◌<◌, ◌≤◌, ◌==◌, Bool, true, false, Option, Some, None}
+use Rattle.std.proofs.Common.{◌≡◌, ◌≢◌, ℕ, ◌-◌, ◌*◌, ◌^◌, ◌<◌, ◌≤◌, ◌==◌, Bool, true, Option, Some, None}
 use Rattle.std.proofs.Common.{option_map, if◌then◌else◌, List, length, refl, sym, ap, subst, ◌∙◌, arith}
 use Rattle.steps.specs.Indices.Robust.Parts.{locked, greatest}
 use Rattle.steps.specs.declared.ask.After.{After}
-use Rattle.steps.specs.declared.ask.After.TheVariants.{GoOn, Done}
 use Rattle.steps.specs.declared.ask.Ask.{Ask}
-use Rattle.steps.specs.declared.indices.enums.ReleaseMode.TheVariants.{Default, LockIfLastIndex}
 use Rattle.model.specs.declared.event.Answer.{Answer}
 use Rattle.model.specs.declared.event.Start.{Start}
 use Rattle.model.specs.declared.event.Start.TheVariants.{Robust}
@@ -14,7 +12,6 @@ use Rattle.model.specs.declared.families.Flight.TheVariants as flights
 use Rattle.model.specs.declared.families.Registry.{Registry}
 use Rattle.model.specs.declared.families.Registry.TheVariants as registries
 use Rattle.model.specs.declared.families.indices.robust.RobustStart.{RobustStart}
-use Rattle.model.specs.declared.families.indices.robust.RobustStart.TheVariants as starts
 use Rattle.model.specs.declared.families.indices.robust.calls.RobustFlight.{RobustFlight}
 use Rattle.model.specs.declared.party.Doing.{Doing}
 use Rattle.model.specs.declared.party.Doing.TheVariants.{Going, Over}
@@ -25,7 +22,6 @@ use Rattle.model.specs.Families.{first_of, want_of, ask_of, is_question, beside_
 use Rattle.model.specs.Families.Indices.Reading.{is_locked}
 use Rattle.model.specs.Families.Indices.Robust.Calls.{first, want, after}
 use Rattle.model.specs.Families.Indices.Robust.Reading.{SetAct, set_acts_of}
-use Rattle.model.specs.Families.Indices.Robust.Opening.{names_owner}
 use Rattle.model.specs.Families.Indices.Robust.Steps as set
 use Rattle.model.specs.Parties.{party_of, doing_of, flight_of}
 use Rattle.model.specs.Reading.{span_of}
@@ -49,10 +45,6 @@ use Rattle.lock_free_owners.proofs.Worn.RobustCalls.{robust_stands, robust_may}
 use Rattle.lock_free_owners.proofs.Worn.Bounded.{Bounded, locks_of, counter}
 use Rattle.lock_free_owners.proofs.Worn.Turns.{left, SameLocks, PaysBy, BeginPays, Facts, run_bounded, opening_bounded}
 
--- Equal options have equal values.
-some_same : {A : Type 0} (x y : A) → Some x ≡ Some y → x ≡ y
-some_same x y e = cc
-
 module _ {T : Type 0} where
   -- ---- a step, as one of any family
 
@@ -62,13 +54,11 @@ module _ {T : Type 0} where
 
   -- What it can still add is the same, read as a call of any structure.
   same_left : (new : ℕ) (a : After RobustFlight (Answer T)) → left new (any_call a) ≡ robust_left new a
-  same_left new (GoOn flight) = refl
-  same_left new (Done answer) = refl
+  same_left new a = grind arith
 
   -- Whether it may lock is the same, read as a call of any structure.
   same_locks : (may : Bool) (a : After RobustFlight (Answer T)) → SameMode may a → SameLocks may (any_call a)
-  same_locks may (GoOn flight) h = h
-  same_locks may (Done answer) h = tt
+  same_locks may a h = grind arith
 
   -- A step of a call of a robust set, read as a step of any structure.
   abbrev set_step : ℕ → RobustFlight → ℕ → List ℕ → Step (Flight T) (Registry T) T
@@ -106,27 +96,17 @@ module _ {T : Type 0} where
 
   -- Each call of a robust index set, as it begins, has no more steps at the counter than its begin pays for.
   begins_so : (n c p : ℕ) (start : RobustStart) → BeginPays {T = T} n p (Robust start) (flights.Robust (first c start))
-  begins_so n c p (starts.Acquire owner) = record { pays = omega arith; mode = λ e. absurd (cc) }
-  begins_so n c p (starts.Release index owner Default) = record { pays = omega arith; mode = λ e. absurd (cc) }
-  begins_so n c p (starts.Release index owner LockIfLastIndex) = record { pays = omega arith; mode = λ e. refl }
-  begins_so n c p (starts.Find owner) = record { pays = omega arith; mode = λ e. absurd (cc) }
-  begins_so n c p (starts.Recover Default) = record { pays = omega arith; mode = λ e. absurd (cc) }
-  begins_so n c p (starts.Recover LockIfLastIndex) = record { pays = omega arith; mode = λ e. refl }
-  begins_so n c p starts.BorrowedIndices = record { pays = omega arith; mode = λ e. absurd (cc) }
-  begins_so n c p starts.IsLocked = record { pays = omega arith; mode = λ e. absurd (cc) }
+  begins_so n c p start = grind arith
 
   -- where a begin is admitted, its call has no more than the begin pays for
   begins_by : (n c p : ℕ) (start : RobustStart) (flight : Flight T) (b : Bool)
       → option_map flights.Robust (if b then Some (first c start) else None) ≡ Some flight → BeginPays n p (Robust start) flight
-  begins_by n c p start flight true e =
-      subst (BeginPays n p (Robust start)) (some_same (flights.Robust (first c start)) flight e) (begins_so n c p start)
-  begins_by n c p start flight false e = absurd (cc)
+  begins_by n c p start flight b e = grind (arith, begins_so)
 
   -- Each call that the machine of a robust set begins has no more than its begin pays for.
   begins_any : (n c p : ℕ) (start : Start T) (kept : Registry T) (flight : Flight T) → first_of kinds.Robust c start kept ≡ Some flight
       → BeginPays n p start flight
-  begins_any n c p (Robust start) kept flight e = begins_by n c p start flight (names_owner start) e
-  begins_any n c p start kept flight e = absurd (cc)
+  begins_any n c p start kept flight e = grind (arith, begins_by)
 
 module _ {T : Type 0} (code : Coding T) (c : ℕ) where
   -- the machine keeps the laws of robust sets

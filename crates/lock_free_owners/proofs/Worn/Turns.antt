@@ -52,8 +52,7 @@ module _ {T : Type 0} where
 
   -- The flight behind a step is the one with which the call goes on, if it does.
   doing_is : (changes since : ℕ) (a : After (Flight T) (Answer T)) → flight_of (Some (doing_after changes since a)) ≡ flight_after a
-  doing_is changes since (GoOn flight) = refl
-  doing_is changes since (Done answer) = refl
+  doing_is changes since a = grind arith
 
   -- credit and late of the call after a step, 0 where the step ended it
   abbrev pub left : ℕ → After (Flight T) (Answer T) → ℕ
@@ -62,8 +61,7 @@ module _ {T : Type 0} where
 
   -- The credit of the call behind a step, and what it is late by, are what it has left.
   left_is : (new : ℕ) (a : After (Flight T) (Answer T)) → credit_of (flight_after a) + late_of new (flight_after a) ≡ left new a
-  left_is new (GoOn flight) = refl
-  left_is new (Done answer) = refl
+  left_is new a = grind arith
 
   -- a call that goes on may lock just if it could before
   abbrev pub SameLocks : Bool → After (Flight T) (Answer T) → Type 0
@@ -72,8 +70,7 @@ module _ {T : Type 0} where
 
   -- where a step goes on as a call that may lock, its call was one that may lock
   lock_from : (may : Bool) (a : After (Flight T) (Answer T)) → SameLocks may a → locks_of (flight_after a) ≡ true → may ≡ true
-  lock_from may (GoOn flight) same e = sym same ∙ e
-  lock_from may (Done answer) same e = absurd (cc)
+  lock_from may a same e = grind arith
 
   -- ---- what a step keeps to
 
@@ -204,10 +201,7 @@ module _ {T : Type 0} where
   -- a counter that is not locked after further events was not locked before them
   pub opens_by : (t new : Trace T) (es : List (Event T)) → new.events ≡ t.events ++ es
       → (counter t == locked) ≡ is_locked t.events → (counter new == locked) ≡ is_locked new.events → counter new ≢ locked → counter t ≢ locked
-  opens_by t new es is before after open_now shut =
-      let was : is_locked t.events ≡ true = sym before ∙ eq-eqb (counter t) locked shut in
-      let now : is_locked new.events ≡ true = ap is_locked is ∙ locked_later t.events es was in
-      open_now (tested (counter new) locked (after ∙ now))
+  opens_by t new es is before after open_now shut = grind (arith, eq-eqb, locked_later, tested)
 
   module _ (t : Trace T) (facts : Facts t) (b : Bounded t) where
     -- a call that goes on from this answer; one that is done stays

@@ -13,7 +13,6 @@ use Rattle.lock_free_queues.proofs.Names.{length_start, counts_waiting, takes_ro
 use Rattle.lock_free_queues.proofs.Names.{opened, Ends, Over, first_view, Looks, called, queue_goes_on, role_by}
 use Rattle.lock_free_queues.proofs.Names.{IsAll, Item, Value, Kind, Coding, producer_of, machine_kind, Ring}
 use Rattle.lock_free_queues.proofs.Names.{of_indices, of_values, kind_of, Goes}
-use Rattle.history.specs.History.{Knows}
 use Rattle.model.specs.declared.event.Answer.TheVariants.{Done}
 use Rattle.model.specs.declared.families.queues.calls.LengthOf.TheVariants as measures
 use Rattle.model.specs.Families.Queues.Promises.{IsQueue}
@@ -258,112 +257,124 @@ module _ {T : Type 0} (code : Coding T) (kd : QueueKind) where
       none_looked (queue_role role) (one_holder role) by_this_party.0 base.seen looks.mine.rest w.seen looks.mine.is
       (by_its_holder code base.capacity w.seen kd role only h) (looks.apart alone some by_this_party.0 by_this_party.1) by_this_party.2
 
-  module _ (base w : View T) (idle : base.going ≡ None) where
-    -- ---- lengths
+-- ---- the end of a call
 
-    -- An answer of a call on the length is the one by the items that waited at some moment of that call.
-    stood_as : (which : LengthOf) (p c : ℕ) (answer : Answer T) (xs : List (Event T))
-        → TellsLength c xs (Finished p (Queues (length_start which)) answer)
-        → HeldSometime p (λ part. answer ≡ length_answer which c (length (waiting part))) xs
-    stood_as which p c answer xs tells_length = grind arith
+module _ {T : Type 0} {p : ℕ} {start : Start T} {answer : Answer T} {wrote : List (Event T)} {old new : View T}
+    (c : Called p start answer wrote old new) where
+  -- what was seen before the end of the call
+  abbrev pub before_end : List (Event T)
+  before_end = (old.seen ++ c.others) ++ Begun p start ∷ c.during
 
-    -- a call on lengths that has ended answers that of the number that waited at one moment of the call
-    pub measured : (which : LengthOf) (n : ℕ) (m : Unit {0})
-        → Ends code (machine_kind kd) (counts_waiting which base.capacity) base n m w
-        → HasMeasured which base.capacity (length_answer which base.capacity n) base w
-    measured which n m ends =
-        let party_now = ends.party in
-        let start : Start T = Queues (length_start which) in
-        let answer : Answer T = length_answer which base.capacity n in
-        let called_once = called code (machine_kind kd) (counts_waiting which base.capacity) base w n m idle ends in
-        let its_call : Called party_now start answer [] base w = subst (λ es. Called party_now start answer es base w) ends.tells called_once in
-        let events_then : List (Event T) = (base.seen ++ its_call.others) ++ Begun party_now start ∷ its_call.during in
-        let last : Event T = Finished party_now start answer in
-        let is : w.seen ≡ events_then ++ last ∷ [] =
-        its_call.is ∙ sym (append_assoc (base.seen ++ its_call.others) (Begun party_now start ∷ its_call.during) (last ∷ [])) in
-        let h = ends.history in
-        -- By the laws the answer is that of the number that waited at some moment of the call.
-        let told : TellsLength base.capacity events_then last =
-        subst (λ k. TellsLength k events_then last) h.run.sized ((promised code kd base.capacity w.seen h).lengths events_then [] last (sym h.is ∙ is)) in
-        record {
-          by = party_now;
-          mine = ends.mine;
-          called = its_call;
-          before = events_then;
-          is = is;
-          stood = stood_as which party_now base.capacity answer events_then told;
-        }
+  -- What is seen behind the call ends with its end.
+  pub to_end : new.seen ≡ before_end ++ Finished p start answer ∷ []
+  to_end = c.is ∙ sym (append_assoc (old.seen ++ c.others) (Begun p start ∷ c.during) (Finished p start answer ∷ []))
 
-    -- the length that a call answers is at most as many values as can wait
-    pub few : (which : LengthOf) → which ≡ measures.Len → (n : ℕ) (m : Unit {0})
-        → Ends code (machine_kind kd) (counts_waiting which base.capacity) base n m w
-        → n ≤ most_waiting kd base.capacity
-    few measures.IsEmpty is n m ends = absurd (cc)
-    few measures.IsFull is n m ends = absurd (cc)
-    few measures.Len is n m ends =
-        let told = measured measures.Len n m ends in
-        let stood = told.stood in
-        let same : n ≡ length (waiting stood.part) = (let e = stood.held in cc) in
-        let last : Event T = Finished told.by (Queues (length_start measures.Len)) (length_answer measures.Len base.capacity n) in
-        let is : w.seen ≡ stood.part ++ (stood.rest ++ last ∷ []) =
-        told.is ∙ (ap (λ xs. xs ++ last ∷ []) stood.is ∙ append_assoc stood.part stood.rest (last ∷ [])) in
-        omega (arith, (listed_always code base.capacity w.seen kd ends.history stood.part (stood.rest ++ last ∷ []) is).few)
+-- ---- lengths
 
-    -- An acquire of a role that has ended is a call of the history with its answer.
-    pub acquired : (role : Role) (taken : Bool) (m : Unit {0}) → Ends code (machine_kind kd) (takes_role role) base taken m w → HasAcquired role taken base w
-    acquired role taken m ends = grind (arith, called)
+-- An answer of a call on the length is the one by the items that waited at some moment of that call.
+stood_as : {T : Type 0} (which : LengthOf) (p c : ℕ) (answer : Answer T) (xs : List (Event T))
+    → TellsLength c xs (Finished p (Queues (length_start which)) answer)
+    → HeldSometime p (λ part. answer ≡ length_answer which c (length (waiting part))) xs
+stood_as which p c answer xs tells_length = grind arith
 
-    -- ---- releases: while the role was held, and as it was given back, nobody else wrote what its holder writes
+-- A call on a queue of this kind has led its pass from `base`, where no call was under way, to `w`.
+module _ {T : Type 0} {code : Coding T} (kd : QueueKind) {base w : View T} (idle : base.going ≡ None) where
+  -- a call on lengths that has ended answers that of the number that waited at one moment of the call
+  pub measured : (which : LengthOf) {n : ℕ} {m : Unit {0}}
+      → Ends code (machine_kind kd) (counts_waiting which base.capacity) base n m w
+      → HasMeasured which base.capacity (length_answer which base.capacity n) base w
+  measured which {n} {m} ends =
+      let party_now = ends.party in
+      let start : Start T = Queues (length_start which) in
+      let answer : Answer T = length_answer which base.capacity n in
+      let called_once = called code (machine_kind kd) (counts_waiting which base.capacity) base w n m idle ends in
+      let its_call : Called party_now start answer [] base w = subst (λ es. Called party_now start answer es base w) ends.tells called_once in
+      let events_then : List (Event T) = before_end its_call in
+      let last : Event T = Finished party_now start answer in
+      let is : w.seen ≡ events_then ++ last ∷ [] = to_end its_call in
+      let h = ends.history in
+      -- By the laws the answer is that of the number that waited at some moment of the call.
+      let told : TellsLength base.capacity events_then last =
+      subst (λ k. TellsLength k events_then last) h.run.sized ((promised code kd base.capacity w.seen h).lengths events_then [] last (sym h.is ∙ is)) in
+      record {
+        by = party_now;
+        mine = ends.mine;
+        called = its_call;
+        before = events_then;
+        is = is;
+        stood = stood_as which party_now base.capacity answer events_then told;
+      }
 
-    -- A release of a role that has ended is a call of the history.
-    pub released : (role : Role) (e m : Unit {0}) → Ends code (machine_kind kd) (gives_role role) base e m w → HasReleased role base w
-    released role e m ends = grind (arith, called)
+  -- the length that a call answers is at most as many values as can wait
+  pub few : (which : LengthOf) → which ≡ measures.Len → {n : ℕ} {m : Unit {0}}
+      → Ends code (machine_kind kd) (counts_waiting which base.capacity) base n m w
+      → n ≤ most_waiting kd base.capacity
+  few measures.IsEmpty is ends = absurd (cc)
+  few measures.IsFull is ends = absurd (cc)
+  few measures.Len is {n} {m} ends =
+      let told = measured measures.Len ends in
+      let stood = told.stood in
+      let same : n ≡ length (waiting stood.part) = (let e = stood.held in cc) in
+      let last : Event T = Finished told.by (Queues (length_start measures.Len)) (length_answer measures.Len base.capacity n) in
+      let is : w.seen ≡ stood.part ++ (stood.rest ++ last ∷ []) =
+      told.is ∙ (ap (λ xs. xs ++ last ∷ []) stood.is ∙ append_assoc stood.part stood.rest (last ∷ [])) in
+      omega (arith, (listed_always code base.capacity w.seen kd ends.history stood.part (stood.rest ++ last ∷ []) is).few)
 
-    -- Where only a role's holder writes what the role marks (publishes or takes out), who gave the role
-    -- back has seen no more of it than before.
-    left_after : (role : Role) → IsAlone kd role → IsHistory code (machine_kind kd) base.capacity w.seen
-        → HasReleased role base w → flat_map (marks role) w.seen ≡ flat_map (marks role) base.seen
-    left_after role only h left =
-        let p = left.by in
-        let start : Start T = Queues (release_start role) in
-        let c = left.called in
-        let xs : List (Event T) = (base.seen ++ c.others) ++ Begun p start ∷ c.during in
-        let last : Event T = Finished p start Done in
-        let seen_is : w.seen ≡ xs ++ last ∷ [] = c.is ∙ sym (append_assoc (base.seen ++ c.others) (Begun p start ∷ c.during) (last ∷ [])) in
-        let holds : held role xs ≡ Some p = held_at role p xs (grants code kd base.capacity w.seen h xs [] last seen_is) in
-        ap (flat_map (marks role)) seen_is
-        ∙ none_to_end (queue_role role) (one_holder role) p start base.seen c.others c.during
-        (Each-less (ByHolderOf role) xs (last ∷ []) (subst (Each (ByHolderOf role)) seen_is (by_its_holder code base.capacity w.seen kd role only h)))
-        c.others_own c.during_own holds last (no_mark role p)
-      where
-        -- A release ends while its party holds the role.
-        held_at : (r : Role) (p : ℕ) (xs : List (Event T)) → GrantsRight xs (Finished p (Queues (release_start r)) Done) → held r xs ≡ Some p
-        held_at Producer p xs grants_right = grants_right.1
-        held_at Consumer p xs grants_right = grants_right.1
+  -- An acquire of a role that has ended is a call of the history with its answer.
+  pub acquired : (role : Role) {taken : Bool} {m : Unit {0}} → Ends code (machine_kind kd) (takes_role role) base taken m w → HasAcquired role taken base w
+  acquired role {taken} {m} ends = grind (arith, called)
 
-        -- The end of a release is no publish and no hand-out.
-        no_mark : (r : Role) (p : ℕ) → marks {T = T} r (Finished p (Queues (release_start r)) Done) ≡ []
-        no_mark Producer p = refl
-        no_mark Consumer p = refl
+  -- ---- releases: while the role was held, and as it was given back, nobody else wrote what its holder writes
 
-    -- a release that has ended leaves what the role's holder alone writes as it was
-    pub left_alone : (role : Role) → IsAlone kd role → {e m : Unit {0}}
-        → Ends code (machine_kind kd) (gives_role role) base e m w
-        → flat_map (marks role) w.seen ≡ flat_map (marks role) base.seen
-    left_alone role only {e} {m} ends = left_after role only ends.history (released role e m ends)
+  -- A release of a role that has ended is a call of the history.
+  pub released : (role : Role) {e m : Unit {0}} → Ends code (machine_kind kd) (gives_role role) base e m w → HasReleased role base w
+  released role {e} {m} ends = grind (arith, called)
+
+  -- Where only a role's holder writes what the role marks (publishes or takes out), who gave the role
+  -- back has seen no more of it than before.
+  left_after : (role : Role) → IsAlone kd role → IsHistory code (machine_kind kd) base.capacity w.seen
+      → HasReleased role base w → flat_map (marks role) w.seen ≡ flat_map (marks role) base.seen
+  left_after role only h left =
+      let p = left.by in
+      let start : Start T = Queues (release_start role) in
+      let c = left.called in
+      let xs : List (Event T) = before_end c in
+      let last : Event T = Finished p start Done in
+      let seen_is : w.seen ≡ xs ++ last ∷ [] = to_end c in
+      let holds : held role xs ≡ Some p = held_at role p xs (grants code kd base.capacity w.seen h xs [] last seen_is) in
+      ap (flat_map (marks role)) seen_is
+      ∙ none_to_end (queue_role role) (one_holder role) p start base.seen c.others c.during
+      (Each-less (ByHolderOf role) xs (last ∷ []) (subst (Each (ByHolderOf role)) seen_is (by_its_holder code base.capacity w.seen kd role only h)))
+      c.others_own c.during_own holds last (no_mark role p)
+    where
+      -- A release ends while its party holds the role.
+      held_at : (r : Role) (p : ℕ) (xs : List (Event T)) → GrantsRight xs (Finished p (Queues (release_start r)) Done) → held r xs ≡ Some p
+      held_at Producer p xs grants_right = grants_right.1
+      held_at Consumer p xs grants_right = grants_right.1
+
+      -- The end of a release is no publish and no hand-out.
+      no_mark : (r : Role) (p : ℕ) → marks {T = T} r (Finished p (Queues (release_start r)) Done) ≡ []
+      no_mark Producer p = refl
+      no_mark Consumer p = refl
+
+  -- a release that has ended leaves what the role's holder alone writes as it was
+  pub left_alone : (role : Role) → IsAlone kd role → {e m : Unit {0}}
+      → Ends code (machine_kind kd) (gives_role role) base e m w
+      → flat_map (marks role) w.seen ≡ flat_map (marks role) base.seen
+  left_alone role only ends = left_after role only ends.history (released role ends)
 
 -- a producer's release; and a consumer's, where it says what was taken out
-module _ {T : Type 0} (code : Coding T) (base w : View T) (idle : base.going ≡ None) (e m : Unit {0}) where
+module _ {T : Type 0} {code : Coding T} {base w : View T} (idle : base.going ≡ None) {e m : Unit {0}} where
   -- A consumer's release leaves what was taken out as it was, except of an overflowing queue, where
   -- pushes take out too.
   left_taken : (kd : QueueKind) → Ends code (machine_kind kd) (gives_role Consumer) base e m w → NoneTaken kd base w
-  left_taken IndexQueue ends = left_alone code IndexQueue base w idle Consumer tt ends
+  left_taken IndexQueue ends = left_alone IndexQueue idle Consumer tt ends
   left_taken Overflow ends = tt
-  left_taken Queue ends = left_alone code Queue base w idle Consumer tt ends
+  left_taken Queue ends = left_alone Queue idle Consumer tt ends
 
   -- A release of a role leaves what the holder of the role alone writes as it was.
   pub left_marked : (kd : QueueKind) (role : Role) → Ends code (machine_kind kd) (gives_role role) base e m w → NoneMarked role kd base w
-  left_marked kd Producer ends = left_alone code kd base w idle Producer (pushes_alone kd) ends
+  left_marked kd Producer ends = left_alone kd idle Producer (pushes_alone kd) ends
   left_marked kd Consumer ends = left_taken kd ends
 
 -- ---- what each call leaves
@@ -373,49 +384,27 @@ aside_most : {n m : ℕ} → (m ≡ n) ⊎ (m ≡ n + 1) → m ≤ n + 1
 aside_most (inl same) = omega arith
 aside_most (inr more) = omega arith
 
-module _ {T : Type 0} (code : Coding T) (kind : Kind) where
-  module _ {C M E : Type 0} (call : Calling T C M E) (base w : View T) where
-    -- What is seen behind a call begins with what was seen before it.
-    later_than : (p : ℕ) (wrote last : List (Event T)) → Since p call.start wrote last base w → IsBeginning base.seen w.seen
-    later_than p wrote last since = grind (arith, opened, append_assoc)
+-- What is seen behind a call begins with what was seen before it.
+later_than : {T : Type 0} {base w : View T} {p : ℕ} {start : Start T} {wrote last : List (Event T)} → Since p start wrote last base w
+    → IsBeginning base.seen w.seen
+later_than since = grind (arith, opened, append_assoc)
 
-    -- a call that has ended leaves the share, and a history and a run that go on from those that were known
-    pub goes_on : (e : E) (m : M) → Ends code kind call base e m w → Goes base w
-    goes_on e m ends =
-        record {
-          share = ends.share;
-          since = later_than ends.party ends.wrote (Finished ends.party call.start (call.answer e m) ∷ []) ends.since;
-          first = ends.ran.first;
-          all = λ whole. ends.all (subst IsAll ends.share whole);
-        }
-
-    -- A call that has ended leaves at most one operation more that was asked for and is no step of a call.
-    pub aside_on : (e : E) (m : M) → Ends code kind call base e m w → w.aside ≤ base.aside + 1
-    aside_on e m ends = aside_most ends.aside
-
-  -- What a pass knows after a look goes on from what it knew before.
-  pub looked_on : (base w : View T) → Looks code kind base.capacity base w → Goes base w
-  looked_on base w looks =
+-- The call has led its pass from `base` to `w`.
+module _ {T C M E : Type 0} {code : Coding T} {kind : Kind} {call : Calling T C M E} {base w : View T} {e : E} {m : M} where
+  -- a call that is over leaves the share, and a history and a run that go on from those that were known
+  pub goes_over : Over code kind call base e m w → Goes base w
+  goes_over (inl ends) =
+      record { share = ends.share; since = later_than ends.since; first = ends.ran.first; all = λ whole. ends.all (subst IsAll ends.share whole) }
+  goes_over (inr left) =
+      let looks = left.looked in
       record { share = looks.share; since = looks.mine; first = looks.ran.first; all = λ whole. looks.all (subst IsAll looks.share whole) }
 
-  -- base and w are what the pass knew before the call and after it, e is its end, m its room then
-  module _ {C M E : Type 0} (call : Calling T C M E) (base w : View T) (e : E) (m : M) where
-    -- What a pass knows after a call that is over goes on from what it knew before.
-    pub goes_over : Over code kind call base e m w → Goes base w
-    goes_over (inl ends) = goes_on call base w e m ends
-    goes_over (inr left) = looked_on base w left.looked
+  -- A call that is over leaves at most one operation more that was asked for and is no step of a call.
+  pub aside_over : Over code kind call base e m w → w.aside ≤ base.aside + 1
+  aside_over (inl ends) = aside_most ends.aside
+  aside_over (inr left) = omega (arith, left.asked, left.looked.aside)
 
-    -- A call that is over leaves at most one operation more aside.
-    pub aside_over : Over code kind call base e m w → w.aside ≤ base.aside + 1
-    aside_over (inl ends) = aside_on call base w e m ends
-    aside_over (inr left) = omega (arith, left.asked, left.looked.aside)
-
-    -- what the pass has seen when the call is over is a history
-    pub seen_over : Over code kind call base e m w → IsHistory code kind base.capacity w.seen
-    seen_over (inl ends) = ends.history
-    seen_over (inr left) = left.looked.history
-
-    -- the pass knows the run when the call is over
-    pub knows_over : Over code kind call base e m w → Knows code kind base.capacity w
-    knows_over (inl ends) = ends.ran.knows
-    knows_over (inr left) = left.looked.ran.knows
+  -- what the pass has seen when the call is over is a history
+  pub seen_over : Over code kind call base e m w → IsHistory code kind base.capacity w.seen
+  seen_over (inl ends) = ends.history
+  seen_over (inr left) = left.looked.history

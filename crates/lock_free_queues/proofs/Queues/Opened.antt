@@ -1,7 +1,7 @@
 -- The words with which a bounded queue opens at a position are those of a machine whose one party has pushed and popped.
 use Rattle.lock_free_queues.proofs.Names.{◌≡◌, ⊎_elim, ℕ, zero, suc, ◌+◌, ◌*◌, ◌-◌, ◌%◌, ◌^◌, ◌<◌, ◌≤◌, ◌==◌, min}
 use Rattle.lock_free_queues.proofs.Names.{true, false, Option, Some, None, List, [], ◌∷◌, ◌++◌, length, get_or, set}
-use Rattle.lock_free_queues.proofs.Names.{replicate, slice_index, slice_set, sum_by, refl, sym, ap, subst, ◌∙◌}
+use Rattle.lock_free_queues.proofs.Names.{replicate, slice_index, slice_set, refl, sym, ap, subst, ◌∙◌}
 use Rattle.lock_free_queues.proofs.Names.{append_assoc, take, drop, arith, cases_lt, get_or_append_left}
 use Rattle.lock_free_queues.proofs.Names.{take-append-le, mul-add-mod_self_left, mod-eq_of_lt, mul-le-mul_left}
 use Rattle.lock_free_queues.proofs.Names.{opening, word_at, after_position, Ask, Load, Store, written, value_in}
@@ -9,8 +9,8 @@ use Rattle.lock_free_queues.proofs.Names.{Producer, Consumer, Answer, Truth, Eve
 use Rattle.lock_free_queues.proofs.Names.{Flight, Pop, Kind, Coding, IsCoding, want_of, words_of_cell, World}
 use Rattle.lock_free_queues.proofs.Names.{cell_within, take_all, machine_kind, IsFreshCall, Val, encoded, item, Ring}
 use Rattle.lock_free_queues.proofs.Names.{kind_of, Room, words_in, with_word, put_in, flight, read_in, are_words}
-use Rattle.lock_free_queues.proofs.Names.{View, IsMachine, owned, HasRole, Calling, first_view, same_seat, set_left}
-use Rattle.lock_free_queues.proofs.Names.{set_same, holds_it, queue_effects, ring_owes, role_starts, MachineLaws}
+use Rattle.lock_free_queues.proofs.Names.{IsMachine, HasRole, Calling, first_view, set_left}
+use Rattle.lock_free_queues.proofs.Names.{set_same, holds_it, queue_effects, ring_owes, role_begins, MachineLaws}
 use Rattle.lock_free_queues.proofs.Names.{machine_laws}
 use Rattle.std.proofs.Common.{length-append}
 use Rattle.steps.specs.Queues.Ring.{first_push, first_pop, cell_word}
@@ -30,7 +30,7 @@ use Rattle.model.specs.declared.turn.Turn.TheVariants.{Begin, Next}
 use Rattle.lock_free_queues.specs.Queues.Opened.{pushed_once, popped_once, rounds, opened, position_at, opened_view}
 use Rattle.lock_free_queues.specs.Queues.Opened.{opened_with, then_next, moved_turns, round_turns, opened_turns}
 use Rattle.lock_free_queues.proofs.Queues.Grants.{after_push, has_it, quiet_true}
-use Rattle.lock_free_queues.proofs.Queues.Tests.{not_last, some_cells, not_full, one_apart, at_last, before_last, not_below, none_used}
+use Rattle.lock_free_queues.proofs.Queues.Tests.{from_cells, not_last, some_cells, not_full, one_apart, at_last, before_last, not_below, none_used}
 use Rattle.lock_free_queues.proofs.Queues.Filled.{filled, filled_length, filled_there, filled_again}
 use Rattle.lock_free_queues.proofs.Queues.Roles.{QuietRoles, takes_both, gives_both}
 use Rattle.lock_free_queues.proofs.Queues.Single.{fresh, pushing, popping, push_named, push_lacks, push_wants}
@@ -79,13 +79,6 @@ module _ {T : Type 0} (code : Coding T) (law : IsCoding code) (r : Ring) (v : Va
   abbrev Here : List ℕ → List (Turn T) → List (Event T) → Option (Start T × Flight T) → Type 0
   Here = alone.Here machine
 
-  abbrev maker : List (Turn T) → List (Event T) → View T
-  maker = alone.maker machine
-
-  sums : (words : List ℕ) (ts : List (Turn T)) (es : List (Event T)) → (h : Here words ts es None)
-      → (f : Event T → ℕ) → sum_by f es ≡ sum_by (owned same_seat 0 f) h.u.events
-  sums words ts es h = alone.sums machine words ts es None h
-
   -- the words of a queue's table: both positions, the flags of both roles, the cells, and a zero behind them
   abbrev words_at : ℕ → ℕ → ℕ → ℕ → List ℕ → List ℕ
   words_at write read producer consumer cells = write ∷ read ∷ producer ∷ consumer ∷ (cells ++ 0 ∷ [])
@@ -132,8 +125,7 @@ module _ {T : Type 0} (code : Coding T) (law : IsCoding code) (r : Ring) (v : Va
       → slice_set words a.word (written a.op (slice_index words a.word)) ≡ words'
       → GoesOn code capacity flight next (slice_index words a.word) → Here words' (ts ++ Next 0 ∷ []) es (Some (start, next))
   step {words} {ts} {es} {start} {flight} next a here low asks finds words' same goes =
-      alone.goes_on machine words ts es start flight here a low asks finds
-      words' next same goes.comes goes.quiet
+      alone.goes_on_at machine here (record { a = a; low = low; asks = asks; finds = finds }) same goes.comes goes.quiet
 
   -- of one round of a push and a pop: n is the position of both, ts and es are the turns and the events before it
   module _ (room : 0 < capacity) (n : ℕ) (below_end : n < 2 ^ 64 - 1) (ts : List (Turn T)) (es : List (Event T)) where
@@ -206,13 +198,8 @@ module _ {T : Type 0} (code : Coding T) (law : IsCoding code) (r : Ring) (v : Va
           let ts1 = ts ++ Begin 0 name ∷ [] in
           let ts2 = ts1 ++ Next 0 ∷ [] in
           let ts3 = ts2 ++ Next 0 ∷ [] in
-          let begun_so =
-          alone.begins machine push_call (first_push capacity) tt
-          (now 0) ts es here
-          (role_starts code (kind_of r) (maker ts es) push_call (push_of it) (first_push capacity) tt refl
-          (λ kept. push_named code capacity r v kept) Producer (λ o p. tt)
-          (λ roles p is. push_lacks code capacity r v roles p is) has here.u same_seat 0 here.between.run refl refl
-          (sums (now 0) ts es here)) in
+          let begun_so = alone.begins_any machine push_call (first_push capacity) tt here
+          (role_begins (kind_of r) (push_of it) refl (push_named code capacity r v) Producer (λ o p. tt) (push_lacks code capacity r v) has) in
           -- b, c: the turns that load both positions; d: those that store the words; e: the store of the write position
           let b =
           step (pushing r v capacity (pushes.LoadsRead n)) (record { word = 0; op = Load }) begun_so (omega arith)
@@ -227,12 +214,12 @@ module _ {T : Type 0} (code : Coding T) (law : IsCoding code) (r : Ring) (v : Va
           (push_loads_read code capacity r v n none (not_full n capacity (omega arith) room)) in
           let d = fills ts3 xs (size - 1) 0 (omega (arith, some)) c in
           let e =
-          alone.ends machine (now size) (then_next ts3 (suc (size - 1))) xs name
-          (pushing r v capacity (pushes.StoresWrite n)) d
-          (record { word = 0; op = Store (after_position n) }) (omega arith)
-          (push_wants code capacity r v (pushes.StoresWrite n))
-          (push_fresh code capacity r v n (pushes.StoresWrite n) tt)
-          (words_at (n + 1) n 0 0 (cells size)) (Truth true) (wrote_by_push code capacity it)
+          alone.ends_at machine d (record {
+            a = record { word = 0; op = Store (after_position n) };
+            low = omega arith;
+            asks = push_wants code capacity r v (pushes.StoresWrite n);
+            finds = push_fresh code capacity r v n (pushes.StoresWrite n) tt;
+          }) {answer = Truth true} {own = wrote_by_push code capacity it}
           (ap (λ k. words_at k n 0 0 (cells size)) next_is) (push_ends code capacity r v n n)
           (push_tells code capacity r v n n) (refl, (refl, tt)) in
           subst (λ zs. Here (words_at (n + 1) n 0 0 (cells size)) (moved_turns size name ts) zs None)
@@ -332,12 +319,8 @@ module _ {T : Type 0} (code : Coding T) (law : IsCoding code) (r : Ring) (v : Va
           let ts1 = ts ++ Begin 0 (Queues Pop) ∷ [] in
           let ts2 = ts1 ++ Next 0 ∷ [] in
           let ts3 = ts2 ++ Next 0 ∷ [] in
-          let begun_so =
-          alone.begins machine pop_call (first_pop capacity) (fresh r)
-          then ts es here
-          (role_starts code (kind_of r) (maker ts es) pop_call Pop (first_pop capacity) (fresh r) refl
-          (λ kept. pop_named code capacity r kept) Consumer (λ o p. tt) (λ roles p is. holds_it roles.consumer p is)
-          role here.u same_seat 0 here.between.run refl refl (sums then ts es here)) in
+          let begun_so = alone.begins_any machine pop_call (first_pop capacity) (fresh r) here
+          (role_begins (kind_of r) Pop refl (pop_named code capacity r) Consumer (λ o p. tt) (λ roles p is. holds_it roles.consumer p is) role) in
           -- b, c: the turns that load both positions; d: those that load the words; e: the store of the read position
           let b =
           step (popping r capacity (pops.LoadsWrite n) (room_at 0)) (record { word = 1; op = Load }) begun_so
@@ -352,11 +335,12 @@ module _ {T : Type 0} (code : Coding T) (law : IsCoding code) (r : Ring) (v : Va
           (pop_loads_write code capacity r n (n + 1) (room_at 0) none (one_apart n)) in
           let d = loads ts3 xs (size - 1) 0 (omega (arith, some)) c in
           let e =
-          alone.ends machine then (then_next ts3 (suc (size - 1))) xs (Queues Pop) last_of d
-          (record { word = 1; op = Store (after_position n) }) (omega arith)
-          (pop_wants code capacity r (pops.StoresRead n) (room_at size))
-          (pop_fresh code capacity r n (pops.StoresRead n) (room_at size))
-          (words_at (n + 1) (n + 1) 0 0 cells) (popped_item (Some it)) (wrote_by_pop code capacity it)
+          alone.ends_at machine d (record {
+            a = record { word = 1; op = Store (after_position n) };
+            low = omega arith;
+            asks = pop_wants code capacity r (pops.StoresRead n) (room_at size);
+            finds = pop_fresh code capacity r n (pops.StoresRead n) (room_at size);
+          }) {answer = popped_item (Some it)} {own = wrote_by_pop code capacity it}
           (ap (λ k. words_at (n + 1) k 0 0 cells) next_is) (pop_ends code capacity r v n n (room_at size) reads_it)
           (pop_tells code capacity r v n n (room_at size) reads_it) (refl, (refl, tt)) in
           subst (λ zs. Here (words_at (n + 1) (n + 1) 0 0 cells) (moved_turns size (Queues Pop) ts) zs None)
@@ -399,8 +383,7 @@ module _ {T : Type 0} (code : Coding T) (law : IsCoding code) (r : Ring) (v : Va
   driven zero room low =
       -- no round: the roles are taken, and the cells are zeros
       let a =
-      takes_both code (kind_of r) capacity (4 + size * capacity) effects owes (omega arith) quiet_roles 0 0
-      (replicate (size * capacity) 0 ++ 0 ∷ []) starts in
+      takes_both (kind_of r) owes (omega arith) quiet_roles 0 0 (replicate (size * capacity) 0 ++ 0 ∷ []) starts in
       subst (λ m. Here (words_at 0 0 0 0 (filled ws size capacity m)) (took zero) (rounds (Truth true) it zero) None) (sym (none_used size capacity)) a
   driven (suc n) room low =
       let driven_so = driven n room (omega arith) in
@@ -448,29 +431,21 @@ module _ {T : Type 0} (code : Coding T) (law : IsCoding code) (r : Ring) (v : Va
       subst (λ m. Here (words_at 0 0 1 1 (filled ws size capacity m)) [] [] None) (sym nothing) starts
   rests_at (suc n) room low =
       let k = suc n in
-      gives_both code (kind_of r) capacity (4 + size * capacity) effects owes (omega arith) quiet_roles k k
-      (cells_at k ++ 0 ∷ []) (took k) (rounds (Truth true) it k) (has_it (Truth true) quiet_true it k) (driven k room low)
+      gives_both (kind_of r) owes (omega arith) quiet_roles k k (cells_at k ++ 0 ∷ []) (took k)
+      (rounds (Truth true) it k) (has_it (Truth true) quiet_true it k) (driven k room low)
 
   -- for each position below 2^64, the words there are those after as many rounds, with both roles free
   rests : (position : ℕ) → position < 2 ^ 64
       → Here (words_at (position_at capacity position) (position_at capacity position) 1 1 (cells_at position))
       (opened_turns size it (position_at capacity position)) (opened (Truth true) it (position_at capacity position)) None
-  rests position low = go capacity refl
-    where
-      -- the cases are whether the queue has a capacity; without one nothing was done
-      go : (c : ℕ) → c ≡ capacity
-          → Here (words_at (position_at capacity position) (position_at capacity position) 1 1 (cells_at position))
-          (opened_turns size it (position_at capacity position)) (opened (Truth true) it (position_at capacity position)) None
-      go zero e =
-          let without : min position capacity ≡ 0 = omega arith in
-          let nothing : size * min position capacity ≡ 0 = ap (λ m. size * m) without ∙ omega arith in
-          let start : position_at capacity position ≡ 0 = ap (λ c. position_at c position) (sym e) in
-          subst (λ p. Here (words_at p p 1 1 (cells_at position)) (opened_turns size it p) (opened (Truth true) it p) None) (sym start)
-          (subst (λ m. Here (words_at 0 0 1 1 (filled ws size capacity m)) [] [] None) (sym nothing) starts)
-      go (suc less) e =
-          let start : position_at capacity position ≡ position = ap (λ c. position_at c position) (sym e) in
-          subst (λ p. Here (words_at p p 1 1 (cells_at position)) (opened_turns size it p) (opened (Truth true) it p) None) (sym start)
-          (rests_at position (omega arith) low)
+  rests position low =
+      from_cells (λ p. Here (words_at p p 1 1 (cells_at position)) (opened_turns size it p) (opened (Truth true) it p) None) capacity position
+      -- without a capacity nothing was done
+      (λ none.
+      let without : min position capacity ≡ 0 = omega arith in
+      let nothing : size * min position capacity ≡ 0 = ap (λ m. size * m) without ∙ omega arith in
+      subst (λ m. Here (words_at 0 0 1 1 (filled ws size capacity m)) [] [] None) (sym nothing) starts)
+      (λ room. rests_at position room low)
 
   -- the words with which a queue opens at a position are those of its machine, and the first view fits it
   pub queue_opens : (position : ℕ) → position < 2 ^ 64 → (words : List ℕ)

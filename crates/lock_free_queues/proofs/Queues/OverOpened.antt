@@ -2,15 +2,15 @@
 -- has pushed and popped the number 0 this often.
 use Rattle.lock_free_queues.proofs.Names.{◌≡◌, ◌≢◌, ⊎_elim, ℕ, zero, suc, ◌+◌, ◌*◌, ◌-◌, ◌%◌, ◌^◌, ◌<◌, ◌≤◌, ◌==◌}
 use Rattle.lock_free_queues.proofs.Names.{nat_lt, true, false, Option, Some, None, List, [], ◌∷◌, ◌++◌, get_or}
-use Rattle.lock_free_queues.proofs.Names.{replicate, slice_index, slice_set, sum_by, refl, sym, ap, subst, ◌∙◌}
+use Rattle.lock_free_queues.proofs.Names.{replicate, slice_index, slice_set, refl, sym, ap, subst, ◌∙◌}
 use Rattle.lock_free_queues.proofs.Names.{append_assoc, arith, cases_eq, nat_tests, length-replicate}
 use Rattle.lock_free_queues.proofs.Names.{get_or_append_left, opening, written, Ask, GoOn, Load, Store, Exchange}
 use Rattle.lock_free_queues.proofs.Names.{Role, Producer, Consumer, after_position, distance, Event, Begun, Published}
 use Rattle.lock_free_queues.proofs.Names.{HandedOut, Acted, Finished, Item, Index, Start, Queues, Flight, Overflow}
 use Rattle.lock_free_queues.proofs.Names.{PushIndex, Pop, Coding, IsCoding, want_of, after_of, beside_of}
-use Rattle.lock_free_queues.proofs.Names.{World, IsFreshCall, View, IsMachine, call_in, owned}
-use Rattle.lock_free_queues.proofs.Names.{pushes_over, pops_over, HasRole, same_seat, get_left, over_effects}
-use Rattle.lock_free_queues.proofs.Names.{overflow_owes, beside_waits, set_same, holds_it, role_starts, sound_of}
+use Rattle.lock_free_queues.proofs.Names.{World, IsFreshCall, IsMachine, call_in}
+use Rattle.lock_free_queues.proofs.Names.{pushes_over, pops_over, HasRole, get_left, over_effects}
+use Rattle.lock_free_queues.proofs.Names.{overflow_owes, beside_waits, set_same, holds_it, role_begins, sound_of}
 use Rattle.steps.specs.declared.ask.After.TheVariants.{Done}
 use Rattle.steps.specs.declared.ask.Want.TheVariants as wants
 use Rattle.steps.specs.declared.queues.overflow.PopStage.{PopStage}
@@ -32,7 +32,7 @@ use Rattle.lock_free_queues.specs.Queues.Opened.{pushed_once, popped_once, round
 use Rattle.lock_free_queues.specs.Queues.Opened.{over_opened_view, moved_turns, round_turns, opened_turns}
 use Rattle.lock_free_queues.proofs.Queues.Grants.{after_push, has_it, quiet_none}
 use Rattle.lock_free_queues.proofs.Queues.Roles.{QuietRoles, takes_both, gives_both}
-use Rattle.lock_free_queues.proofs.Queues.Tests.{not_last, some_cells, not_full, one_apart}
+use Rattle.lock_free_queues.proofs.Queues.Tests.{from_cells, not_last, some_cells, not_full, one_apart}
 
 -- Each number of a list of zeros, and behind it, is 0.
 zero_at : (c k : ℕ) → get_or {A = ℕ} (replicate c 0) k 0 ≡ 0
@@ -143,15 +143,6 @@ module _ {T : Type 0} (code : Coding T) (law : IsCoding code) (capacity : ℕ) (
   abbrev Here : List ℕ → List (Turn T) → List (Event T) → Option (Start T × Flight T) → Type 0
   Here = alone.Here machine
 
-  -- The view of party 0, which made all events.
-  abbrev maker : List (Turn T) → List (Event T) → View T
-  maker = alone.maker machine
-
-  -- A sum over the events that were written is the sum over what party 0 made.
-  sums : (words : List ℕ) (ts : List (Turn T)) (es : List (Event T)) → (h : Here words ts es None)
-      → (f : Event T → ℕ) → sum_by f es ≡ sum_by (owned same_seat 0 f) h.u.events
-  sums words ts es h = alone.sums machine words ts es None h
-
   -- The words of an overflowing queue's table whose cells have zeros: both positions, the flags of both
   -- roles, the cells, and a zero behind them.
   abbrev at : ℕ → ℕ → ℕ → ℕ → List ℕ
@@ -190,8 +181,7 @@ module _ {T : Type 0} (code : Coding T) (law : IsCoding code) (capacity : ℕ) (
       → slice_set words a.word (written a.op (slice_index words a.word)) ≡ words'
       → GoesOn flight next (slice_index words a.word) → Here words' (ts ++ Next 0 ∷ []) es (Some (start, next))
   step {words} {ts} {es} {start} {flight} next a here low asks finds words' same goes =
-      alone.goes_on machine words ts es start flight here
-      a low asks finds words' next same goes.comes (goes.quiet here.u.world)
+      alone.goes_on_at machine here (record { a = a; low = low; asks = asks; finds = finds }) same goes.comes (goes.quiet here.u.world)
 
   -- Of one round of a push and a pop: n is the position of both, ts are the turns before it, and es the
   -- events before it.
@@ -237,17 +227,10 @@ module _ {T : Type 0} (code : Coding T) (law : IsCoding code) (capacity : ℕ) (
     pushed has here =
         let xs = es ++ Begun 0 push_name ∷ [] in
         let ts1 = ts ++ Begin 0 push_name ∷ [] in
-        let ts2 = ts1 ++ Next 0 ∷ [] in
-        let ts3 = ts2 ++ Next 0 ∷ [] in
-        let ts4 = ts3 ++ Next 0 ∷ [] in
         let last = not_last n below_end in
         let apart = not_full n capacity (omega arith) room in
-        let a₀ =
-        alone.begins machine (pushes_over 0)
-        (first_push capacity) (record { 0 = 0 }) (at n n 0 0) ts es here
-        (role_starts code Overflow (maker ts es) (pushes_over 0) (PushIndex 0) (first_push capacity) (record { 0 = 0 })
-        refl (λ kept. refl) Producer (λ o p. tt) (λ roles p is. holds_it roles.producer p is) has here.u same_seat 0
-        here.between.run refl refl (sums (at n n 0 0) ts es here)) in
+        let a₀ = alone.begins_any machine (pushes_over 0) (first_push capacity) (record { 0 = 0 }) here
+        (role_begins Overflow (PushIndex 0) refl (λ kept. refl) Producer (λ o p. tt) (λ roles p is. holds_it roles.producer p is) has) in
         let stands_here : Here (at n n 0 0) ts1 xs (Some (push_name, pushing capacity pushes.LoadsWrite)) =
         subst (λ f. Here (at n n 0 0) ts1 xs (Some (push_name, f))) (first_pushing capacity some) a₀ in
         -- b, c and d: the turns that load both positions and store the number; e: the one that stores
@@ -262,10 +245,8 @@ module _ {T : Type 0} (code : Coding T) (law : IsCoding code) (capacity : ℕ) (
         step (pushing capacity (pushes.StoresWrite n n)) (record { word = cell; op = Store 0 }) c cell_low
         refl tt (at n n 0 0) (zero_stays n n) (record { comes = refl; quiet = λ w. refl }) in
         let e =
-        alone.ends machine (at n n 0 0) ts4 xs
-        push_name (pushing capacity (pushes.StoresWrite n n)) d
-        (record { word = 0; op = Store (after_position n) }) (omega arith) refl tt (at (n + 1) n 0 0)
-        answers.PoppedNone (Published 0 it ∷ Acted 0 push_name answers.PoppedNone ∷ [])
+        alone.ends_at machine d (record { a = record { word = 0; op = Store (after_position n) }; low = omega arith; asks = refl; finds = tt })
+        {answer = answers.PoppedNone} {own = Published 0 it ∷ Acted 0 push_name answers.PoppedNone ∷ []}
         (ap (λ k. at k n 0 0) next_is) (push_ends code capacity n apart) (push_tells code capacity n apart d.u.world) (refl, (refl, tt)) in
         subst (λ zs. Here (at (n + 1) n 0 0) (moved_turns 1 push_name ts) zs None) (append_assoc es (Begun 0 push_name ∷ []) events_of_push) e
 
@@ -320,12 +301,8 @@ module _ {T : Type 0} (code : Coding T) (law : IsCoding code) (capacity : ℕ) (
         let ts4 = ts3 ++ Next 0 ∷ [] in
         let apart = one_apart n in
         let equal = same_number n in
-        let a₀ =
-        alone.begins machine pops_over
-        (first_pop capacity) (record { 0 = 0 }) then ts es here
-        (role_starts code Overflow (maker ts es) pops_over Pop (first_pop capacity) (record { 0 = 0 }) refl
-        (λ kept. refl) Consumer (λ o p. tt) (λ roles p is. holds_it roles.consumer p is) role here.u same_seat 0
-        here.between.run refl refl (sums then ts es here)) in
+        let a₀ = alone.begins_any machine pops_over (first_pop capacity) (record { 0 = 0 }) here
+        (role_begins Overflow Pop refl (λ kept. refl) Consumer (λ o p. tt) (λ roles p is. holds_it roles.consumer p is) role) in
         let stands_here : Here then ts1 xs (Some (pop_name, popping capacity pops.LoadsRead)) =
         subst (λ f. Here then ts1 xs (Some (pop_name, f))) (first_popping capacity some) a₀ in
         -- b, c and d: the turns that load both positions and the number; e: the exchange that
@@ -353,10 +330,8 @@ module _ {T : Type 0} (code : Coding T) (law : IsCoding code) (capacity : ℕ) (
         ))) (zero_there (n + 1) n) d₀ in
         -- The exchange moves the read position on and ends the pop, which answers 0.
         let e =
-        alone.ends machine then ts4 xs pop_name
-        (popping capacity (pops.MovesRead n)) d
-        (record { word = 1; op = Exchange n (after_position n) }) (omega arith) refl tt (at (n + 1) (n + 1) 0 0)
-        (answers.PoppedIndex 0) (HandedOut 0 it ∷ Acted 0 pop_name (answers.PoppedIndex 0) ∷ [])
+        alone.ends_at machine d (record { a = record { word = 1; op = Exchange n (after_position n) }; low = omega arith; asks = refl; finds = tt })
+        {answer = answers.PoppedIndex 0} {own = HandedOut 0 it ∷ Acted 0 pop_name (answers.PoppedIndex 0) ∷ []}
         (ap (λ k. at (n + 1) k 0 0) (moved_on n (after_position n) equal ∙ next_is))
         (pop_ends code capacity n equal) (wrote_then ts4 xs d) (refl, (refl, tt)) in
         subst (λ zs. Here (at (n + 1) (n + 1) 0 0) (moved_turns 1 pop_name ts) zs None) (append_assoc es (Begun 0 pop_name ∷ []) events_of_pop) e
@@ -378,8 +353,7 @@ module _ {T : Type 0} (code : Coding T) (law : IsCoding code) (capacity : ℕ) (
   -- after n rounds both positions are n, and the cells have zeros
   driven : (n : ℕ) → 0 < capacity → n < 2 ^ 64 → Here (at n n 0 0) (took n) (turns n) None
   driven zero room low =
-      takes_both code Overflow capacity size over_effects (overflow_owes code capacity) (omega arith) quiet_roles 0 0
-      (replicate (capacity + 1) 0 ++ 0 ∷ []) starts
+      takes_both Overflow (overflow_owes code capacity) (omega arith) quiet_roles 0 0 (replicate (capacity + 1) 0 ++ 0 ∷ []) starts
   driven (suc n) room low =
       let driven_so = driven n room (omega arith) in
       let a = pushed room n (omega arith) (took n) (turns n) (has_role n Producer) driven_so in
@@ -396,27 +370,17 @@ module _ {T : Type 0} (code : Coding T) (law : IsCoding code) (capacity : ℕ) (
   rests_at zero room low = starts
   rests_at (suc n) room low =
       let k = suc n in
-      gives_both code Overflow capacity size over_effects (overflow_owes code capacity) (omega arith) quiet_roles k
-      k (replicate (capacity + 1) 0 ++ 0 ∷ []) (took k) (turns k) (has_role k) (driven k room low)
+      gives_both Overflow (overflow_owes code capacity) (omega arith) quiet_roles k k
+      (replicate (capacity + 1) 0 ++ 0 ∷ []) (took k) (turns k) (has_role k) (driven k room low)
 
   -- For each position below 2^64, the queue's words at that position are those after as many rounds,
   -- with both roles free.
   rests : (position : ℕ) → position < 2 ^ 64
       → Here (at (position_at capacity position) (position_at capacity position) 1 1)
       (opened_turns 1 it (position_at capacity position)) (opened answers.PoppedNone it (position_at capacity position)) None
-  rests position low = go capacity refl
-    where
-      -- a queue of any capacity rests so; without capacity nothing was done
-      go : (c : ℕ) → c ≡ capacity
-          → Here (at (position_at capacity position) (position_at capacity position) 1 1)
-          (opened_turns 1 it (position_at capacity position)) (opened answers.PoppedNone it (position_at capacity position)) None
-      go zero e =
-          let start : position_at capacity position ≡ 0 = ap (λ c. position_at c position) (sym e) in
-          subst (λ p. Here (at p p 1 1) (opened_turns 1 it p) (opened answers.PoppedNone it p) None) (sym start) starts
-      go (suc less) e =
-          let start : position_at capacity position ≡ position = ap (λ c. position_at c position) (sym e) in
-          subst (λ p. Here (at p p 1 1) (opened_turns 1 it p) (opened answers.PoppedNone it p) None) (sym start)
-          (rests_at position (omega arith) low)
+  rests position low =
+      from_cells (λ p. Here (at p p 1 1) (opened_turns 1 it p) (opened answers.PoppedNone it p) None) capacity position
+      (λ none. starts) (λ room. rests_at position room low)
 
   -- A table with these words, and the view of the first pass, is the machine of an overflowing queue,
   -- for each position below 2^64.

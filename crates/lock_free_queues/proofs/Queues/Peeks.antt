@@ -2,7 +2,7 @@
 use Rattle.std.proofs.Common.{is_none, not}
 use Rattle.lock_free_queues.proofs.Names.{◌≡◌, ℕ, Bool, Option, Some, None, IfSome, IfNone, List, [], ◌∷◌, ◌++◌}
 use Rattle.lock_free_queues.proofs.Names.{zero, suc, length, drop, slice_get, refl, sym, ap, subst, ◌∙◌, append-nil, append_assoc, fold-append}
-use Rattle.lock_free_queues.proofs.Names.{flat_map-append, option_map, Role, Producer, Consumer, Answer, Truth, Event, Begun}
+use Rattle.lock_free_queues.proofs.Names.{flat_map-append, option_map, Role, Producer, Consumer, Answer, Truth, Event}
 use Rattle.lock_free_queues.proofs.Names.{HandedOut, Finished, Item, Index, Value, Start, Queues, Flight, Peek, QueueKind}
 use Rattle.lock_free_queues.proofs.Names.{Coding, GrantsRight, machine_kind, published, handed_out, publishes, hands_out, waiting}
 use Rattle.lock_free_queues.proofs.Names.{waiting_is, View, IsBeginning, Called, LastStep, ByHolderOf, holder_by, look_start}
@@ -15,7 +15,7 @@ use Rattle.lock_free_queues.specs.Queues.Contracts.{popped_item, HasPeeked, HasS
 use Rattle.history.proofs.Holders.{held, one_holder, queue_role}
 use Rattle.history.proofs.OneHolder.{none_to_end}
 use Rattle.model.specs.Families.Queues.Reading.{producer_after, consumer_after, consumer_of}
-use Rattle.lock_free_queues.proofs.Queues.Facts.{IsAlone, IsSeen, by_its_holder, grants, tells_lengths, listed_always}
+use Rattle.lock_free_queues.proofs.Queues.Facts.{IsAlone, IsSeen, before_end, to_end, by_its_holder, grants, tells_lengths, listed_always}
 use Rattle.lock_free_queues.specs.Queues.Kinds.{most_waiting}
 
 module _ {T : Type 0} where
@@ -46,18 +46,7 @@ module _ {T : Type 0} where
       let put : published all ≡ published xs = flat_map-append publishes xs (Finished p start answer ∷ []) ∙ append-nil (published xs) in
       ap (λ hs. drop (length hs) (published all)) out ∙ ap (λ ps. drop (length (handed_out xs)) ps) put
 
-  -- what was seen before the last event of a call
-  abbrev before_end : {p : ℕ} → {start : Start T} → {answer : Answer T} → {wrote : List (Event T)} → {old new : View T}
-      → Called p start answer wrote old new → List (Event T)
-  before_end {p} {start} {answer} {wrote} {old} {new} c = (old.seen ++ c.others) ++ Begun p start ∷ c.during
-
-  -- What is seen behind a call ends with the end of the call.
-  ends_so : (p : ℕ) (start : Start T) (answer : Answer T) (wrote : List (Event T)) (old new : View T) (c : Called p start answer wrote old new)
-      → new.seen ≡ before_end c ++ Finished p start answer ∷ []
-  ends_so p start answer wrote old new c =
-      c.is ∙ sym (append_assoc (old.seen ++ c.others) (Begun p start ∷ c.during) (Finished p start answer ∷ []))
-
-module _ {T : Type 0} (code : Coding T) (kd : QueueKind) (base w : View T) where
+module _ {T : Type 0} {code : Coding T} (kd : QueueKind) {base w : View T} where
   -- of a queue from which the consumer alone takes: a peek that wrote nothing, and whose end was
   -- the machine's last step, answers the oldest value that waits, and meanwhile none was taken out
   peeked_by : IsAlone kd Consumer → (p : ℕ) (answer : Option (Item T)) → w.party ≡ Some p
@@ -67,7 +56,7 @@ module _ {T : Type 0} (code : Coding T) (kd : QueueKind) (base w : View T) where
   peeked_by alone p answer mine c is_seen step =
       let last : Event T = Finished p (Queues Peek) (popped_item answer) in
       let events_then : List (Event T) = before_end c in
-      let seen_is : w.seen ≡ events_then ++ last ∷ [] = ends_so p (Queues Peek) (popped_item answer) [] base w c in
+      let seen_is : w.seen ≡ events_then ++ last ∷ [] = to_end c in
       -- The answer is right by the machine's last step, and the party of the peek held the
       -- consumer's role then.
       let told : TellsLength base.capacity events_then last = tells_lengths code kd base.capacity w.seen is_seen events_then [] last seen_is in
@@ -109,15 +98,15 @@ module _ {T : Type 0} (code : Coding T) (kd : QueueKind) (base w : View T) where
     -- ---- roles
 
     -- a look at a role that has ended answers whether somebody has the role
-    pub seen_role : (role : Role) (taken : Bool) (m : Unit {0}) → Ends code (machine_kind kd) (looks_role role) base taken m w
+    pub seen_role : (role : Role) {taken : Bool} {m : Unit {0}} → Ends code (machine_kind kd) (looks_role role) base taken m w
         → HasSeenRole role taken base w
-    seen_role role taken m ends =
+    seen_role role {taken} {m} ends =
         let p = ends.party in
         let start : Start T = Queues (look_start role) in
         let called_once = called code (machine_kind kd) (looks_role role) base w taken m idle ends in
         let its_call : Called p start (Truth taken) [] base w = subst (λ es. Called p start (Truth taken) es base w) ends.tells called_once in
         let last : Event T = Finished p start (Truth taken) in
-        let seen_is : w.seen ≡ before_end its_call ++ last ∷ [] = ends_so p start (Truth taken) [] base w its_call in
+        let seen_is : w.seen ≡ before_end its_call ++ last ∷ [] = to_end its_call in
         record {
           by = p;
           mine = ends.mine;

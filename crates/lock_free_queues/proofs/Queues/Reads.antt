@@ -26,18 +26,18 @@ module _ {T : Type 0} where
   begins_nothing (x ∷ xs) beginning = (let no : [] ≡ x ∷ (xs ++ beginning.rest) = beginning.is in absurd (cc))
 
   -- Two reads, one after the other, are one from the first view to the last.
-  pub then_read : (v w x : View T) → HasRead v w → HasRead w x → HasRead v x
-  then_read v w x first_read second_read = grind (arith, begins_further)
+  pub then_read : {v w x : View T} → HasRead v w → HasRead w x → HasRead v x
+  then_read {v} {w} {x} first_read second_read = grind (arith, begins_further)
 
   -- before its first load a pass has read what it had seen
   pub not_read : (v : View T) → MissesNothing v → HasRead v v
   not_read v all = record { share = refl; since = itself v.seen; made = refl; whole = λ x. refl; all = all }
 
-module _ {T : Type 0} (code : Coding T) (kd : QueueKind) where
+module _ {T : Type 0} {code : Coding T} (kd : QueueKind) where
   -- v and w are what the pass knew before a look at the word and after it, l says how it looked
-  module _ (capacity word found : ℕ) (v w : View T) (same : v.capacity ≡ capacity)
-      (low : word < 4 + words_in_cells code.size kd capacity)
-      (l : LooksAt code (machine_kind kd) v.capacity word v found w) where
+  module _ {capacity word found : ℕ} {v w : View T} (same : v.capacity ≡ capacity)
+      (l : LooksAt code (machine_kind kd) v.capacity word v found w)
+      (low : word < 4 + words_in_cells code.size kd capacity) where
     -- The load was of a run of the queue's machine.
     run : IsRun code (machine_kind kd) capacity l.trace
     run = subst (λ n. IsRun code (machine_kind kd) n l.trace) same l.run
@@ -128,10 +128,10 @@ module _ {T : Type 0} (code : Coding T) (kd : QueueKind) where
       (λ u n w. LooksAt code (machine_kind kd) u.capacity word u n w) word Load (v, ys)) (sym bare)
       (below, owed key slots id word v (v, []) refl size idle some)
 
-module _ {T : Type 0} (code : Coding T) (kind : Kind) where
+module _ {T : Type 0} {code : Coding T} {kind : Kind} where
   -- with the whole share, a look sees nothing more
-  pub has_looked : (v w : View T) → v.other ≡ [] → Looks code kind v.capacity v w → HasLooked v w
-  has_looked v w alone looks =
+  pub has_looked : {v w : View T} → v.other ≡ [] → Looks code kind v.capacity v w → HasLooked v w
+  has_looked {v} {w} alone looks =
       record {
         made = looks.made;
         whole =
@@ -143,9 +143,9 @@ module _ {T : Type 0} (code : Coding T) (kind : Kind) where
   -- ---- one load after another
 
   -- a word that was read since a later view was read since an earlier one
-  pub read_since : (capacity word found : ℕ) (v w x : View T) → HasRead v w
+  pub read_since : {capacity word found : ℕ} {v w x : View T} → HasRead v w
       → WasRead code kind capacity w x word found → WasRead code kind capacity v x word found
-  read_since capacity word found v w x read r =
+  read_since {capacity} {word} {found} {v} {w} {x} read r =
       record {
         trace = r.trace;
         run = r.run;
@@ -155,9 +155,9 @@ module _ {T : Type 0} (code : Coding T) (kind : Kind) where
       }
 
   -- a word that was read until an earlier view was read until a later one
-  pub read_until : (capacity word found : ℕ) (v w x : View T) → WasRead code kind capacity v w word found
+  pub read_until : {capacity word found : ℕ} {v w x : View T} → WasRead code kind capacity v w word found
       → HasRead w x → WasRead code kind capacity v x word found
-  read_until capacity word found v w x r read =
+  read_until {capacity} {word} {found} {v} {w} {x} r read =
       record {
         trace = r.trace;
         run = r.run;
@@ -166,6 +166,7 @@ module _ {T : Type 0} (code : Coding T) (kind : Kind) where
         found_is = r.found_is;
       }
 
+module _ {T : Type 0} (code : Coding T) (kind : Kind) where
   -- the words of cells below one were read
   abbrev pub ReadTo : ℕ → View T → View T → ℕ → List ℕ → Type 0
   ReadTo capacity v w at words = (word : ℕ) → 4 ≤ word → word < at → WasRead code kind capacity v w word (slice_index words word)
@@ -174,31 +175,29 @@ module _ {T : Type 0} (code : Coding T) (kind : Kind) where
   pub none_read : (capacity : ℕ) (v w : View T) (words : List ℕ) → ReadTo capacity v w 4 words
   none_read capacity v w words word high low = absurd (omega arith)
 
-  -- Words that were read until a view were read until each later one.
-  pub read_to_until : (capacity : ℕ) (v w x : View T) (at : ℕ) (words : List ℕ) → ReadTo capacity v w at words → HasRead w x → ReadTo capacity v x at words
-  read_to_until capacity v w x at words cells b word high low = read_until capacity word (slice_index words word) v w x (cells word high low) b
-
+module _ {T : Type 0} {code : Coding T} {kind : Kind} {capacity : ℕ} where
   -- A word of the cells that is read at the place `at` adds to the words that were read: those below at + 1.
-  pub one_read : (capacity : ℕ) (v w x : View T) (at found : ℕ) (words : List ℕ) → at < length words → HasRead v w → HasRead w x
-      → ReadTo capacity v w at words → WasRead code kind capacity w x at found → ReadTo capacity v x (at + 1) (set words at found)
-  one_read capacity v w x at found words inside a b cells r word high low =
+  pub one_read : {v w x : View T} {at found : ℕ} (words : List ℕ) → at < length words → HasRead v w → HasRead w x
+      → ReadTo code kind capacity v w at words → WasRead code kind capacity w x at found
+      → ReadTo code kind capacity v x (at + 1) (set words at found)
+  one_read {v} {w} {x} {at} {found} words inside a b cells r word high low =
       ⊎_elim (λ (before : word < at). subst (WasRead code kind capacity v x word)
       (sym (get_or-set_other words at word found 0 (λ e. absurd (omega arith))))
-      (read_until capacity word (slice_index words word) v w x (cells word high before) b))
+      (read_until (cells word high before) b))
       (λ (last : at ≤ word).
       let here : word ≡ at = omega arith in
       let is : slice_index (set words at found) word ≡ found = ap (λ k. slice_index (set words at found) k) here ∙ get_or-set_same words at found 0 inside in
       subst (WasRead code kind capacity v x word) (sym is)
-      (subst (λ k. WasRead code kind capacity v x k found) (sym here) (read_since capacity at found v w x a r)))
+      (subst (λ k. WasRead code kind capacity v x k found) (sym here) (read_since a r)))
       (cases_lt word at)
 
   -- The words that were read, with both positions put in, are those of the queue at the moment when the
   -- read position was read.
-  pub last_words : (capacity wide : ℕ) (v w x y : View T) (words : List ℕ) (write taken : ℕ) → capacity < 2 ^ 32 → length words ≡ 4 + wide → write < 2 ^ 64
+  pub last_words : (wide : ℕ) {v w x y : View T} (words : List ℕ) {write taken : ℕ} → capacity < 2 ^ 32 → length words ≡ 4 + wide → write < 2 ^ 64
       → HasRead v w → HasRead w x → HasRead x y → WasRead code kind capacity w w 0 write
       → CellsRead code kind capacity w x words → WasRead code kind capacity x x 1 taken → WasRead code kind capacity y y 0 write
       → (l : LastWords code kind wide capacity v (set (set words 0 write) 1 taken)) × (l.new ≡ x)
-  last_words capacity wide v w x y words write taken small long low opening reading ending first cells took last =
+  last_words wide {v} {w} {x} {y} words {write} {taken} small long low opening reading ending first cells took last =
       let a : List ℕ = set words 0 write in
       let la = length-set words 0 write in
       let lb = length-set a 1 taken in
@@ -252,8 +251,13 @@ module _ {T : Type 0} (code : Coding T) (kd : QueueKind) where
         r.found_is
         ∙ ((queue_goes_on code kd (first_view capacity) r.trace r.run).book.read ∙ ap (λ es. length (handed_out es)) (read_here 1 n r))
 
-  -- the write position never sinks
-  pub writes_rise : (capacity n m : ℕ) (v w : View T) → HasRead v w → WasRead code (machine_kind kd) capacity v v 0 n
-      → WasRead code (machine_kind kd) capacity w w 0 m → n ≤ m
-  writes_rise capacity n m v w read first_was_read second_was_read =
-      omega (arith, write_here capacity v n first_was_read, write_here capacity w m second_was_read, hits_grow publishes v.seen w.seen read.since)
+-- the write position never sinks
+pub writes_rise : {T : Type 0} {code : Coding T} (kd : QueueKind) {capacity n m : ℕ} {v w : View T} → HasRead v w
+    → WasRead code (machine_kind kd) capacity v v 0 n → WasRead code (machine_kind kd) capacity w w 0 m → n ≤ m
+writes_rise {T} {code} kd {capacity} {n} {m} {v} {w} read first_was_read second_was_read =
+    omega (
+      arith,
+      write_here code kd capacity v n first_was_read,
+      write_here code kd capacity w m second_was_read,
+      hits_grow publishes v.seen w.seen read.since,
+    )

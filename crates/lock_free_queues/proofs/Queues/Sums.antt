@@ -16,26 +16,34 @@ module _ {T : Type 0} where
   -- ---- by the call
 
   module _ {p : ℕ} {start : Start T} {answer : Answer T} {wrote : List (Event T)} {old new : View T} (c : Called p start answer wrote old new) where
-    -- A sum over what the pass made grows by what the call wrote, and by its end.
-    made_more : (f : Event T → ℕ) → f (Begun p start) ≡ 0 → {last : ℕ} → f (Finished p start answer) ≡ last
-        → sum_by f new.made ≡ sum_by f old.made + (sum_by f wrote + last)
-    made_more f none {last} f_is = grind (arith, sum_by-append, sum_first)
+    -- A sum over what the pass made grows by the begin of the call, by what it wrote, and by its end.
+    made_more : (f : Event T → ℕ) {more : ℕ} → f (Begun p start) + (sum_by f wrote + f (Finished p start answer)) ≡ more
+        → sum_by f new.made ≡ sum_by f old.made + more
+    made_more f {more} more_is = grind (arith, sum_by-append, sum_first)
 
     -- A call has done as many puts and gets as it wrote.
     pub done : HasDone (sum_by puts wrote + 0) (sum_by gets wrote + 0) old new
-    done = record { puts_more = made_more puts refl refl; gets_more = made_more gets refl refl }
+    done =
+        record {
+          puts_more = made_more puts {more = sum_by puts wrote + 0} (omega arith);
+          gets_more = made_more gets {more = sum_by gets wrote + 0} (omega arith);
+        }
+
+    -- A call moves a role as often as its events take it and give it back.
+    moves : (role : Role) {taken given : ℕ}
+        → takes role (Begun p start) + (sum_by (takes role) wrote + takes role (Finished p start answer)) ≡ taken
+        → gives role (Begun p start) + (sum_by (gives role) wrote + gives role (Finished p start answer)) ≡ given
+        → Moved role taken given old.made new.made
+    moves role taken_is given_is = record { takes = made_more (takes role) taken_is; gives = made_more (gives role) given_is }
 
   module _ (old new : View T) where
     -- A push that answers true has published one item and taken out none.
     pub done_pushed : (item : Item T) → HasPushed item true old new → HasDone 1 0 old new
-    done_pushed item pushed =
-        (let done_here = done pushed.called in
-        record { puts_more = done_here.puts_more; gets_more = done_here.gets_more })
+    done_pushed item pushed = (let done_here = done pushed.called in done_here)
 
     -- a push that was refused, or a look
     pub done_refused : (item : Item T) (capacity : ℕ) → PushRefused capacity item old new → HasDone 0 0 old new
-    done_refused item capacity (inl h) =
-        (let done_here = done h.0.called in record { puts_more = done_here.puts_more; gets_more = done_here.gets_more })
+    done_refused item capacity (inl h) = (let done_here = done h.0.called in done_here)
     done_refused item capacity (inr h) = same_made h.made
       where
         -- A pass that made nothing more has done nothing.
@@ -44,69 +52,42 @@ module _ {T : Type 0} where
 
     -- A push into an overflowing queue that handed nothing back has published one item and taken out none.
     pub done_added : (value : ℕ) → HasOverflowed value None old new → HasDone 1 0 old new
-    done_added value overflowed =
-        (let done_here = done overflowed.called in
-        record { puts_more = done_here.puts_more; gets_more = done_here.gets_more })
+    done_added value overflowed = (let done_here = done overflowed.called in done_here)
 
     -- A push into an overflowing queue that handed the oldest number back has published one item and
     -- taken out one.
     pub done_replaced : (value oldest : ℕ) → HasOverflowed value (Some oldest) old new → HasDone 1 1 old new
-    done_replaced value oldest overflowed =
-        (let done_here = done overflowed.called in record { puts_more = done_here.puts_more; gets_more = done_here.gets_more })
+    done_replaced value oldest overflowed = (let done_here = done overflowed.called in done_here)
 
     -- A pop that answers an item has taken out one.
     pub done_popped : (item : Item T) → HasPopped (Some item) old new → HasDone 0 1 old new
-    done_popped item popped =
-        (let done_here = done popped.called in
-        record { puts_more = done_here.puts_more; gets_more = done_here.gets_more })
+    done_popped item popped = (let done_here = done popped.called in done_here)
 
     -- A pop that found the queue empty has taken out none.
     pub done_none : HasPopped None old new → HasDone 0 0 old new
-    done_none popped =
-        (let done_here = done popped.called in
-        record { puts_more = done_here.puts_more; gets_more = done_here.gets_more })
+    done_none popped = (let done_here = done popped.called in done_here)
 
     -- A peek publishes and takes out nothing.
     pub done_peeked : (answer : Option (Item T)) → HasPeeked answer old new → HasDone 0 0 old new
-    done_peeked answer peeked =
-        (let done_here = done peeked.called in
-        record { puts_more = done_here.puts_more; gets_more = done_here.gets_more })
+    done_peeked answer peeked = (let done_here = done peeked.called in done_here)
 
     -- An acquire of a role publishes and takes out nothing.
     pub done_acquired : (role : Role) (taken : Bool) → HasAcquired role taken old new → HasDone 0 0 old new
-    done_acquired role taken acquired =
-        (let done_here = done acquired.called in
-        record { puts_more = done_here.puts_more; gets_more = done_here.gets_more })
+    done_acquired role taken acquired = (let done_here = done acquired.called in done_here)
 
     -- A release of a role publishes and takes out nothing.
     pub done_released : (role : Role) → HasReleased role old new → HasDone 0 0 old new
-    done_released role released =
-        (let done_here = done released.called in
-        record { puts_more = done_here.puts_more; gets_more = done_here.gets_more })
+    done_released role released = (let done_here = done released.called in done_here)
 
     -- A look at a role publishes and takes out nothing.
     pub done_seen : (role : Role) (taken : Bool) → HasSeenRole role taken old new → HasDone 0 0 old new
-    done_seen role taken seen_role =
-        (let done_here = done seen_role.called in
-        record { puts_more = done_here.puts_more; gets_more = done_here.gets_more })
+    done_seen role taken seen_role = (let done_here = done seen_role.called in done_here)
 
     -- A call on the length publishes and takes out nothing.
     pub done_measured : (which : LengthOf) (capacity : ℕ) (answer : Answer T) → HasMeasured which capacity answer old new → HasDone 0 0 old new
-    done_measured which capacity answer measured =
-        (let done_here = done measured.called in record { puts_more = done_here.puts_more; gets_more = done_here.gets_more })
+    done_measured which capacity answer measured = (let done_here = done measured.called in done_here)
 
     -- ---- what it moves of the roles
-
-    -- a call that writes nothing but its begin and its end moves a role as often as its end does
-    moves : {p : ℕ} {start : Start T} {answer : Answer T} → Called p start answer [] old new → (role : Role)
-        → takes role (Begun p start) ≡ 0 → gives role (Begun p start) ≡ 0
-        → Moved role (takes role (Finished p start answer)) (gives role (Finished p start answer)) old.made new.made
-    moves {p} {start} {answer} call role begin_takes_none begin_gives_none =
-        let t : sum_by (takes role) new.made ≡ sum_by (takes role) old.made + (0 + takes role (Finished p start answer)) =
-        made_more call (takes role) begin_takes_none refl in
-        let g : sum_by (gives role) new.made ≡ sum_by (gives role) old.made + (0 + gives role (Finished p start answer)) =
-        made_more call (gives role) begin_gives_none refl in
-        record { takes = omega arith; gives = omega arith }
 
     -- a call that takes a role moves it once where it answers true, and else not, and never moves the other role
     pub acquired_moves : (role : Role) (taken : Bool) → HasAcquired role taken old new
@@ -156,24 +137,12 @@ module _ {T : Type 0} where
     seen_moves Consumer taken seen_role Producer = moves seen_role.called Producer refl refl
     seen_moves Consumer taken seen_role Consumer = moves seen_role.called Consumer refl refl
 
-    -- a call moves no role if none of its events takes it or gives it back
-    none_moved : {p : ℕ} {start : Start T} {answer : Answer T} {wrote : List (Event T)} → Called p start answer wrote old new → (role : Role)
-        → takes role (Begun p start) + (sum_by (takes role) wrote + takes role (Finished p start answer)) ≡ 0
-        → gives role (Begun p start) + (sum_by (gives role) wrote + gives role (Finished p start answer)) ≡ 0
-        → Moved role 0 0 old.made new.made
-    none_moved {p} {start} {answer} {wrote} call role none_takes none_gives =
-        let t : sum_by (takes role) new.made ≡ sum_by (takes role) old.made + (sum_by (takes role) wrote + takes role (Finished p start answer)) =
-        made_more call (takes role) (omega arith) refl in
-        let g : sum_by (gives role) new.made ≡ sum_by (gives role) old.made + (sum_by (gives role) wrote + gives role (Finished p start answer)) =
-        made_more call (gives role) (omega arith) refl in
-        record { takes = omega arith; gives = omega arith }
-
     -- A push into an overflowing queue that is a call of the history takes and gives no role.
     overflowed_moves : (value : ℕ) (back : Option ℕ) → HasOverflowed value back old new → (q : Role) → Moved q 0 0 old.made new.made
-    overflowed_moves value None overflowed Producer = none_moved overflowed.called Producer refl refl
-    overflowed_moves value None overflowed Consumer = none_moved overflowed.called Consumer refl refl
-    overflowed_moves value (Some oldest) overflowed Producer = none_moved overflowed.called Producer refl refl
-    overflowed_moves value (Some oldest) overflowed Consumer = none_moved overflowed.called Consumer refl refl
+    overflowed_moves value None overflowed Producer = moves overflowed.called Producer refl refl
+    overflowed_moves value None overflowed Consumer = moves overflowed.called Consumer refl refl
+    overflowed_moves value (Some oldest) overflowed Producer = moves overflowed.called Producer refl refl
+    overflowed_moves value (Some oldest) overflowed Consumer = moves overflowed.called Consumer refl refl
 
     -- a push into an overflowing queue, or a look in its place, moves no role
     pub over_push_moves : (value : ℕ) (back : Option ℕ) → HasOverflowed value back old new ⊎ (back ≡ Some value) × WasAtEnd old new

@@ -1,6 +1,7 @@
 -- Tests of numbers, as the calls of a queue make them.
 use Rattle.lock_free_queues.proofs.Names.{◌≡◌, ℕ, ◌+◌, ◌*◌, ◌-◌, ◌^◌, ◌<◌, ◌≤◌, ◌==◌, min, nat_lt, true, false}
-use Rattle.lock_free_queues.proofs.Names.{arith, nat_tests, distance}
+use Rattle.lock_free_queues.proofs.Names.{arith, nat_tests, distance, zero, suc, refl}
+use Rattle.lock_free_queues.specs.Queues.Opened.{position_at}
 
 -- A position below the last one is found not to be the last.
 pub not_last : (n : ℕ) → n < 2 ^ 64 - 1 → (n == 2 ^ 64 - 1) ≡ false
@@ -33,3 +34,10 @@ not_below n m low = grind (arith, nat_tests)
 -- At position 0 no word of a cell is used.
 pub none_used : (size capacity : ℕ) → size * min 0 capacity ≡ 0
 none_used size capacity = grind (arith, min)
+
+-- What holds at position 0 of a queue without capacity, and at this position of a queue with one, holds where a queue
+-- opens at this position.
+pub from_cells : (P : ℕ → Type 0) (capacity position : ℕ) → (capacity ≡ 0 → P 0) → (0 < capacity → P position)
+    → P (position_at capacity position)
+from_cells P zero position none some = none refl
+from_cells P (suc less) position none some = some (omega arith)

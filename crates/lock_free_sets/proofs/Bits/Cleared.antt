@@ -3,7 +3,7 @@ use Rattle.lock_free_sets.proofs.Names.{◌≡◌, ⊎_elim, true≢false, ◌==
 use Rattle.lock_free_sets.proofs.Names.{List, [], ◌∷◌, ◌++◌, map, refl, sym, ap, subst, ◌∙◌, arith, append_assoc, append-nil}
 use Rattle.lock_free_sets.proofs.Names.{map-append, FoldsTo, All, range_with_len, cases_lt, sum_by-cons, FoldsTo-push}
 use Rattle.lock_free_sets.proofs.Names.{All-nil, All-cons, All-push, All-weaker, all_pairs_push, element_of, elements, has_flag, After}
-use Rattle.lock_free_sets.proofs.Names.{Emptying, OneWord, Event, Finished, IsBitSet, fresh, SinceBegin}
+use Rattle.lock_free_sets.proofs.Names.{Emptying, OneWord, Event, IsBitSet, fresh, SinceBegin}
 use Rattle.lock_free_sets.proofs.Names.{bits_go_on, View, events_by}
 use Rattle.std.specs.List.{filter, count_by}
 use Rattle.std.proofs.lemmas.List.Elements.{All-append, All-head, All-tail, filter-append}
@@ -26,6 +26,7 @@ use Rattle.lock_free_sets.specs.Driven.{HasMade, HasDone, IsIdle}
 use Rattle.lock_free_sets.specs.Sets.Kinds.{Flags}
 use Rattle.lock_free_sets.specs.Bits.Contracts.{cleared_by, HasCleanedOut, MissedNoPlace, ResetAllDone}
 use Rattle.lock_free_sets.proofs.Ends.{before_end, to_end}
+use Rattle.lock_free_sets.proofs.Sets.Answered.{bits_answer}
 use Rattle.lock_free_sets.proofs.Sets.Emptied.{emptying, Stepped, TookStep, stepped, same_capacity, WroteSoFar}
 use Rattle.lock_free_sets.proofs.Sets.Emptied.{first_wrote, words_left, ends_all, wrote_on, wrote_all}
 use Rattle.lock_free_sets.proofs.Sets.Emptying.{goes_next}
@@ -88,10 +89,10 @@ folds_more R (x ∷ xs) ys v p q a b = (a.0, a.1, folds_more R xs ys a.0 p q a.2
 
 -- After one further place the closure was called with that place if its flag is set, and not called if
 -- it is clear.
-pub visited_more : {F : Type 0} (R : F → ℕ → F → Type 0) (found first n : ℕ) (v p q : F) (t : Bool)
+pub visited_more : {F : Type 0} (R : F → ℕ → F → Type 0) (found first n : ℕ) (v : F) {p q : F} {t : Bool}
     → has_flag found (first + n) ≡ t → (t ≡ true → R p (first + n) q) → (t ≡ false → q ≡ p)
     → Visited R found first v n p → Visited R found first v (n + 1) q
-visited_more {F} R found first n v p q t is hit miss h =
+visited_more {F} R found first n v {p} {q} {t} is hit miss h =
     subst (λ xs. FoldsTo R v xs q) (sym whole) (go t is hit miss)
   where
     has : ℕ → Bool
@@ -118,7 +119,7 @@ visited_rest R found first n zero v p none h =
 visited_rest R found first n (suc m) v p none h =
     let up : (n + m) + 1 ≡ n + suc m = omega arith in
     subst (λ k. Visited R found first v k p) up
-    (visited_more R found first (n + m) v p p false (none (n + m) (omega arith) (omega arith))
+    (visited_more R found first (n + m) v (none (n + m) (omega arith) (omega arith))
     (λ e. absurd (true≢false (sym e))) (λ e. refl)
     (visited_rest R found first n m v p (λ i low high. none i low (omega arith)) h))
 
@@ -255,24 +256,24 @@ module _ {F : Type 0} {R : F → ℕ → F → Type 0} {cap : ℕ} {visit : F} {
         let all = ends_all Flags h.call step is in
         bits_take h.call.idle h.call.size all.0 (omega arith)
 
+    -- The places that were cleared, with those of this word.
+    abbrev all_places : List ℕ
+    all_places = h.places ++ places_in c.word room.0
+
+    -- These places ascend below the capacity.
+    up : Ascends cap all_places
+    up =
+        ascends_more cap (first_place c.word) h.places (places_in c.word room.0) h.ascend h.below (places_rise c.word room.0)
+        (kept_all (λ y. y < cap) (λ place. has_flag room.0 place) (first_place c.word) 64 (λ p from to t. place_within p from to t))
+
+    -- The events that clear the places of this word come behind those of the places before.
+    same_events : (p : ℕ) → map (cleared_by p) h.places ++ clear_events p c.word room.0 ≡ map (cleared_by p) all_places
+    same_events p = sym (map-append (cleared_by p) h.places (places_in c.word room.0))
+
     module _ (g : F) (visited : Visited R room.0 (first_place c.word) f 64 g) where
-      -- The places that were cleared, with those of this word.
-      abbrev all_places : List ℕ
-      all_places = h.places ++ places_in c.word room.0
-
-      -- These places ascend below the capacity.
-      up : Ascends cap all_places
-      up =
-          ascends_more cap (first_place c.word) h.places (places_in c.word room.0) h.ascend h.below (places_rise c.word room.0)
-          (kept_all (λ y. y < cap) (λ place. has_flag room.0 place) (first_place c.word) 64 (λ p from to t. place_within p from to t))
-
       -- The closure was called with all of them, and became g.
       all_folds : FoldsTo R visit all_places g
       all_folds = folds_more R h.places (places_in c.word room.0) visit f g h.folds visited
-
-      -- The events that clear the places of this word come behind those of the places before.
-      same_events : (p : ℕ) → map (cleared_by p) h.places ++ clear_events p c.word room.0 ≡ map (cleared_by p) all_places
-      same_events p = sym (map-append (cleared_by p) h.places (places_in c.word room.0))
 
       -- where the call goes on to its next word, `SoFar` holds with the places that it has just cleared
       pub so_far_on : {next : Emptying} → a ≡ GoOn next → SoFar R cap visit base w next room g
@@ -311,13 +312,12 @@ module _ {F : Type 0} {R : F → ℕ → F → Type 0} {cap : ℕ} {visit : F} {
 missed_none : (cap : ℕ) (base w : View ℕ) (wrote : ℕ → List (Event ℕ)) → base.capacity ≡ cap → HasDone kinds.Bits base w
     → HasMade emptying answers.Done wrote base w → MissedNoPlace cap w
 missed_none cap base w wrote size over made =
-    let h = over.history in
-    let before = before_end made.called in
-    let is = to_end made.called in
-    let set : IsBitSet h.trace = bits_go_on h.trace h.run.of_kind h.run.reached in
-    let right : SinceBegin made.by (HasCleared h.trace.world.capacity) before =
-    set.answers before [] (Finished made.by emptying answers.Done) (sym h.is ∙ is) in
-    record { by = made.by; before = before; is = is; cleared = subst (λ n. SinceBegin made.by (HasCleared n) before) (h.run.sized ∙ size) right }
+    record {
+      by = made.by;
+      before = before_end made.called;
+      is = to_end made.called;
+      cleared = subst (λ n. SinceBegin made.by (HasCleared n) (before_end made.called)) size (bits_answer over.history made.called);
+    }
 
 -- where there is no place, nothing is cleared and the closure is not called
 cleared_none : {F : Type 0} (R : F → ℕ → F → Type 0) (visit : F) (base w : View ℕ)

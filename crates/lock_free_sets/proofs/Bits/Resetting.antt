@@ -1,9 +1,9 @@
 -- Resetting the next place: a call of the model, and what it answers.
 use Rattle.lock_free_sets.proofs.Names.{◌≡◌, ℕ, ◌+◌, ◌<◌, ◌≤◌, ◌==◌, nat_lt, Bool, true, false, Option, Some, None}
-use Rattle.lock_free_sets.proofs.Names.{IfSome, List, [], ◌++◌, refl, sym, ap, subst, ◌∙◌, arith, nat_tests, by_test}
-use Rattle.lock_free_sets.proofs.Names.{element_of, elements, has_flag, Ask, After, ResetNone, Event, Finished, Bits}
-use Rattle.lock_free_sets.proofs.Names.{ResetNext, one_word, after_of, IsBitSet, bits_go_on, answered, KeepsRule, View}
-use Rattle.lock_free_sets.proofs.Names.{IsMachine, At, Ends, IsCallOf, goes, keeps_all}
+use Rattle.lock_free_sets.proofs.Names.{IfSome, List, [], ◌++◌, refl, sym, ap, subst, arith, nat_tests, by_test}
+use Rattle.lock_free_sets.proofs.Names.{element_of, elements, has_flag, Ask, After, Event, Bits}
+use Rattle.lock_free_sets.proofs.Names.{one_word, after_of, answered, View}
+use Rattle.lock_free_sets.proofs.Names.{At, Ends, goes, Driven, IsCallBy, KeepsEnds, keeps_to_end}
 use Rattle.steps.specs.Queues.Ring.{after_position}
 use Rattle.steps.specs.Bits.BitSet.{first_reset, place_after, at_most, reset_asks, reset_want, reset_comes_to, reset_tests, reset_takes, reset_after}
 use Rattle.steps.specs.Bits.Words.{without_flag}
@@ -13,16 +13,15 @@ use Rattle.steps.specs.declared.ask.Want.TheVariants as wants
 use Rattle.steps.specs.declared.bits.bit_set.ResetNext.{ResetNext as Resetting}
 use Rattle.steps.specs.declared.bits.bit_set.ResetNextStage.{ResetNextStage}
 use Rattle.steps.specs.declared.bits.bit_set.ResetNextStage.TheVariants as resets
-use Rattle.model.specs.declared.event.Answer.TheVariants.{Reset}
 use Rattle.model.specs.declared.turn.Kind.TheVariants as kinds
-use Rattle.model.specs.Families.Bits.Promises.{CameTo}
-use Rattle.model.specs.Families.Bits.Reading.{standing}
-use Rattle.model.specs.Moments.{HeldSometime}
-use Rattle.history.proofs.Sets.{bits_starts, set_effects, bits_owe}
+use Rattle.history.proofs.Sets.{bits_starts, set_effects}
 use Rattle.lock_free_sets.specs.Driven.{IsIdle}
+use Rattle.lock_free_sets.specs.Sets.Kinds.{Flags, words_of}
 use Rattle.lock_free_sets.specs.Bits.Stages.{ResetStands, reset_so_far, reset_wrote, IsPlace, resets_next}
 use Rattle.lock_free_sets.specs.Bits.Contracts.{HasReset, AllClearOnce, CameFromPosition, ResetDone, ResetNothing}
+use Rattle.lock_free_sets.proofs.Sets.Machines.{machines}
 use Rattle.lock_free_sets.proofs.Ends.{made_by, before_end, to_end}
+use Rattle.lock_free_sets.proofs.Sets.Answered.{bits_answer}
 
 -- A place that the scan comes to is below the capacity.
 place_below : (cap start passed : ℕ) → start ≤ cap → passed < cap → place_after cap start passed < cap
@@ -131,28 +130,27 @@ hears c a n e = at c.stage e
         ap (λ (z : Ask). reset_takes c (resets.ExchangesElement start passed found) (answered z.op n)) (sym same)
     at (resets.StoresPosition place) w = refl
 
+-- how a `reset_next` is driven
+abbrev driven : Driven ℕ Resetting (Unit {0}) (Option ℕ)
+driven = record { want = reset_want; after = reset_after; kept = λ c m n. m; call = resets_next }
+
 -- A `reset_next` is a call of the model.
-is_call : IsCallOf one_word set_effects (λ capacity. 1 + elements capacity) reset_want reset_after (λ c m n. m) (resets_next {T = ℕ})
+is_call : IsCallBy one_word set_effects (words_of Flags) driven
 is_call = grind (arith, same_after, hears, reset_so_far, set_effects, resets_next, stands_on, asks)
 
 -- each step of a reset keeps the rule of the table, and tells what is known after it
-pub next_keeps : KeepsRule (λ (z : View ℕ). z.asked) (λ (z : View ℕ). z.capacity) (At one_word kinds.Bits resets_next)
-    (Ends one_word kinds.Bits resets_next) (λ key. 1 + elements key + 1) (λ key. key)
-    (λ key. IsMachine one_word kinds.Bits key) reset_want reset_after (λ c m n. m)
-next_keeps =
-    keeps_all one_word kinds.Bits set_effects (λ capacity. 1 + elements capacity) (bits_owe one_word) reset_want
-    reset_after (λ c m n. m) resets_next is_call (λ c n. refl)
+pub next_keeps : KeepsEnds one_word kinds.Bits (words_of Flags) driven
+next_keeps = keeps_to_end (machines Flags) driven is_call (λ c n. refl)
 
 -- A `reset_next` is about to begin.
 pub next_first : (v : View ℕ) (m : Unit {0}) → IsIdle v.capacity v → At one_word kinds.Bits resets_next v v (first_reset v.capacity) m
 next_first v m idle = grind (arith, bits_starts, one_word, resets_next, first_reset)
 
 -- base and w are what the pass knew before the call and after it, o is the place that it answers
-module _ (base w : View ℕ) (o : Option ℕ) (m : Unit {0}) (idle : base.going ≡ None) (ends : Ends one_word kinds.Bits resets_next base o m w) where
+module _ {base w : View ℕ} {o : Option ℕ} {m : Unit {0}} (idle : base.going ≡ None) (ends : Ends one_word kinds.Bits resets_next base o m w) where
   -- The reset is a call of the history, which cleared the place that it answers.
   cleared : HasReset o base w
-  cleared =
-      made_by ends idle (λ by. reset_wrote by o) (ends.tells.1 idle)
+  cleared = made_by ends idle (λ by. reset_wrote by o) (ends.tells.1 idle)
 
   -- A place that `reset_next` answers is below the capacity.
   place_in : IfSome o (λ place. place < base.capacity)
@@ -166,31 +164,17 @@ module _ (base w : View ℕ) (o : Option ℕ) (m : Unit {0}) (idle : base.going 
   -- where a reset found none, each place was clear at some moment of the call
   all_clear : o ≡ None → AllClearOnce base.capacity w
   all_clear none =
-      let h = ends.history in
       let made : HasReset None base w = subst (λ z. HasReset z base w) none cleared in
-      let p = made.by in
-      let before = before_end made.called in
-      let is = to_end made.called in
-      let set : IsBitSet h.trace = bits_go_on h.trace h.run.of_kind h.run.reached in
-      let right : (b : ℕ) → b < h.trace.world.capacity → HeldSometime p (λ part. standing b part ≡ 0) before =
-      set.answers before [] (Finished p (Bits ResetNext) ResetNone) (sym h.is ∙ is) in
-      record { by = p; before = before; is = is; clear = λ place below. right place (subst (λ n. place < n) (sym h.run.sized) below) }
+      record { by = made.by; before = before_end made.called; is = to_end made.called; clear = bits_answer ends.history made.called }
 
   -- where a reset found a place, it came to this place from where the reset position stood at a
   -- moment of the call
   came_from : (place : ℕ) → o ≡ Some place → CameFromPosition base.capacity place w
   came_from place some =
-      let h = ends.history in
       let made : HasReset (Some place) base w = subst (λ z. HasReset z base w) some cleared in
-      let p = made.by in
-      let before = before_end made.called in
-      let is = to_end made.called in
-      let set : IsBitSet h.trace = bits_go_on h.trace h.run.of_kind h.run.reached in
-      let right : CameTo p h.trace.world.capacity place before =
-      set.answers before [] (Finished p (Bits ResetNext) (Reset place)) (sym h.is ∙ is) in
-      record { by = p; before = before; is = is; came = subst (λ n. CameTo p n place before) h.run.sized right }
+      record { by = made.by; before = before_end made.called; is = to_end made.called; came = bits_answer ends.history made.called }
 
-  module _ (capacity : ℕ) (size : base.capacity ≡ capacity) where
+  module _ {capacity : ℕ} (size : base.capacity ≡ capacity) where
     -- a reset that found a place has cleared it, it lies below the capacity, and the call came to
     -- it from the reset position
     pub found_place : (place : ℕ) → o ≡ Some place → ResetDone capacity place base w

@@ -1,8 +1,8 @@
 -- Setting a place: a call of the model, and what it answers.
 use Rattle.lock_free_sets.proofs.Names.{◌≡◌, ℕ, ◌+◌, ◌<◌, ◌==◌, nat_le, Bool, true, false, None, List, [], refl}
-use Rattle.lock_free_sets.proofs.Names.{sym, ap, subst, ◌∙◌, arith, nat_tests, element_of, elements, has_flag, Ask, After}
-use Rattle.lock_free_sets.proofs.Names.{Truth, Event, Finished, Bits, Set, one_word, after_of, IsBitSet, bits_go_on}
-use Rattle.lock_free_sets.proofs.Names.{answered, KeepsRule, View, IsMachine, At, Ends, IsCallOf, goes, keeps_all}
+use Rattle.lock_free_sets.proofs.Names.{sym, ap, subst, arith, nat_tests, element_of, elements, has_flag, Ask, After}
+use Rattle.lock_free_sets.proofs.Names.{Event, Bits, one_word, after_of}
+use Rattle.lock_free_sets.proofs.Names.{answered, View, At, Ends, goes, Driven, IsCallBy, KeepsEnds, keeps_to_end}
 use Rattle.steps.specs.Bits.BitSet.{first_set, set_want, set_tests, set_after}
 use Rattle.steps.specs.Bits.Words.{with_flag}
 use Rattle.steps.specs.declared.ask.Op.TheVariants.{Load, Exchange}
@@ -12,11 +12,14 @@ use Rattle.steps.specs.declared.bits.bit_set.Set.{Set as Setting}
 use Rattle.steps.specs.declared.bits.bit_set.SetStage.{SetStage}
 use Rattle.steps.specs.declared.bits.bit_set.SetStage.TheVariants as sets
 use Rattle.model.specs.declared.turn.Kind.TheVariants as kinds
-use Rattle.history.proofs.Sets.{bits_starts, set_effects, bits_owe}
+use Rattle.history.proofs.Sets.{bits_starts, set_effects}
 use Rattle.lock_free_sets.specs.Driven.{IsIdle}
 use Rattle.lock_free_sets.specs.Bits.Stages.{set_wrote, sets_place}
 use Rattle.lock_free_sets.specs.Bits.Contracts.{HasSet, StoodOnce, SetDone}
+use Rattle.lock_free_sets.specs.Sets.Kinds.{Flags, words_of}
+use Rattle.lock_free_sets.proofs.Sets.Machines.{machines}
 use Rattle.lock_free_sets.proofs.Ends.{made_by, before_end, to_end}
+use Rattle.lock_free_sets.proofs.Sets.Answered.{bits_answer}
 
 module _ (place : ℕ) where
   -- The model's call goes on after each number that a step finds just as that of `steps`.
@@ -110,40 +113,33 @@ module _ (place : ℕ) where
           go true t = rw t refl
           go false t = rw t (tested p n)
 
+  -- how a set is driven
+  abbrev driven : Driven ℕ Setting (Unit {0}) Bool
+  driven = record { want = λ c. set_want c place; after = λ c n. set_after c place n; kept = λ c m n. m; call = sets_place place }
+
   -- A set is a call of the model.
-  is_call : IsCallOf one_word set_effects (λ capacity. 1 + elements capacity) (λ c. set_want c place)
-      (λ c n. set_after c place n) (λ c m n. m) (sets_place {T = ℕ} place)
+  is_call : IsCallBy one_word set_effects (words_of Flags) driven
   is_call = grind (arith, same_after, hears, asks, set_effects, sets_place, writes)
 
   -- each step of a set keeps the rule of the table, and tells what is known after it
-  pub set_keeps : KeepsRule (λ (z : View ℕ). z.asked) (λ (z : View ℕ). z.capacity) (At one_word kinds.Bits (sets_place place))
-      (Ends one_word kinds.Bits (sets_place place)) (λ key. 1 + elements key + 1) (λ key. key)
-      (λ key. IsMachine one_word kinds.Bits key) (λ c. set_want c place) (λ c n. set_after c place n) (λ c m n. m)
-  set_keeps =
-      keeps_all one_word kinds.Bits set_effects (λ capacity. 1 + elements capacity) (bits_owe one_word)
-      (λ c. set_want c place) (λ c n. set_after c place n) (λ c m n. m) (sets_place place) is_call (λ c n. refl)
+  pub set_keeps : KeepsEnds one_word kinds.Bits (words_of Flags) driven
+  set_keeps = keeps_to_end (machines Flags) driven is_call (λ c n. refl)
 
   -- A set at a place below the capacity is about to begin.
   pub set_first : (v : View ℕ) (m : Unit {0}) → IsIdle v.capacity v → place < v.capacity → At one_word kinds.Bits (sets_place place) v v first_set m
   set_first v m idle place_below_capacity = grind (arith, nat_le, nat_tests, bits_starts, one_word, sets_place, first_set)
 
   -- base and w are what the pass knew before the call and after it, b is its answer
-  module _ (base w : View ℕ) (b : Bool) (m : Unit {0}) (idle : base.going ≡ None) (ends : Ends one_word kinds.Bits (sets_place place) base b m w) where
+  module _ {base w : View ℕ} {b : Bool} {m : Unit {0}} (idle : base.going ≡ None) (ends : Ends one_word kinds.Bits (sets_place place) base b m w) where
     -- The set is a call of the history with its answer.
     added : HasSet place b base w
-    added =
-        made_by ends idle (λ by. set_wrote by place b) ends.tells
+    added = made_by ends idle (λ by. set_wrote by place b) ends.tells
 
     -- a set that answers false met a moment at which the place stood
     stood : b ≡ false → StoodOnce place w
     stood not =
-        let h = ends.history in
         let made : HasSet place false base w = subst (λ z. HasSet place z base w) not added in
-        let before = before_end made.called in
-        let is = to_end made.called in
-        let set : IsBitSet h.trace = bits_go_on h.trace h.run.of_kind h.run.reached in
-        let right = set.answers before [] (Finished made.by (Bits (Set place)) (Truth false)) (sym h.is ∙ is) in
-        record { by = made.by; before = before; is = is; stood = right }
+        record { by = made.by; before = before_end made.called; is = to_end made.called; stood = bits_answer ends.history made.called }
 
     -- A set that has ended has done what `SetDone` says.
     pub set_done : SetDone place b base w

@@ -1,23 +1,30 @@
 -- Counting a place: a call of the model in one step, and what it answers.
-use Rattle.lock_free_sets.proofs.Names.{◌≡◌, ℕ, ◌+◌, ◌<◌, nat_le, None, List, [], ◌∷◌, ◌++◌, refl, sym, ap, ◌∙◌}
-use Rattle.lock_free_sets.proofs.Names.{arith, nat_tests, Ask, Number, Event, Finished, Bits, Set, one_word, IsCountingOn}
-use Rattle.lock_free_sets.proofs.Names.{counts_go_on, answered, KeepsRule, View, IsMachine, At, Ends, IsCallOf, keeps_all}
+use Rattle.lock_free_sets.proofs.Names.{◌≡◌, ℕ, ◌+◌, ◌<◌, nat_le, None, [], ◌∷◌, ◌++◌, refl, sym, ap, ◌∙◌}
+use Rattle.lock_free_sets.proofs.Names.{arith, nat_tests, Ask, Number, Event, Finished, Bits, Set, one_word}
+use Rattle.lock_free_sets.proofs.Names.{answered, View, At, Ends, Driven, IsCallBy, KeepsEnds, keeps_to_end}
 use Rattle.steps.specs.Bits.Counts.{set_want, set_after}
 use Rattle.steps.specs.declared.ask.Op.TheVariants.{Add}
 use Rattle.steps.specs.declared.ask.Want.TheVariants as wants
 use Rattle.steps.specs.declared.bits.counting_bit_set.Set as counting
 use Rattle.model.specs.declared.event.Event.TheVariants.{Counted}
 use Rattle.model.specs.declared.turn.Kind.TheVariants as kinds
-use Rattle.model.specs.Families.Bits.Promises.{AnswersCountOn}
-use Rattle.history.proofs.Sets.{counts_starts, set_effects, counts_owe}
+use Rattle.history.proofs.CallsIn.{last_tells}
+use Rattle.history.proofs.Sets.{counts_starts, set_effects}
 use Rattle.lock_free_sets.specs.Driven.{IsIdle}
 use Rattle.lock_free_sets.specs.Counts.Stages.{counts_place}
 use Rattle.lock_free_sets.specs.Counts.Contracts.{HasCounted, AnswersCount, SetDone}
-use Rattle.lock_free_sets.proofs.Ends.{has_made, before_end, to_end}
+use Rattle.lock_free_sets.specs.Sets.Kinds.{Counts, words_of}
+use Rattle.lock_free_sets.proofs.Sets.Machines.{machines}
+use Rattle.lock_free_sets.proofs.Ends.{made_by, to_end}
+use Rattle.lock_free_sets.proofs.Sets.Answered.{counts_answer}
 
 module _ (place : ℕ) where
+  -- how counting a place is driven
+  abbrev driven : Driven ℕ counting.Set (Unit {0}) ℕ
+  driven = record { want = λ c. set_want c place; after = λ c n. set_after c n; kept = λ c m n. m; call = counts_place place }
+
   -- counting a place is a call of the model
-  is_call : IsCallOf one_word set_effects (λ capacity. capacity) (λ c. set_want c place) (λ c n. set_after c n) (λ c m n. m) (counts_place {T = ℕ} place)
+  is_call : IsCallBy one_word set_effects (words_of Counts) driven
   is_call =
       record {
         same_want = λ c m. refl;
@@ -29,7 +36,7 @@ module _ (place : ℕ) where
         finds = λ c m n small t. tt;
         leaves = λ c a n t e. absurd (cc);
         tells = λ capacity p from c d m n es stands wrote e. absurd (cc);
-        tells_all = λ capacity p from c e m n es stands skip wrote is still. ap (λ zs. zs ++ Counted p place ∷ []) wrote;
+        tells_all = last_tells set_effects driven (λ step e skip leads. ap (λ zs. zs ++ Counted step.p place ∷ []) step.wrote);
       }
     where
       -- The call goes on after what the driver hands back of its operation as after the
@@ -40,35 +47,26 @@ module _ (place : ℕ) where
           ap (λ (z : Ask). set_after c (answered z.op n)) (sym same)
 
   -- the step of counting a place keeps the rule of the table, and tells what is known after it
-  pub count_keeps : KeepsRule (λ (z : View ℕ). z.asked) (λ (z : View ℕ). z.capacity) (At one_word kinds.Counts (counts_place place))
-      (Ends one_word kinds.Counts (counts_place place)) (λ key. key + 1) (λ key. key)
-      (λ key. IsMachine one_word kinds.Counts key) (λ c. set_want c place) (λ c n. set_after c n) (λ c m n. m)
-  count_keeps =
-      keeps_all one_word kinds.Counts set_effects (λ capacity. capacity) (counts_owe one_word) (λ c. set_want c place)
-      (λ c n. set_after c n) (λ c m n. m) (counts_place place) is_call (λ c n. refl)
+  pub count_keeps : KeepsEnds one_word kinds.Counts (words_of Counts) driven
+  count_keeps = keeps_to_end (machines Counts) driven is_call (λ c n. refl)
 
   -- A count at a place below the capacity is about to begin.
   pub count_first : (v : View ℕ) (c : counting.Set) (m : Unit {0}) → IsIdle v.capacity v → place < v.capacity
       → At one_word kinds.Counts (counts_place place) v v c m
   count_first v c m idle place_below_capacity = grind (arith, nat_le, nat_tests, counts_starts, one_word, counts_place)
 
-  module _ (base w : View ℕ) (number : ℕ) (m : Unit {0}) (idle : base.going ≡ None)
+  module _ {base w : View ℕ} {number : ℕ} {m : Unit {0}} (idle : base.going ≡ None)
       (ends : Ends one_word kinds.Counts (counts_place place) base number m w) where
     -- The count is a call of the history with its answer.
     counted : HasCounted place number base w
-    counted = grind (arith, has_made, counts_place)
+    counted = made_by ends idle (λ by. Counted by place ∷ []) ends.tells
 
     -- the answer of counting a place is the count just before, modulo 2^64
     answers : AnswersCount place number w
     answers =
-        let p = counted.by in
-        let h = ends.history in
-        let last : Event ℕ = Finished p (Bits (Set place)) (Number number) in
-        let before : List (Event ℕ) = before_end counted.called in
-        let whole : w.seen ≡ before ++ last ∷ [] = to_end counted.called in
-        let set : IsCountingOn h.trace = counts_go_on h.trace h.run.of_kind h.run.reached in
-        let right : AnswersCountOn p place number before = set.answers before [] last (sym h.is ∙ whole) in
-        record { by = p; before = right.before; is = whole ∙ ap (λ es. es ++ last ∷ []) right.is; count = right.count }
+        let right = counts_answer ends.history counted.called in
+        let last : Event ℕ = Finished counted.by (Bits (Set place)) (Number number) in
+        record { by = counted.by; before = right.before; is = to_end counted.called ∙ ap (λ es. es ++ last ∷ []) right.is; count = right.count }
 
     -- A set that has ended has done what `SetDone` says.
     pub set_done : SetDone place number base w

@@ -27,14 +27,14 @@ module _ {F : Type 0} (R : F → BitState → F → Type 0) (cap : ℕ) (v : F) 
   none_states low = refl
 
   -- A place without a count leaves the counts that were handed out.
-  pub counted_on : (low : ℕ) (p q : F) → q ≡ p → Counted R cap low v p → Counted R cap (low + 1) v q
-  counted_on low p q q_is_p counted = grind arith
+  pub counted_on : (low : ℕ) {p q : F} → q ≡ p → Counted R cap low v p → Counted R cap (low + 1) v q
+  counted_on low {p} {q} q_is_p counted = grind arith
 
   -- with the count of the next place, which is above 0, the closure was called with the counts up
   -- to this place
-  pub counted_more : (low count : ℕ) (p q : F) → low < cap → 0 < count → count < 2 ^ 64 → R p (record { bit = low; count = count }) q
+  pub counted_more : (low count : ℕ) {p q : F} → low < cap → 0 < count → count < 2 ^ 64 → R p (record { bit = low; count = count }) q
       → Counted R cap low v p → Counted R cap (low + 1) v q
-  counted_more low count p q within some small hit counted =
+  counted_more low count {p} {q} within some small hit counted =
       let x : BitState = record { bit = low; count = count } in
       record {
         states = counted.states ++ x ∷ [];
@@ -63,14 +63,14 @@ module _ {F : Type 0} (R : F → BitState → F → Type 0) (cap : ℕ) (v : F) 
 
   -- with what was found at the next place, handed on if it is above 0, the closure was called with
   -- the counts up to this place
-  pub counted_found : (low n : ℕ) (p q : F) → low < cap → n < 2 ^ 64 → (0 < n → R p (record { bit = low; count = n }) q)
+  pub counted_found : (low n : ℕ) {p q : F} → low < cap → n < 2 ^ 64 → (0 < n → R p (record { bit = low; count = n }) q)
       → (n ≡ 0 → q ≡ p) → (h : Counted R cap low v p)
       → (g : Counted R cap (low + 1) v q) × (g.states ≡ h.states ++ found low n)
   unfolding counted_on counted_more
-  counted_found low zero p q within small hit miss h =
-      let g = counted_on R cap v low p q (miss refl) h in
+  counted_found low zero {p} {q} within small hit miss h =
+      let g = counted_on R cap v low (miss refl) h in
       (g, sym (append-nil h.states))
-  counted_found low (suc n) p q within small hit miss h = (counted_more R cap v low (suc n) p q within (omega arith) small (hit (omega arith)) h, refl)
+  counted_found low (suc n) {p} {q} within small hit miss h = (counted_more R cap v low (suc n) within (omega arith) small (hit (omega arith)) h, refl)
 
 -- ---- the closure at an equal capacity
 

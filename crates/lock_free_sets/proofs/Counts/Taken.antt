@@ -1,7 +1,7 @@
 -- Taking all counts out: the closure is called with just what the call takes.
 use Rattle.lock_free_sets.proofs.Names.{◌≡◌, ℕ, List, ◌+◌, ◌^◌, ◌<◌, [], ◌++◌, map, refl, sym, ap, subst, ◌∙◌, arith, map-append}
-use Rattle.lock_free_sets.proofs.Names.{All-nil, After, BitState, Emptying, OneWord, Event, Finished, IsCountingOn}
-use Rattle.lock_free_sets.proofs.Names.{fresh, SinceBegin, counts_go_on, View}
+use Rattle.lock_free_sets.proofs.Names.{All-nil, After, BitState, Emptying, OneWord, Event}
+use Rattle.lock_free_sets.proofs.Names.{fresh, SinceBegin, View}
 use Rattle.steps.specs.Bits.ResetAll.{all_counts}
 use Rattle.steps.specs.declared.ask.After.TheVariants.{GoOn, Done}
 use Rattle.model.specs.declared.event.Answer.TheVariants as answers
@@ -13,6 +13,7 @@ use Rattle.lock_free_sets.specs.Driven.{HasMade, HasDone, IsIdle}
 use Rattle.lock_free_sets.specs.Sets.Kinds.{Counts}
 use Rattle.lock_free_sets.specs.Counts.Contracts.{taken_by, HasTakenOut, MissedNoCount, ResetAllDone}
 use Rattle.lock_free_sets.proofs.Ends.{before_end, to_end}
+use Rattle.lock_free_sets.proofs.Sets.Answered.{counts_answer}
 use Rattle.lock_free_sets.proofs.Sets.Emptying.{goes_next}
 use Rattle.lock_free_sets.proofs.Steps.{counts_take}
 use Rattle.lock_free_sets.proofs.Sets.Emptied.{emptying, TookStep, WroteSoFar, first_wrote, words_left, ends_all, wrote_on, wrote_all}
@@ -57,11 +58,11 @@ module _ {F : Type 0} {R : F → BitState → F → Type 0} {cap : ℕ} {visit :
         let all = ends_all Counts h.call step is in
         counts_take h.call.idle h.call.size all.0 (omega arith)
 
-    module _ (small : room.0 < 2 ^ 64) (g : F) (hit : 0 < room.0 → R f (record { bit = c.word; count = room.0 }) g) (miss : room.0 ≡ 0 → g ≡ f) where
+    module _ (small : room.0 < 2 ^ 64) {g : F} (hit : 0 < room.0 → R f (record { bit = c.word; count = room.0 }) g) (miss : room.0 ≡ 0 → g ≡ f) where
       -- With the count of this word, if there is one, the closure was called with all counts
       -- below the next word.
       next_handed : (x : Counted R cap (c.word + 1) visit g) × (x.states ≡ h.handed.states ++ found R cap visit c.word room.0)
-      next_handed = counted_found R cap visit c.word room.0 f g within small hit miss h.handed
+      next_handed = counted_found R cap visit c.word room.0 within small hit miss h.handed
 
       -- The event that takes this count out comes behind those of the counts before.
       same_events : (p : ℕ) → map (taken_by p) h.handed.states ++ take_events p c.word room.0 ≡ map (taken_by p) next_handed.0.states
@@ -101,13 +102,12 @@ module _ {F : Type 0} {R : F → BitState → F → Type 0} {cap : ℕ} {visit :
 missed_none : (cap : ℕ) (base w : View ℕ) (wrote : ℕ → List (Event ℕ)) → base.capacity ≡ cap → HasDone kinds.Counts base w
     → HasMade emptying answers.Done wrote base w → MissedNoCount cap w
 missed_none cap base w wrote size over made =
-    let h = over.history in
-    let before = before_end made.called in
-    let is = to_end made.called in
-    let set : IsCountingOn h.trace = counts_go_on h.trace h.run.of_kind h.run.reached in
-    let right : SinceBegin made.by (HasTakenOn h.trace.world.capacity) before =
-    set.answers before [] (Finished made.by emptying answers.Done) (sym h.is ∙ is) in
-    record { by = made.by; before = before; is = is; taken = subst (λ n. SinceBegin made.by (HasTakenOn n) before) (h.run.sized ∙ size) right }
+    record {
+      by = made.by;
+      before = before_end made.called;
+      is = to_end made.called;
+      taken = subst (λ n. SinceBegin made.by (HasTakenOn n) (before_end made.called)) size (counts_answer over.history made.called);
+    }
 
 -- where there is no place, nothing is taken and the closure is not called
 taken_none : {F : Type 0} (R : F → BitState → F → Type 0) (visit : F) (base w : View ℕ)

@@ -3,11 +3,11 @@ use Rattle.lock_free_sets.proofs.Names.{◌≡◌, inl, ℕ, ◌+◌, ◌<◌, �
 use Rattle.lock_free_sets.proofs.Names.{◌∙◌, arith, After, Emptying, OneWord, Event, Begun, Finished, Start, Bits, ResetAll}
 use Rattle.lock_free_sets.proofs.Names.{one_word, opening_of, first_of, fresh, View, IsHistory, At, Ends, called}
 use Rattle.std.proofs.Common.{inr}
-use Rattle.steps.specs.Bits.ResetAll.{reset_all_after}
+use Rattle.steps.specs.Bits.ResetAll.{reset_all_after, reset_all_kept}
 use Rattle.steps.specs.declared.ask.After.TheVariants.{GoOn, Done}
 use Rattle.model.specs.declared.event.Answer.TheVariants as answers
 use Rattle.threaded.specs.Driver.{Next}
-use Rattle.history.specs.Stages.{Since}
+use Rattle.history.specs.Stages.{IsUnderWay, Since}
 use Rattle.history.proofs.Drives.{at_itself}
 use Rattle.history.proofs.Made.{MadeSoFar, made_with, made_more, same_between}
 use Rattle.lock_free_sets.specs.Driven.{HasMade, HasDone, IsIdle}
@@ -89,52 +89,57 @@ module _ (kind : SetKind) where
     pub goes_so : reset_all_after c n ≡ a
     pub told : (b : View ℕ) → AtWord b v c m → Goes b a room w
 
+  -- a step of the call, as the driver of a seat tells of it
+  pub took : {v w : View ℕ} {c : Emptying} {m room : OneWord} {a : After Emptying (Unit {0})}
+      → (n : ℕ) × (a ≡ reset_all_after c n) × (room ≡ reset_all_kept m n) → ((b : View ℕ) → AtWord b v c m → Goes b a room w) → TookStep v w c m room a
+  took taken told = record { n = taken.0; goes_so = sym taken.1; told = told }
+
+  -- A step that goes on from the call's word leads to the next word, where the call is under way.
+  pub under_next : {base v w : View ℕ} {c next : Emptying} {m room : OneWord} (n : ℕ) → AtWord base v c m → reset_all_after c n ≡ GoOn next
+      → AtWord v w next room → IsUnderWay one_word (machine_kind kind) (empties kind) v w next room
+  under_next {base} {v} {w} {c} {next} {m} {room} n at e (inl now) =
+      let none = begins_at kind v.capacity next room now.first in
+      let low = (stands base v c m at).1 in
+      let further : next.word ≡ c.word + 1 = ap (λ (z : Emptying). z.word) (goes_next c n next e).0 in
+      absurd (omega arith)
+  under_next n at e (inr under) = under
+
+  -- what a step that goes on has written: what emptying the call's word writes
+  pub next_wrote : {base v w : View ℕ} {c next : Emptying} {m room : OneWord} (n : ℕ) → AtWord base v c m → reset_all_after c n ≡ GoOn next
+      → (under : IsUnderWay one_word (machine_kind kind) (empties kind) v w next room) → under.wrote ≡ emptied kind under.party c.word room.0
+  next_wrote {base} {v} {w} {c} {next} {m} {room} n at e under =
+      let from : word_of (first_word kind) v.going ≡ c.word = word_now v v c m refl (itself base v c m at) in
+      let word : next.word ≡ c.word + 1 = ap (λ (z : Emptying). z.word) (goes_next c n next e).0 in
+      under.tells.2 (word ∙ ap (λ z. z + 1) (sym from)) ∙ ap (λ z. emptied kind under.party z room.0) from
+
+  -- what the last step has written: what emptying the call's word writes
+  pub last_wrote : {base v w : View ℕ} {c : Emptying} {m room : OneWord} {end : Unit {0}} (n : ℕ) → AtWord base v c m
+      → reset_all_after c n ≡ Done end → (here : EndsAll v end room w) → here.wrote ≡ emptied kind here.party c.word room.0
+  last_wrote {base} {v} {w} {c} {m} {room} {end} n at e here =
+      let mine = itself base v c m at in
+      let from : word_of (first_word kind) v.going ≡ c.word = word_now v v c m refl mine in
+      let far = ends_last c n end e in
+      let st = stands v v c m mine in
+      let last : word_of (first_word kind) v.going + 1 ≡ words_of kind v.capacity = (let w = from in let i = st.2 in let e = st.0 in omega arith) in
+      here.tells last ∙ ap (λ z. emptied kind here.party z room.0) from
+
   -- a step of the call on a word has written what emptying this word writes, and the pass knows the
   -- history up to it
   pub stepped : {base v w : View ℕ} {c : Emptying} {m room : OneWord} (n : ℕ)
       → AtWord base v c m → (a : After Emptying (Unit {0})) → reset_all_after c n ≡ a
       → ((b : View ℕ) → AtWord b v c m → Goes b a room w) → Stepped kind v w c.word room
-  stepped {base} {v} {w} {c} {m} {room} n at (GoOn next) e told = go (told v mine)
-    where
-      mine : AtWord v v c m
-      mine = itself base v c m at
-
-      from : word_of (first_word kind) v.going ≡ c.word
-      from = word_now v v c m refl mine
-
-      word : next.word ≡ c.word + 1
-      word = ap (λ (z : Emptying). z.word) (goes_next c n next e).0
-
-      -- a step that goes on wrote what emptying its word writes
-      go : AtWord v w next room → Stepped kind v w c.word room
-      go (inl now) =
-          let none = begins_at kind v.capacity next room now.first in
-          let low = (stands base v c m at).1 in
-          let further = word in
-          absurd (omega arith)
-      go (inr under) =
-          record {
-            party = under.party;
-            es = under.wrote;
-            last = [];
-            since = under.since;
-            is = under.tells.2 (word ∙ ap (λ z. z + 1) (sym from)) ∙ ap (λ z. emptied kind under.party z room.0) from;
-            history = under.history;
-          }
+  stepped {base} {v} {w} {c} {m} {room} n at (GoOn next) e told =
+      let under = under_next n at e (told v (itself base v c m at)) in
+      record { party = under.party; es = under.wrote; last = []; since = under.since; is = next_wrote n at e under; history = under.history }
   -- the case that the step was the last one: the call has ended, too
   stepped {base} {v} {w} {c} {m} {room} n at (Done end) e told =
-      let mine = itself base v c m at in
-      let here = told v mine in
-      let from = word_now v v c m refl mine in
-      let far = ends_last c n end e in
-      let st = stands v v c m mine in
-      let last : word_of (first_word kind) v.going + 1 ≡ words_of kind v.capacity = (let w = from in let i = st.2 in let e = st.0 in omega arith) in
+      let here = told v (itself base v c m at) in
       record {
         party = here.party;
         es = here.wrote;
         last = Finished here.party emptying answers.Done ∷ [];
         since = here.since;
-        is = here.tells last ∙ ap (λ z. emptied kind here.party z room.0) from;
+        is = last_wrote n at e here;
         history = here.history;
       }
 
@@ -154,32 +159,20 @@ module _ (kind : SetKind) where
       abbrev more : ℕ → List (Event ℕ)
       more p = emptied kind p c.word room.0
 
-      -- The flight in the view stands at the word of the call.
-      from : word_of (first_word kind) v.going ≡ c.word
-      from = word_now v v c m refl (itself base v c m h.at)
-
       -- where the call goes on to the next word, it has written what it had, and what emptying
       -- this word wrote
       pub wrote_on : {next : Emptying} → a ≡ GoOn next → WroteSoFar kind cap (λ p. wrote p ++ emptied kind p c.word room.0) base w next room
       wrote_on {next} is =
           let told : (b : View ℕ) → AtWord b v c m → AtWord b w next room = λ b at. subst (λ z. Goes b z room w) is (step.told b at) in
-          record { at = told base h.at; size = h.size; idle = h.idle; made = go (told v (itself base v c m h.at)) }
-        where
-          -- The next word is one further.
-          word : next.word ≡ c.word + 1
-          word = ap (λ (z : Emptying). z.word) (goes_next c step.n next (step.goes_so ∙ is)).0
-
-          -- the pass has made what it had made, and what emptying this word wrote
-          go : AtWord v w next room → MadeSoFar emptying base w (λ p. wrote p ++ emptied kind p c.word room.0)
-          go (inl now) =
-              let none = begins_at kind v.capacity next room now.first in
-              let low = (stands base v c m h.at).1 in
-              let further = word in
-              absurd (omega arith)
-          go (inr under) =
-              let is : under.wrote ≡ more under.party = under.tells.2 (word ∙ ap (λ z. z + 1) (sym from)) ∙ ap (λ z. emptied kind under.party z room.0) from in
-              made_more emptying base v w wrote more under.wrote under.party (flight_at kind next room) h.idle h.made under.same under.mine under.going
-              under.since is
+          let under = under_next step.n h.at (step.goes_so ∙ is) (told v (itself base v c m h.at)) in
+          record {
+            at = told base h.at;
+            size = h.size;
+            idle = h.idle;
+            made =
+                made_more emptying base v w wrote more under.wrote under.party (flight_at kind next room) h.idle h.made under.same under.mine under.going
+                under.since (next_wrote step.n h.at (step.goes_so ∙ is) under);
+          }
 
       -- The step at the last word ends the call, which wrote what was written before, and what the
       -- emptying of that word wrote.
@@ -188,11 +181,7 @@ module _ (kind : SetKind) where
           let told : (b : View ℕ) → AtWord b v c m → EndsAll b tt room w = λ b at. subst (λ z. Goes b z room w) is (step.told b at) in
           let here = told v (itself base v c m h.at) in
           let all = told base h.at in
-          let far = ends_last c step.n tt (step.goes_so ∙ is) in
-          let mine = stands v v c m (itself base v c m h.at) in
-          -- The call stands at the last word, so its step writes what emptying this word writes.
-          let last : word_of (first_word kind) v.going + 1 ≡ words_of kind v.capacity = (let w = from in let i = mine.2 in let e = mine.0 in omega arith) in
-          let is : here.wrote ≡ more here.party = here.tells last ∙ ap (λ z. emptied kind here.party z room.0) from in
+          let is = last_wrote step.n h.at (step.goes_so ∙ is) here in
           let same : here.party ≡ all.party = (let both : Some here.party ≡ Some all.party = sym here.mine ∙ all.mine in cc) in
           -- What the pass made is its begin, what was written before, what this step wrote, and its end.
           let one : w.made ≡ base.made ++ Begun here.party emptying ∷ ((wrote here.party ++ more here.party) ++ Finished here.party emptying answers.Done ∷ [])
@@ -214,5 +203,5 @@ module _ (kind : SetKind) where
       wrote_all is =
           let all = ends_all is in (
             made_by all.0 h.idle (λ p. wrote p ++ emptied kind p c.word room.0) all.1,
-            done (machine_kind kind) (empties kind) (λ o p h. h) base w tt room all.0,
+            done all.0 (λ o p h. h),
           )

@@ -1,9 +1,9 @@
 -- The call that empties a set: a call of the model, a word at each step.
 use Rattle.lock_free_sets.proofs.Names.{◌≡◌, ℕ, ◌+◌, ◌<◌, ◌≤◌, nat_lt, Bool, true, false, Option, Some}
-use Rattle.lock_free_sets.proofs.Names.{None, IfSome, List, [], ◌++◌, map, refl, ap, subst, ◌∙◌, arith, nat_tests}
+use Rattle.lock_free_sets.proofs.Names.{None, IfSome, [], ◌++◌, map, refl, ap, subst, ◌∙◌, arith, nat_tests}
 use Rattle.lock_free_sets.proofs.Names.{by_test, elements, Ask, Emptying, OneWord, Event, Cleared, Bits, ResetAll}
-use Rattle.lock_free_sets.proofs.Names.{one_word, Trace, after_of, opening_of, first_of, fresh, answered, KeepsRule}
-use Rattle.lock_free_sets.proofs.Names.{View, IsMachine, Calling, At, Ends, IsCallOf, goes, keeps_all, OwesAsk}
+use Rattle.lock_free_sets.proofs.Names.{one_word, Trace, after_of, opening_of, first_of, fresh, answered}
+use Rattle.lock_free_sets.proofs.Names.{View, IsMachine, Calling, At, Ends, goes, OwesAsk, Driven, IsCallBy, KeepsEnds, keeps_to_end}
 use Rattle.std.specs.List.{sum_by}
 use Rattle.steps.specs.Bits.ResetAll.{reset_all_want, reset_all_after, reset_all_kept}
 use Rattle.steps.specs.declared.ask.Op.TheVariants.{Load, Swap}
@@ -16,13 +16,14 @@ use Rattle.laws_bits.proofs.Bits.Lists.{no_places}
 use Rattle.history.specs.History.{IsRun}
 use Rattle.history.specs.Known.{owned}
 use Rattle.history.specs.Stages.{Starts, IsFirst}
+use Rattle.history.proofs.CallsIn.{OwnStep, each_tells, last_tells}
 use Rattle.history.proofs.Drives.{NeverPushes}
-use Rattle.history.proofs.Sets.{bits_starts, counts_starts, set_effects, bits_owe, counts_owe}
-use Rattle.history.proofs.Turns.{KindLaws, LoneMachines}
+use Rattle.history.proofs.Sets.{bits_starts, counts_starts, set_effects}
 use Rattle.lock_free_sets.specs.Driven.{IsIdle}
 use Rattle.lock_free_sets.specs.Sets.Kinds.{SetKind, Flags, Counts, machine_kind, first_word, words_of}
 use Rattle.lock_free_sets.specs.Sets.Stages.{all_words, word_of, flight_at, emptied, empties, empties_none}
 use Rattle.lock_free_sets.proofs.Sets.AtOnce.{owes_once}
+use Rattle.lock_free_sets.proofs.Sets.Machines.{machines}
 
 -- ---- how it goes on
 
@@ -61,11 +62,6 @@ hears_word c m a n e = go (nat_lt c.word c.end) refl
 
 -- ---- it is a call of the model, of either kind
 
--- The machine of a set of either kind keeps the laws of its kind.
-owes : (kind : SetKind) (capacity : ℕ) → KindLaws one_word (machine_kind kind) capacity (words_of kind capacity) set_effects
-owes Flags = bits_owe one_word
-owes Counts = counts_owe one_word
-
 -- The model's call asks for what that of `steps` asks for.
 same_want : (kind : SetKind) (c : Emptying) (m : OneWord) → want_of one_word (flight_at {T = ℕ} kind c m) ≡ reset_all_want c
 same_want Flags c m = refl
@@ -96,8 +92,12 @@ never Flags c m n = tt
 never Counts c m n = tt
 
 module _ (kind : SetKind) where
+  -- how the call that empties a set is driven
+  abbrev driven : Driven ℕ Emptying OneWord (Unit {0})
+  driven = record { want = reset_all_want; after = reset_all_after; kept = λ c m n. reset_all_kept m n; call = empties kind }
+
   -- emptying a set of either kind is a call of the model
-  is_call : IsCallOf one_word set_effects (words_of kind) reset_all_want reset_all_after (λ c m n. reset_all_kept m n) (empties {T = ℕ} kind)
+  is_call : IsCallBy one_word set_effects (words_of kind) driven
   is_call =
       record {
         same_want = same_want kind;
@@ -115,39 +115,38 @@ module _ (kind : SetKind) where
         finds = λ c m n small t. never kind c m n;
         leaves = λ c a n t e. absurd (cc);
         -- What was written is told of one step: the one at the word at which the pass saw the call last.
-        tells = λ capacity p from c d m n es stands wrote e. (
-            let next = goes_next c n d e in
-            let word : d.word ≡ c.word + 1 = ap (λ (z : Emptying). z.word) next.0 in
-            let low : word_of (first_word kind) from ≤ c.word = wrote.0 in (
+        tells =
+            each_tells set_effects driven
+            (λ step d e. (
+            let next = goes_next step.c step.n d e in
+            let word : d.word ≡ step.c.word + 1 = ap (λ (z : Emptying). z.word) next.0 in
+            let low : word_of (first_word kind) step.from ≤ step.c.word = step.wrote.0 in (
               omega arith,
               λ is. absurd (omega arith),
-              λ is.
-                  let here : c.word ≡ word_of (first_word kind) from = omega arith in
-                  all_of p c m n (word_of (first_word kind) from) here es (wrote.1 here),
-            ));
-        tells_all = λ capacity p from c e m n es stands skip wrote is still last. (
-            let far = ends_last c n e is in
-            let within = stands.2 in
-            let end : c.end ≡ words_of kind capacity = stands.0 in
-            let here : c.word ≡ word_of (first_word kind) from = omega arith in
-            all_of p c m n (word_of (first_word kind) from) here es (wrote.1 here));
+              λ is. let here : step.c.word ≡ word_of (first_word kind) step.from = omega arith in all_of step here (step.wrote.1 here),
+            )));
+        tells_all =
+            last_tells set_effects driven
+            (λ step e skip is last. (
+            let far = ends_last step.c step.n e is in
+            let within = step.stands.2 in
+            let end : step.c.end ≡ words_of kind step.capacity = step.stands.0 in
+            let here : step.c.word ≡ word_of (first_word kind) step.from = omega arith in
+            all_of step here (step.wrote.1 here)));
       }
     where
       -- what the step on the word at which the call stood wrote, behind nothing, is what
       -- emptying this word writes
-      all_of : (p : ℕ) (c : Emptying) (m : OneWord) (n from : ℕ) → c.word ≡ from → (es : List (Event ℕ)) → es ≡ []
-          → es ++ set_effects p (flight_at kind c m) n ≡ emptied kind p from n
-      all_of p c m n from here es none =
-          ap (λ zs. zs ++ set_effects p (flight_at kind c m) n) none ∙ (same_effects kind p c m n ∙ ap (λ z. emptied kind p z n) here)
+      all_of : (step : OwnStep (empties {T = ℕ} kind)) → step.c.word ≡ word_of (first_word kind) step.from → step.es ≡ []
+          → step.es ++ set_effects step.p (flight_at kind step.c step.m) step.n ≡ emptied kind step.p (word_of (first_word kind) step.from) step.n
+      all_of step here none =
+          ap (λ zs. zs ++ set_effects step.p (flight_at kind step.c step.m) step.n) none
+          ∙ (same_effects kind step.p step.c step.m step.n ∙ ap (λ z. emptied kind step.p z step.n) here)
 
   -- each step of the call that empties a set keeps the rule of the table, and tells what is known
   -- after it
-  pub keeps : KeepsRule (λ (z : View ℕ). z.asked) (λ (z : View ℕ). z.capacity) (At one_word (machine_kind kind) (empties kind))
-      (Ends one_word (machine_kind kind) (empties kind)) (λ key. words_of kind key + 1) (λ key. key)
-      (λ key. IsMachine one_word (machine_kind kind) key) reset_all_want reset_all_after (λ c m n. reset_all_kept m n)
-  keeps =
-      keeps_all one_word (machine_kind kind) set_effects (words_of kind) (owes kind) reset_all_want reset_all_after
-      (λ c m n. reset_all_kept m n) (empties kind) is_call (λ c n. refl)
+  pub keeps : KeepsEnds one_word (machine_kind kind) (words_of kind) driven
+  keeps = keeps_to_end (machines kind) driven is_call (λ c n. refl)
 
 -- ---- its begin
 
@@ -185,10 +184,6 @@ starts Flags = bits_starts one_word
 starts Counts = counts_starts one_word
 
 module _ (kind : SetKind) (v : View ℕ) (idle : IsIdle v.capacity v) where
-  -- The machine of a set of this kind, for the seats of a table.
-  abbrev machines : LoneMachines ℕ
-  machines = record { code = one_word; kind = machine_kind kind; effects = set_effects; size_of = words_of kind; laws = owes kind }
-
   -- In a set with places the call is about to begin at its first word.
   pub first_at : 0 < v.capacity → At one_word (machine_kind kind) (empties kind) v v (all_words kind v.capacity) fresh
   first_at capacity_positive = grind (arith, stands_first, begins, starts, empties, all_words, fresh, may, wrote_first)
@@ -204,7 +199,7 @@ module _ (kind : SetKind) (v : View ℕ) (idle : IsIdle v.capacity v) where
       → OwesAsk (λ (z : View ℕ). z.asked) (IsMachine one_word (machine_kind kind) v.capacity) words slots id
       (λ u n w. Ends one_word (machine_kind kind) (empties_none kind) u tt (record { 0 = 0 }) w) word Load (v, [])
   owes_none none =
-      owes_once machines (empties_none kind) v
+      owes_once (machines kind) (empties_none kind) v
       (all_words kind v.capacity) fresh fresh tt none_first (asks_none kind) (never kind)
       (ends_so kind) (writes_none kind) (λ p wrote h. h)
     where

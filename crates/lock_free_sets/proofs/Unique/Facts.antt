@@ -27,7 +27,7 @@ use Rattle.history.proofs.Indices.{is_index_set}
 use Rattle.history.proofs.Locks.{not_locked}
 use Rattle.history.proofs.OneHolder.{first_wrote}
 use Rattle.lock_free_sets.specs.Unique.Held.{HoldsNothing, IsSound}
-use Rattle.lock_free_sets.proofs.Ends.{has_made, made_by, aside_most}
+use Rattle.lock_free_sets.proofs.Ends.{made_by, aside_most}
 use Rattle.lock_free_sets.proofs.Unique.Machine.{holds_right, none_held, held_within}
 use Rattle.lock_free_sets.specs.UniqueIndexSet.{SetId, capacity_of, set_of, view, IsPassOf, SamePass}
 use Rattle.lock_free_sets.specs.declared.mpmc.unique_index_set.Pass.{Pass}
@@ -152,19 +152,18 @@ never_locks : (index : ℕ) (state : ReleaseState) (done : SetActs) → done_by 
 never_locks index Unlocked done e = refl
 never_locks index Locked done e = absurd (cc)
 
-module _ (base w : View ℕ) (m : Unit {0}) (idle : base.going ≡ None) where
+module _ {base w : View ℕ} {m : Unit {0}} (idle : base.going ≡ None) where
   -- An acquire that has ended is a call of the history with its answer.
-  pub taken : (answer : Acquired) → Ends one_word kinds.Indices takes_index base answer m w → HasTaken answer base w
-  taken answer ends =
-      made_by ends idle (λ by. claimed_by by answer) ends.tells
+  pub taken : {answer : Acquired} → Ends one_word kinds.Indices takes_index base answer m w → HasTaken answer base w
+  taken {answer} ends = made_by ends idle (λ by. claimed_by by answer) ends.tells
 
-  module _ (i : ℕ) (ends : Ends one_word kinds.Indices takes_index base (Ok i) m w) where
+  module _ {i : ℕ} (ends : Ends one_word kinds.Indices takes_index base (Ok i) m w) where
     -- an index that was acquired had no holder at its claim, it lies below the capacity, and the
     -- set was not locked
     pub free : WasFree i base w
     free =
-        let p = (taken (Ok i) ends).by in
-        let c : Called p (Indices Acquire) (Index i) (Claimed p i ∷ []) base w = (taken (Ok i) ends).called in
+        let p = (taken ends).by in
+        let c : Called p (Indices Acquire) (Index i) (Claimed p i ∷ []) base w = (taken ends).called in
         let at = first_wrote p (Indices Acquire) (Index i) (Claimed p i) [] base w c in
         let h = ends.history in
         let right = holds_right base.capacity w.seen h at.before at.after (Claimed p i) at.is in
@@ -182,8 +181,8 @@ module _ (base w : View ℕ) (m : Unit {0}) (idle : base.going ≡ None) where
     -- Behind an acquire of an index the pass holds this index.
     pub holds : IsSound base → Holds i w.made
     holds was =
-        let p = (taken (Ok i) ends).by in
-        let c : Called p (Indices Acquire) (Index i) (Claimed p i ∷ []) base w = (taken (Ok i) ends).called in
+        let p = (taken ends).by in
+        let c : Called p (Indices Acquire) (Index i) (Claimed p i ∷ []) base w = (taken ends).called in
         -- The call adds one claim of the index to what the pass made, and no free.
         let more : List (Event ℕ) = Begun p (Indices Acquire) ∷ (Claimed p i ∷ Finished p (Indices Acquire) (Index i) ∷ []) in
         let it : (i == i) ≡ true = grind (arith, nat_tests) in
@@ -198,55 +197,53 @@ module _ (base w : View ℕ) (m : Unit {0}) (idle : base.going ≡ None) where
         omega arith
 
   -- An acquire answers right by what came before its end.
-  pub taken_answered : (answer : Acquired) → Ends one_word kinds.Indices takes_index base answer m w → Answered Acquire (acquire_answer answer) base w
-  taken_answered answer ends = let t = taken answer ends in
+  pub taken_answered : {answer : Acquired} → Ends one_word kinds.Indices takes_index base answer m w → Answered Acquire (acquire_answer answer) base w
+  taken_answered {answer} ends = let t = taken ends in
       answered_by base w ends.capacity ends.history t.by Acquire (acquire_answer answer) (claimed_by t.by answer) t.called
 
   -- A release that has ended is a call of the history, which frees its index.
-  pub given : (index : ℕ) (state : ReleaseState) → Ends one_word kinds.Indices (gives_index index) base state m w → HasGiven index state base w
-  given index state ends = grind (arith, has_made, gives_index)
+  pub given : {index : ℕ} {state : ReleaseState} → Ends one_word kinds.Indices (gives_index index) base state m w → HasGiven index state base w
+  given {index} ends = made_by ends idle (λ by. Freed by index ∷ []) (ends.tells idle)
 
   -- A release that may lock, and has ended, is a call of the history with its answer.
-  pub given_or_locked : (index : ℕ) (state : ReleaseState)
+  pub given_or_locked : {index : ℕ} {state : ReleaseState}
       → Ends one_word kinds.Indices (gives_or_locks index) base state m w → HasGivenOrLocked index state base w
-  given_or_locked index state ends = grind (arith, has_made, gives_or_locks, given_by)
+  given_or_locked {index} {state} ends = made_by ends idle (λ by. given_by by index state) (ends.tells idle)
 
   -- A count of the borrowed indices that has ended is a call of the history.
-  pub counted : (n : ℕ) → Ends one_word kinds.Indices counts_out base n m w → HasCounted n base w
-  counted n ends =
-      made_by ends idle (λ by. []) ends.tells
+  pub counted : {n : ℕ} → Ends one_word kinds.Indices counts_out base n m w → HasCounted n base w
+  counted ends = made_by ends idle (λ by. []) ends.tells
 
   -- A call of `is_locked` that has ended is a call of the history.
-  pub looked : (b : Bool) → Ends one_word kinds.Indices looks_locked base b m w → HasLooked b base w
-  looked b ends =
-      made_by ends idle (λ by. []) ends.tells
+  pub looked : {b : Bool} → Ends one_word kinds.Indices looks_locked base b m w → HasLooked b base w
+  looked ends = made_by ends idle (λ by. []) ends.tells
 
   -- A release that may not lock answers Unlocked.
-  pub unlocked : (index : ℕ) (state : ReleaseState) → Ends one_word kinds.Indices (gives_index index) base state m w → state ≡ Unlocked
-  unlocked index state ends =
-      let g = given index state ends in
+  pub unlocked : {index : ℕ} {state : ReleaseState} → Ends one_word kinds.Indices (gives_index index) base state m w → state ≡ Unlocked
+  unlocked {index} {state} ends =
+      let g = given ends in
       let fits = fits_call base w ends.capacity ends.history g.by (Release index modes.Default) (State state) (Freed g.by index ∷ []) g.called in
       never_locks index state fits.0 fits.1
 
   -- a release that may lock has answered right by what came before its end
-  pub locked_answered : (index : ℕ) (state : ReleaseState)
+  pub locked_answered : {index : ℕ} {state : ReleaseState}
       → Ends one_word kinds.Indices (gives_or_locks index) base state m w
       → Answered (Release index modes.LockIfLastIndex) (State state) base w
-  locked_answered index state ends = let g = given_or_locked index state ends in
+  locked_answered {index} {state} ends = let g = given_or_locked ends in
       answered_by base w ends.capacity ends.history g.by (Release index modes.LockIfLastIndex) (State state)
       (given_by g.by index state) g.called
 
   -- A count of the borrowed indices is right by what came before its end.
-  pub counted_answered : (n : ℕ) → Ends one_word kinds.Indices counts_out base n m w → Answered BorrowedIndices (Number n) base w
-  counted_answered n ends = let g = counted n ends in answered_by base w ends.capacity ends.history g.by BorrowedIndices (Number n) [] g.called
+  pub counted_answered : {n : ℕ} → Ends one_word kinds.Indices counts_out base n m w → Answered BorrowedIndices (Number n) base w
+  counted_answered {n} ends = let g = counted ends in answered_by base w ends.capacity ends.history g.by BorrowedIndices (Number n) [] g.called
 
   -- A count of the borrowed indices is at most the capacity.
-  pub counted_most : (n : ℕ) → Ends one_word kinds.Indices counts_out base n m w → n ≤ base.capacity
-  counted_most n ends = let g = counted n ends in at_most base w ends.capacity ends.history g.by n [] g.called
+  pub counted_most : {n : ℕ} → Ends one_word kinds.Indices counts_out base n m w → n ≤ base.capacity
+  counted_most {n} ends = let g = counted ends in at_most base w ends.capacity ends.history g.by n [] g.called
 
   -- A call of `is_locked` answers right by what came before its end.
-  pub looked_answered : (b : Bool) → Ends one_word kinds.Indices looks_locked base b m w → Answered IsLocked (Truth b) base w
-  looked_answered b ends = let g = looked b ends in answered_by base w ends.capacity ends.history g.by IsLocked (Truth b) [] g.called
+  pub looked_answered : {b : Bool} → Ends one_word kinds.Indices looks_locked base b m w → Answered IsLocked (Truth b) base w
+  looked_answered {b} ends = let g = looked ends in answered_by base w ends.capacity ends.history g.by IsLocked (Truth b) [] g.called
 
 -- Two passes of one set hold no index in common, as a look of the joined pass shows.
 pub apart : (v other w : View ℕ) (i : ℕ)

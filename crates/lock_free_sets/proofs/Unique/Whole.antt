@@ -24,28 +24,28 @@ use Rattle.lock_free_sets.proofs.Unique.Machine.{tally_is, few, none_left, own_f
 
 -- ---- a call that was begun has ended
 
-module _ (base w : View ℕ) where
+module _ {base w : View ℕ} where
   -- An acquire that has ended leaves each begun call ended.
   pub taken_done : (answer : Acquired) → HasTaken answer base w → IsDone base.made → IsDone w.made
-  taken_done (Ok i) has_taken = still_done has_taken.by _ _ _ base w has_taken.called (tt, tt)
-  taken_done (Err e) has_taken = still_done has_taken.by _ _ _ base w has_taken.called tt
+  taken_done (Ok i) has_taken = still_done has_taken.called (tt, tt)
+  taken_done (Err e) has_taken = still_done has_taken.called tt
 
   -- A release that has ended leaves each begun call ended.
-  pub given_done : (index : ℕ) (state : ReleaseState) → HasGiven index state base w → IsDone base.made → IsDone w.made
-  given_done index state has_given = still_done has_given.by _ _ _ base w has_given.called (tt, tt)
+  pub given_done : {index : ℕ} {state : ReleaseState} → HasGiven index state base w → IsDone base.made → IsDone w.made
+  given_done has_given = still_done has_given.called (tt, tt)
 
   -- A release that may lock, and has ended, leaves each begun call ended.
-  pub locked_done : (index : ℕ) (state : ReleaseState) → HasGivenOrLocked index state base w → IsDone base.made → IsDone w.made
-  locked_done index Unlocked has_given_or_locked = still_done has_given_or_locked.by _ _ _ base w has_given_or_locked.called (tt, tt)
-  locked_done index Locked has_given_or_locked = still_done has_given_or_locked.by _ _ _ base w has_given_or_locked.called (tt, (tt, tt))
+  pub locked_done : {index : ℕ} {state : ReleaseState} → HasGivenOrLocked index state base w → IsDone base.made → IsDone w.made
+  locked_done {state = Unlocked} has_given_or_locked = still_done has_given_or_locked.called (tt, tt)
+  locked_done {state = Locked} has_given_or_locked = still_done has_given_or_locked.called (tt, (tt, tt))
 
   -- A count that has ended leaves each begun call ended.
-  pub counted_done : (n : ℕ) → HasCounted n base w → IsDone base.made → IsDone w.made
-  counted_done n has_counted = still_done has_counted.by _ _ _ base w has_counted.called tt
+  pub counted_done : {n : ℕ} → HasCounted n base w → IsDone base.made → IsDone w.made
+  counted_done has_counted = still_done has_counted.called tt
 
   -- A call of `is_locked` that has ended leaves each begun call ended.
-  pub looked_done : (b : Bool) → HasLooked b base w → IsDone base.made → IsDone w.made
-  looked_done b has_looked = still_done has_looked.by _ _ _ base w has_looked.called tt
+  pub looked_done : {b : Bool} → HasLooked b base w → IsDone base.made → IsDone w.made
+  looked_done has_looked = still_done has_looked.called tt
 
 -- ---- what an answer says of what is held
 
@@ -53,18 +53,18 @@ module _ (base w : View ℕ) where
 last_of : {start : IndexStart} {answer : Answer ℕ} {old new : View ℕ} → (a : Answered start answer old new) → IsBeginning a.before new.seen
 last_of {start} {answer} {old} {new} a = record { rest = Finished a.by (Indices start) answer ∷ []; is = a.is }
 
-module _ (base w : View ℕ) (m : Unit {0}) (idle : base.going ≡ None) where
+module _ {base w : View ℕ} {m : Unit {0}} (idle : base.going ≡ None) where
   -- An acquire of an index by a sound pass has acquired it.
-  pub acquired : (i : ℕ) → Ends one_word kinds.Indices takes_index base (Ok i) m w → IsSound base → HasAcquired i base w
-  acquired i ends was = record { taken = taken base w m idle (Ok i) ends; free = free base w m idle i ends; holds = holds base w m idle i ends was }
+  pub acquired : {i : ℕ} → Ends one_word kinds.Indices takes_index base (Ok i) m w → IsSound base → HasAcquired i base w
+  acquired ends was = record { taken = taken idle ends; free = free idle ends; holds = holds idle ends was }
 
   -- who finds none left, with the whole share, holds as many as there are
   none_is_left : Ends one_word kinds.Indices takes_index base (Err OutOfIndices) m w → IsDone base.made → HoldsAll base.capacity w
   none_is_left ends done whole is held =
-      let a = taken_answered base w m idle (Err OutOfIndices) ends in
+      let a = taken_answered idle ends in
       let h = ends.history in
       let all = ends.all (subst IsAll ends.share whole) in
-      let now = taken_done base w (Err OutOfIndices) (taken base w m idle (Err OutOfIndices) ends) done in
+      let now = taken_done (Err OutOfIndices) (taken idle ends) done in
       let tally =
       sym (ap tally_of a.is ∙ fold-append tally_after _ a.before (Finished a.by (Indices Acquire) (NoIndex OutOfIndices) ∷ []))
       ∙ tally_is base.capacity w.seen h w.made all now is held in
@@ -79,60 +79,60 @@ module _ (base w : View ℕ) (m : Unit {0}) (idle : base.going ≡ None) where
   -- who finds the lock holds none
   none_is_held : Ends one_word kinds.Indices takes_index base (Err WasLocked) m w → HoldsNothing w.made
   none_is_held ends =
-      let a = taken_answered base w m idle (Err WasLocked) ends in
+      let a = taken_answered idle ends in
       (sound_after ends).lock (lock_stays (last_of a) a.right)
 
   -- an acquire that failed found none left, where with the whole share its pass holds all of them,
   -- or it found the lock, where its pass holds none
-  pub refused : (e : UniqueIndexSetAcquireFailure) → Ends one_word kinds.Indices takes_index base (Err e) m w → IsDone base.made → WasRefused e base w
-  refused OutOfIndices ends done =
-      let t = taken base w m idle (Err OutOfIndices) ends in
+  pub refused : {e : UniqueIndexSetAcquireFailure} → Ends one_word kinds.Indices takes_index base (Err e) m w → IsDone base.made → WasRefused e base w
+  refused {e = OutOfIndices} ends done =
+      let t = taken idle ends in
       record {
         taken = t;
-        answered = taken_answered base w m idle (Err OutOfIndices) ends;
+        answered = taken_answered idle ends;
         unlocked = λ same. open_still base w ends.capacity ends.history t.by [] t.called;
         whole = λ same. none_is_left ends done;
         nothing = λ same. absurd (cc);
       }
-  refused WasLocked ends done =
+  refused {e = WasLocked} ends done =
       record {
-        taken = taken base w m idle (Err WasLocked) ends;
-        answered = taken_answered base w m idle (Err WasLocked) ends;
+        taken = taken idle ends;
+        answered = taken_answered idle ends;
         unlocked = λ same. absurd (cc);
         whole = λ same. absurd (cc);
         nothing = λ same. none_is_held ends;
       }
 
   -- An acquire that answered an index has acquired it, and the index is below the capacity.
-  pub acquired_if : (answer : Acquired) → Ends one_word kinds.Indices takes_index base answer m w → IsSound base → (capacity : ℕ)
+  pub acquired_if : {answer : Acquired} → Ends one_word kinds.Indices takes_index base answer m w → IsSound base → (capacity : ℕ)
       → base.capacity ≡ capacity → IfOk answer (λ i. AcquireDone capacity i base w)
-  acquired_if (Ok i) ends was capacity size =
-      record { acquired = acquired i ends was; within = subst (λ n. i < n) (ends.capacity ∙ size) (free base w m idle i ends).within }
-  acquired_if (Err e) ends was capacity size = tt
+  acquired_if {answer = Ok i} ends was capacity size =
+      record { acquired = acquired ends was; within = subst (λ n. i < n) (ends.capacity ∙ size) (free idle ends).within }
+  acquired_if {answer = Err e} ends was capacity size = tt
 
   -- An acquire that was refused answers right, where each begun call of the pass has ended.
-  pub refused_if : (answer : Acquired) → Ends one_word kinds.Indices takes_index base answer m w → IsDone base.made → IfErr answer (λ e. WasRefused e base w)
-  refused_if (Ok i) ends done = tt
-  refused_if (Err e) ends done = refused e ends done
+  pub refused_if : {answer : Acquired} → Ends one_word kinds.Indices takes_index base answer m w → IsDone base.made → IfErr answer (λ e. WasRefused e base w)
+  refused_if {answer = Ok i} ends done = tt
+  refused_if {answer = Err e} ends done = refused ends done
 
   -- who locks the set holds none
-  locked_nothing : (index : ℕ) (state : ReleaseState)
+  locked_nothing : {index : ℕ} {state : ReleaseState}
       → Ends one_word kinds.Indices (gives_or_locks index) base state m w → state ≡ Locked → HoldsNothing w.made
-  locked_nothing index Locked ends =
-      λ same. (let a = locked_answered base w m idle index Locked ends in
+  locked_nothing {state = Locked} ends =
+      λ same. (let a = locked_answered idle ends in
       (sound_after ends).lock (lock_stays (last_of a) a.right))
-  locked_nothing index Unlocked ends = λ same. absurd (cc)
+  locked_nothing {state = Unlocked} ends = λ same. absurd (cc)
 
   -- who does not lock, with the whole share, holds some index
-  locked_whole : (index : ℕ) (state : ReleaseState)
+  locked_whole : {index : ℕ} {state : ReleaseState}
       → Ends one_word kinds.Indices (gives_or_locks index) base state m w → IsDone base.made → state ≡ Unlocked
       → HoldsSome w
-  locked_whole index Locked ends done = λ same. absurd (cc)
-  locked_whole index Unlocked ends done = λ same whole held. (
-      let a = locked_answered base w m idle index Unlocked ends in
+  locked_whole {state = Locked} ends done = λ same. absurd (cc)
+  locked_whole {index = index} {state = Unlocked} ends done = λ same whole held. (
+      let a = locked_answered idle ends in
       let h = ends.history in
       let all = ends.all (subst IsAll ends.share whole) in
-      let now = locked_done base w index Unlocked (given_or_locked base w m idle index Unlocked ends) done in
+      let now = locked_done (given_or_locked idle ends) done in
       let tally =
       sym (ap tally_of a.is
       ∙ fold-append tally_after _ a.before (Finished a.by (Indices (Release index modes.LockIfLastIndex)) (State Unlocked) ∷ []))
@@ -143,10 +143,10 @@ module _ (base w : View ℕ) (m : Unit {0}) (idle : base.going ≡ None) where
       let right = a.right in
       absurd (omega arith))
 
-  module _ (n : ℕ) (ends : Ends one_word kinds.Indices counts_out base n m w) where
+  module _ {n : ℕ} (ends : Ends one_word kinds.Indices counts_out base n m w) where
     -- The answer of the count, with the events before its end.
     abbrev a : Answered BorrowedIndices (Number n) base w
-    a = counted_answered base w m idle n ends
+    a = counted_answered idle ends
 
     -- The end of a count leaves the tally as it was before.
     same_tally : tally_of w.seen ≡ tally_of a.before
@@ -183,7 +183,7 @@ module _ (base w : View ℕ) (m : Unit {0}) (idle : base.going ≡ None) where
 
         -- Each call that the pass began has ended.
         now : IsDone w.made
-        now = counted_done base w n (counted base w m idle n ends) done
+        now = counted_done (counted idle ends) done
 
         -- with the whole share as many are counted as the pass holds, whether the set was locked
         -- or not
@@ -201,10 +201,10 @@ module _ (base w : View ℕ) (m : Unit {0}) (idle : base.going ≡ None) where
             let high = (a.right.1 t).1 in
             omega arith
 
-  module _ (b : Bool) (ends : Ends one_word kinds.Indices looks_locked base b m w) where
+  module _ {b : Bool} (ends : Ends one_word kinds.Indices looks_locked base b m w) where
     -- The answer of `is_locked`, with the events before its end.
     abbrev l : Answered IsLocked (Truth b) base w
-    l = looked_answered base w m idle b ends
+    l = looked_answered idle ends
 
     -- A pass that finds the set locked holds no index.
     looked_nothing : b ≡ true → HoldsNothing w.made
@@ -217,42 +217,42 @@ module _ (base w : View ℕ) (m : Unit {0}) (idle : base.going ≡ None) where
   -- ---- what each answer means
 
   -- A release that has ended has done what `ReleaseDone` says.
-  pub release_done : (index : ℕ) (state : ReleaseState)
+  pub release_done : {index : ℕ} {state : ReleaseState}
       → Ends one_word kinds.Indices (gives_index index) base state m w → ReleaseDone index state base w
-  release_done index state ends = record { given = given base w m idle index state ends; unlocked = unlocked base w m idle index state ends }
+  release_done ends = record { given = given idle ends; unlocked = unlocked idle ends }
 
   -- a release that may lock frees its index and answers right; if it locked its pass holds
   -- nothing, and if not, with the whole share, it holds something
-  pub release_or_lock_done : (index : ℕ) (state : ReleaseState)
+  pub release_or_lock_done : {index : ℕ} {state : ReleaseState}
       → Ends one_word kinds.Indices (gives_or_locks index) base state m w → IsDone base.made → ReleaseOrLockDone index state base w
-  release_or_lock_done index state ends done =
+  release_or_lock_done ends done =
       record {
-        given = given_or_locked base w m idle index state ends;
-        answered = locked_answered base w m idle index state ends;
-        nothing = locked_nothing index state ends;
-        whole = locked_whole index state ends done;
+        given = given_or_locked idle ends;
+        answered = locked_answered idle ends;
+        nothing = locked_nothing ends;
+        whole = locked_whole ends done;
       }
 
   -- a count of the indices in use is no less than its pass holds, at most the capacity, and with
   -- the whole share what its pass holds
-  pub borrowed_done : (n : ℕ) → Ends one_word kinds.Indices counts_out base n m w → IsDone base.made → (capacity : ℕ)
+  pub borrowed_done : {n : ℕ} → Ends one_word kinds.Indices counts_out base n m w → IsDone base.made → (capacity : ℕ)
       → base.capacity ≡ capacity → BorrowedDone capacity n base w
-  borrowed_done n ends done capacity size =
+  borrowed_done {n} ends done capacity size =
       record {
-        counted = counted base w m idle n ends;
-        answered = counted_answered base w m idle n ends;
-        least = counted_least n ends;
-        most = subst (λ most. n ≤ most) size (counted_most base w m idle n ends);
-        whole = counted_whole n ends done;
+        counted = counted idle ends;
+        answered = counted_answered idle ends;
+        least = counted_least ends;
+        most = subst (λ most. n ≤ most) size (counted_most idle ends);
+        whole = counted_whole ends done;
       }
 
   -- a look at the lock answers right; who sees the lock holds nothing, and who does not see it had
   -- not seen it before
-  pub is_locked_done : (b : Bool) → Ends one_word kinds.Indices looks_locked base b m w → IsLockedDone b base w
-  is_locked_done b ends =
+  pub is_locked_done : {b : Bool} → Ends one_word kinds.Indices looks_locked base b m w → IsLockedDone b base w
+  is_locked_done ends =
       record {
-        looked = looked base w m idle b ends;
-        answered = looked_answered base w m idle b ends;
-        nothing = looked_nothing b ends;
-        unlocked = looked_unlocked b ends;
+        looked = looked idle ends;
+        answered = looked_answered idle ends;
+        nothing = looked_nothing ends;
+        unlocked = looked_unlocked ends;
       }

@@ -122,7 +122,7 @@ module _ {T : Type 0} where
         ends_so : passed_by c.by 0 f ≡ 0
         ends_so = rw same refl
 
-    module _ (code : Coding T) (kind : Kind) (capacity most retry : ℕ) (knows : Knows code kind capacity new) where
+    module _ {code : Coding T} {kind : Kind} {capacity : ℕ} (most retry : ℕ) (knows : Knows code kind capacity new) where
       -- The trace of the run that the pass knows behind the call.
       abbrev t : Trace T
       t = run_of code kind capacity new.turns
@@ -176,7 +176,7 @@ module _ {T : Type 0} where
       }
 
   -- of one more call that has ended, between the views old and new
-  module _ (p : ℕ) (start : Start T) (answer : Answer T) (wrote : List (Event T)) (old new : View T) (called : Called p start answer wrote old new) where
+  module _ {p : ℕ} {start : Start T} {answer : Answer T} {wrote : List (Event T)} {old new : View T} (called : Called p start answer wrote old new) where
     -- with a call more that wrote no begin and no end but its own, each call that was begun has
     -- still ended
     pub still_done : AllInside wrote → IsDone old.made → IsDone new.made

@@ -69,18 +69,25 @@ module _ {T : Type 0} where
 
   -- ---- what a step writes counts nothing
 
+  -- what counts nothing of an event that begins and ends no call counts nothing of what a step writes
+  none_inside : (f : Event T → ℕ) → ((e : Event T) → IsInside e → f e ≡ 0) → (es : List (Event T)) → AllInside es → sum_by f es ≡ 0
+  none_inside f none [] all_inside = refl
+  none_inside f none (e ∷ es) h =
+      let one = sum_by-cons f e es in
+      let rest = none_inside f none es h.1 in
+      let here = none e h.0 in
+      omega arith
+
   -- Events that a step writes, none of which begins or ends a call, have no begin of any party.
   pub begins_none : (q : ℕ) (es : List (Event T)) → AllInside es → sum_by (begins q) es ≡ 0
-  begins_none q [] all_inside = refl
-  begins_none q (e ∷ es) h = let one = sum_by-cons (begins q) e es in let rest = begins_none q es h.1 in let none = first e h.0 in omega arith
+  begins_none q = none_inside (begins q) first
     where
       first : (e : Event T) → IsInside e → begins q e ≡ 0
       first e is_inside = grind arith
 
   -- Events that a step writes, none of which begins or ends a call, have no end of any party.
   pub ends_none : (q : ℕ) (es : List (Event T)) → AllInside es → sum_by (ends q) es ≡ 0
-  ends_none q [] all_inside = refl
-  ends_none q (e ∷ es) h = let one = sum_by-cons (ends q) e es in let rest = ends_none q es h.1 in let none = first e h.0 in omega arith
+  ends_none q = none_inside (ends q) first
     where
       first : (e : Event T) → IsInside e → ends q e ≡ 0
       first e is_inside = grind arith
@@ -247,23 +254,27 @@ module _ {T : Type 0} where
     goes_counted : IsCounted later
     goes_counted = record { calls = calls_then; others = others_then }
 
+  -- where nothing happens the counts stay
+  no_more : (t : Trace T) → IsCounted t → IsCounted record { world = t.world; events = t.events ++ [] }
+  no_more t counted = subst (λ es. IsCounted record { world = t.world; events = es }) (sym (append-nil t.events)) counted
+
   -- A step of a party keeps the counts, whether the party has a call under way or not.
   answered : (t : Trace T) → IsCounted t → (r : ℕ) (x : Party T) (ask : Option Ask) (n : ℕ) → party_of r t.world.latest ≡ Some x
       → (doing : Doing T) → x.doing ≡ doing
       → IsCounted record { world = after_answer t.world r x ask n doing; events = t.events ++ events_of_answer t.world r x n doing }
   answered t counted r x ask n found (Going flight since) is = goes_counted t counted r x ask n flight since found is
-  answered t counted r x ask n found (Over others) is = subst (λ es. IsCounted record { world = t.world; events = es }) (sym (append-nil t.events)) counted
+  answered t counted r x ask n found (Over others) is = no_more t counted
 
   -- A turn in which a party takes a step keeps the counts.
   nexts : (t : Trace T) → IsCounted t → (r : ℕ) (o : Option (Party T)) → party_of r t.world.latest ≡ o
       → IsCounted record { world = after_next t.world r o; events = t.events ++ events_of_next t.world r o }
-  nexts t counted r None found = subst (λ es. IsCounted record { world = t.world; events = es }) (sym (append-nil t.events)) counted
+  nexts t counted r None found = no_more t counted
   nexts t counted r (Some x) found = answered t counted r x _ _ found x.doing refl
 
   -- A turn in which a party hears an answer keeps the counts.
   decides : (t : Trace T) → IsCounted t → (r : ℕ) (said : Bool) (o : Option (Party T)) → party_of r t.world.latest ≡ o
       → IsCounted record { world = after_decision t.world r said o; events = t.events ++ events_of_decision t.world r said o }
-  decides t counted r said None found = subst (λ es. IsCounted record { world = t.world; events = es }) (sym (append-nil t.events)) counted
+  decides t counted r said None found = no_more t counted
   decides t counted r said (Some x) found = answered t counted r x None (number_of said) found x.doing refl
 
   -- with an owner that dies, the calls are still counted right

@@ -1,9 +1,7 @@
 -- What is promised of every run of a queue and of the single value makes it linearizable.
 use Rattle.model.proofs.Names.{Answer, Coding, Event, IsKept, IsKeptBy, IsLinearizable, Item, Kind, List, QueueKind}
-use Rattle.model.proofs.Names.{Start, Trace, [], arith, false, moments, promise_of, refl, true, ℕ, ◌∷◌, ◌≡◌}
-use Rattle.model.specs.declared.event.Start.TheVariants as starts
+use Rattle.model.proofs.Names.{Start, Trace, [], arith, false, moments, promise_of, true, ℕ, ◌∷◌, ◌≡◌}
 use Rattle.model.specs.declared.families.queues.QueueKind.TheVariants as queue_kinds
-use Rattle.model.specs.declared.families.queues.QueueStart.TheVariants as queues
 use Rattle.model.specs.declared.turn.Kind.TheVariants.{IndexQueue, Overflow, Queue, Atomic}
 use Rattle.model.specs.Families.Atomic.Promises as value_promises
 use Rattle.model.specs.Families.Queues.Objects.{list_of}
@@ -24,33 +22,7 @@ module _ {T : Type 0} where
   -- A call that is no push or pop leaves the list as it is.
   others_of_list : (kind : QueueKind) (capacity : ℕ) (items : List (Item T)) (start : Start T)
       → is_push_or_pop start ≡ false → (list_of kind capacity).after items start ≡ items
-  others_of_list queue_kinds.IndexQueue capacity items start neither = bounded start neither
-    where
-      -- the list stays as it was at each call that is neither a push nor a pop
-      bounded : (start : Start T) → is_push_or_pop start ≡ false → (list_of queue_kinds.IndexQueue capacity).after items start ≡ items
-      bounded (starts.Queues (queues.PushIndex index)) neither = absurd (cc)
-      bounded (starts.Queues (queues.Push value)) neither = absurd (cc)
-      bounded (starts.Queues queues.Pop) neither = absurd (cc)
-      bounded (starts.Queues other) neither = refl
-      bounded other neither = refl
-  others_of_list queue_kinds.Overflow capacity items start neither = overflowing start neither
-    where
-      -- the list stays as it was at each call that is neither a push nor a pop
-      overflowing : (start : Start T) → is_push_or_pop start ≡ false → (list_of queue_kinds.Overflow capacity).after items start ≡ items
-      overflowing (starts.Queues (queues.PushIndex index)) neither = absurd (cc)
-      overflowing (starts.Queues (queues.Push value)) neither = absurd (cc)
-      overflowing (starts.Queues queues.Pop) neither = absurd (cc)
-      overflowing (starts.Queues other) neither = refl
-      overflowing other neither = refl
-  others_of_list queue_kinds.Queue capacity items start neither = bounded start neither
-    where
-      -- the list stays as it was at each call that is neither a push nor a pop
-      bounded : (start : Start T) → is_push_or_pop start ≡ false → (list_of queue_kinds.Queue capacity).after items start ≡ items
-      bounded (starts.Queues (queues.PushIndex index)) neither = absurd (cc)
-      bounded (starts.Queues (queues.Push value)) neither = absurd (cc)
-      bounded (starts.Queues queues.Pop) neither = absurd (cc)
-      bounded (starts.Queues other) neither = refl
-      bounded other neither = refl
+  others_of_list = grind arith
 
   -- A run of a queue that keeps its promise is linearizable.
   queue_linearizable : (kind : QueueKind) {t : Trace T} → IsKeptBy (queue_promises.promise kind) t → IsLinearizable (as_list kind t.world.capacity) t.events

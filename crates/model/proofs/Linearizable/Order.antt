@@ -48,38 +48,23 @@ module _ {T : Type 0} (is_call : Start T → Bool) where
           Pending q start (is ∙ ap (λ n. call_at n q start (response_in q es (place + 1))) (put_other p q place begun ne))
           (sym (put_other p q (Some (s, None)) going ne) ∙ under)
 
-  -- a call of the later events is one of all of them where the first event is an act
-  source_acted : (p : ℕ) (s : Start T) (a : Answer T) {es : List (Event T)} {place : ℕ} {going : ℕ → Standing T}
-      {begun : ℕ → ℕ} {c : Call T}
-      → Source c es (place + 1) (put p (Some (s, Some a)) going) begun → Source c (Acted p s a ∷ es) place going begun
-  source_acted p s a (Later h) = Later h
-  source_acted p s a {es} {place} {going} {begun} {c} (Pending q start is under) = ⊎_elim mine theirs (cases_eq q p)
+  -- A call of the later events is one of all of them where the first event, by which the party `p` stands as `o` says, begins no
+  -- call and answers no other party.
+  source_moved : (e : Event T) (p : ℕ) (o : Standing T) {es : List (Event T)} {place : ℕ} {going : ℕ → Standing T} {begun : ℕ → ℕ} {c : Call T}
+      → calls_from (e ∷ es) place ≡ calls_from es (place + 1) → ((start : Start T) → o ≡ Some (start, None) → ⊥)
+      → ((q : ℕ) → q ≢ p → response_in q (e ∷ es) place ≡ response_in q es (place + 1))
+      → Source c es (place + 1) (put p o going) begun → Source c (e ∷ es) place going begun
+  source_moved e p o {c = c} calls none responses (Later h) = Later (subst (λ cs. Contains cs c) (sym calls) h)
+  source_moved e p o {es} {place} {going} {begun} {c} calls none responses (Pending q start is under) = ⊎_elim mine theirs (cases_eq q p)
     where
-      -- The case that q is the party that acts cannot be: after the act its call has acted.
-      mine : q ≡ p → Source c (Acted p s a ∷ es) place going begun
-      mine same =
-          absurd (acted_clash s start a (sym (ap (put p (Some (s, Some a)) going) same ∙ put_same p (Some (s, Some a)) going) ∙ under))
+      -- the call of the party itself has acted or ended
+      mine : q ≡ p → Source c (e ∷ es) place going begun
+      mine same = absurd (none start (sym (ap (put p o going) same ∙ put_same p o going) ∙ under))
 
-      theirs : q ≢ p → Source c (Acted p s a ∷ es) place going begun
-      theirs ne = Pending q start is (sym (put_other p q (Some (s, Some a)) going ne) ∙ under)
-
-  -- a call of the later events is one of all of them where the first event is an end
-  source_finished : (p : ℕ) (s : Start T) (a : Answer T) {es : List (Event T)} {place : ℕ} {going : ℕ → Standing T}
-      {begun : ℕ → ℕ} {c : Call T}
-      → Source c es (place + 1) (put p None going) begun → Source c (Finished p s a ∷ es) place going begun
-  source_finished p s a (Later h) = Later h
-  source_finished p s a {es} {place} {going} {begun} {c} (Pending q start is under) = ⊎_elim mine theirs (cases_eq q p)
-    where
-      -- The case that q is the party whose call ends cannot be: after the end it has none under way.
-      mine : q ≡ p → Source c (Finished p s a ∷ es) place going begun
-      mine same =
-          absurd (none_clash (start, None) (sym (ap (put p None going) same ∙ put_same p None going) ∙ under))
-
-      -- The case that the end is of another party's call.
-      theirs : q ≢ p → Source c (Finished p s a ∷ es) place going begun
+      theirs : q ≢ p → Source c (e ∷ es) place going begun
       theirs ne =
-          Pending q start (is ∙ ap (λ (o : Option (Response T)). call_at (begun q) q start o) (sym (passed q p s a es place (λ h. ne (sym h)))))
-          (sym (put_other p q None going ne) ∙ under)
+          Pending q start (is ∙ ap (λ (r : Option (Response T)). call_at (begun q) q start r) (sym (responses q ne)))
+          (sym (put_other p q o going ne) ∙ under)
 
   -- A call of the later events is one of all events, if the first event neither begins nor ends a call.
   source_quiet : (e : Event T) {es : List (Event T)} {place : ℕ} {going : ℕ → Standing T} {begun : ℕ → ℕ} {c : Call T}
@@ -115,10 +100,18 @@ module _ {T : Type 0} (is_call : Start T → Bool) where
       -- an entry that comes after this act has its source in the later events
       theirs : (Contains (order_in is_call es (place + 1) begun) x → Comes x es (place + 1) (put p (Some (s, Some a)) going) begun)
           → Contains (order_in is_call es (place + 1) begun) x → Comes x (Acted p s a ∷ es) place going begun
-      theirs more member = record { source = source_acted p s a (more member).source; call = (more member).call }
+      theirs more member = record {
+        source = source_moved (Acted p s a) p (Some (s, Some a)) refl (λ start. acted_clash s start a) (λ q ne. refl) (more member).source;
+        call = (more member).call;
+      }
   comes (Finished p s a ∷ es) place going begun once x h =
       let more = comes es (place + 1) (put p None going) begun once.1 x h in
-      record { source = source_finished p s a {es = es} {place = place} {going = going} {begun = begun} {c = x.0} more.source; call = more.call }
+      record {
+        source =
+            source_moved (Finished p s a) p None refl (λ start. none_clash (start, None)) (λ q ne. passed q p s a es place (λ h. ne (sym h)))
+            more.source;
+        call = more.call;
+      }
   comes (e ∷ es) place going begun once x h =
       let more = comes es (place + 1) going begun once x h in
       record { source = source_quiet e {es = es} {place = place} {going = going} {begun = begun} {c = x.0} refl (λ p. refl) more.source; call = more.call }
@@ -132,41 +125,18 @@ module _ {T : Type 0} (is_call : Start T → Bool) where
   abbrev MayPrecede : Call T × Answer T → Call T × Answer T → Type 0
   MayPrecede x y = (x.0 ≢ y.0) × ¬ Precedes y.0 x.0
 
-  -- Each call under way began before the next place, also after a begin.
-  begun_begun : (p : ℕ) (s : Start T) (place : ℕ) (going : ℕ → Standing T) (begun : ℕ → ℕ)
-      → AreBegun place going begun → AreBegun (place + 1) (put p (Some (s, None)) going) (put p place begun)
-  begun_begun p s place going begun all q x under = ⊎_elim mine theirs (cases_eq q p)
+  -- Each call under way began before the next place also after an event of the party `p`, if that is so of its own call.
+  still_begun : (p : ℕ) (o : Standing T) (place : ℕ) {going : ℕ → Standing T} {begun begun' : ℕ → ℕ}
+      → ((x : Start T × Option (Answer T)) → o ≡ Some x → begun' p < place + 1) → ((q : ℕ) → q ≢ p → begun' q ≡ begun q)
+      → AreBegun place going begun → AreBegun (place + 1) (put p o going) begun'
+  still_begun p o place {going} {begun} {begun'} own others all q x under = ⊎_elim mine theirs (cases_eq q p)
     where
-      -- The case that q is the party that begins.
-      mine : q ≡ p → put p place begun q < place + 1
-      mine same = let at : put p place begun q ≡ place = ap (put p place begun) same ∙ put_same p place begun in omega arith
+      -- the call is that of the party itself
+      mine : q ≡ p → begun' q < place + 1
+      mine same = rw same (own x (sym (ap (put p o going) same ∙ put_same p o going) ∙ under))
 
-      theirs : q ≢ p → put p place begun q < place + 1
-      theirs ne = omega (arith, put_other p q place begun ne, all q x (sym (put_other p q (Some (s, None)) going ne) ∙ under))
-
-  -- Each call under way began before the next place, also after an act.
-  begun_acted : (p : ℕ) (s : Start T) (a : Answer T) (place : ℕ) (going : ℕ → Standing T) (begun : ℕ → ℕ)
-      → going p ≡ Some (s, None) → AreBegun place going begun
-      → AreBegun (place + 1) (put p (Some (s, Some a)) going) begun
-  begun_acted p s a place going begun here all q x under = ⊎_elim mine theirs (cases_eq q p)
-    where
-      -- The case that q is the party that acts.
-      mine : q ≡ p → begun q < place + 1
-      mine same = omega (arith, all q (s, None) (ap going same ∙ here))
-
-      theirs : q ≢ p → begun q < place + 1
-      theirs ne = omega (arith, all q x (sym (put_other p q (Some (s, Some a)) going ne) ∙ under))
-
-  -- Each call under way began before the next place, also after an end.
-  begun_finished : (p : ℕ) (place : ℕ) (going : ℕ → Standing T) (begun : ℕ → ℕ) → AreBegun place going begun → AreBegun (place + 1) (put p None going) begun
-  begun_finished p place going begun all q x under = ⊎_elim mine theirs (cases_eq q p)
-    where
-      -- The case that q is the party whose call ends.
-      mine : q ≡ p → begun q < place + 1
-      mine same = let clash : None ≡ Some x = sym (ap (put p None going) same ∙ put_same p None going) ∙ under in absurd (cc)
-
-      theirs : q ≢ p → begun q < place + 1
-      theirs ne = omega (arith, all q x (sym (put_other p q None going ne) ∙ under))
+      theirs : q ≢ p → begun' q < place + 1
+      theirs ne = omega (arith, others q ne, all q x (sym (put_other p q o going ne) ∙ under))
 
   -- a call that acts now and one that acts later
   now_and_later : (p : ℕ) (s : Start T) (a : Answer T) {es : List (Event T)} (place : ℕ) (going : ℕ → Standing T)
@@ -193,13 +163,16 @@ module _ {T : Type 0} (is_call : Start T → Bool) where
       → AreBegun place going begun → AllLater MayPrecede (order_in is_call es place begun)
   in_order [] place going begun once all = tt
   in_order (Begun p s ∷ es) place going begun once all =
-      in_order es (place + 1) (put p (Some (s, None)) going) (put p place begun) once.1 (begun_begun p s place going begun all)
+      in_order es (place + 1) (put p (Some (s, None)) going) (put p place begun) once.1
+      (still_begun p (Some (s, None)) place (λ x e. omega (arith, put_same p place begun)) (λ q ne. put_other p q place begun ne) all)
   in_order (Acted p s a ∷ es) place going begun once all =
       later_if MayPrecede (is_call s) (entry_at (begun p) p s (response_in p es (place + 1)) a) (order_in is_call es (place + 1) begun)
       (λ t y h. now_and_later p s a place going (response_in p es (place + 1)) (all p (s, None) once.0)
       (comes es (place + 1) (put p (Some (s, Some a)) going) begun once.1 y h).source)
-      (in_order es (place + 1) (put p (Some (s, Some a)) going) begun once.1 (begun_acted p s a place going begun once.0 all))
-  in_order (Finished p s a ∷ es) place going begun once all = in_order es (place + 1) (put p None going) begun once.1 (begun_finished p place going begun all)
+      (in_order es (place + 1) (put p (Some (s, Some a)) going) begun once.1
+      (still_begun p (Some (s, Some a)) place (λ x e. omega (arith, all p (s, None) once.0)) (λ q ne. refl) all))
+  in_order (Finished p s a ∷ es) place going begun once all =
+      in_order es (place + 1) (put p None going) begun once.1 (still_begun p None place (λ x e. absurd (none_clash x e)) (λ q ne. refl) all)
   in_order (e ∷ es) place going begun once all =
       in_order es (place + 1) going begun once (λ p x under. omega (arith, all p x under))
 

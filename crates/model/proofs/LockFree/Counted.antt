@@ -1,7 +1,7 @@
 -- The calls under way and those that have ended are counted together: a begin adds one, and any other turn
 -- leaves the number as it was. And a party that takes a step has a call under way.
 use Rattle.model.proofs.Names.{After, AllByRecursion, Ask, GoOn, IsBelow, List}
-use Rattle.model.proofs.Names.{None, Option, Refusal, Some, Trace, World, [], after_answer, after_begin, after_decision, after_next}
+use Rattle.model.proofs.Names.{None, Option, Refusal, Some, Trace, World, [], after_answer, after_begin}
 use Rattle.model.proofs.Names.{after_step, after_turn, after_turns, answer_in, ap, arith, Bool, ask_of_doing, cases_eq}
 use Rattle.model.proofs.Names.{change_of, doing_after, doing_of, ending_of, ends}
 use Rattle.model.proofs.Names.{events_of, events_of_answer, events_of_decision, events_of_next, events_of_step, false}
@@ -20,7 +20,7 @@ use Rattle.model.specs.Step.{Step}
 use Rattle.model.specs.declared.families.Registry.{Registry}
 use Rattle.model.proofs.Parties.{party_put_same}
 use Rattle.model.proofs.Rows.{IsPossible}
-use Rattle.model.proofs.LockFree.Stays.{begun as begun_stays, answered}
+use Rattle.model.proofs.LockFree.Stays.{begun as begun_stays, answered, IsUnder, under_way}
 use Rattle.model.proofs.LockFree.Weighed.{ended_more}
 use Rattle.model.specs.LockFree.{steps_of}
 use Rattle.model.specs.Loads.{begin_in, begins_in, begun_of, begun, pending}
@@ -77,40 +77,40 @@ module _ {T : Type 0} where
       omega (arith, moves n w (after_begin w p start (Some flight)) p below (λ q ne. begun_stays w p start (Some flight) q ne))
 
   -- a step of a call, or an answer to it, ends the call or none: the calls under way are fewer by those that end
-  goes : (n : ℕ) (w : World T) (p : ℕ) (x : Party T) (ask : Option Ask) (answer : ℕ) (doing : Doing T) (flight : Flight T) → p < n
-      → flight_in w p ≡ Some flight → party_of p w.latest ≡ Some x → x.doing ≡ doing
-      → CountsCalls n w (after_answer w p x ask answer doing) (ends (events_of_answer w p x answer doing)) 0
-  goes n w p x ask answer (Over others) flight below flight_is found same_doing =
-      let none : flight_in w p ≡ None = ap (λ o. flight_of (doing_of o)) found ∙ ap (λ d. flight_of (Some d)) same_doing in
-      absurd (cc)
-  goes n w p x ask answer (Going now since) flight below flight_is found same_doing = by_after s.after refl
+  goes : (n : ℕ) (w : World T) (p : ℕ) {flight : Flight T} (u : IsUnder w p flight) (ask : Option Ask) (answer : ℕ) → p < n
+      → CountsCalls n w (after_answer w p u.party ask answer (Going flight u.since))
+      (ends (events_of_answer w p u.party answer (Going flight u.since))) 0
+  goes n w p {flight} u ask answer below = by_after s.after refl
     where
+      x : Party T
+      x = u.party
+
       -- `s` is the step of the party's call.
       s : Step (Flight T) (Registry T) T
-      s = step_in w p x now answer
+      s = step_in w p x flight answer
 
       new : World T
-      new = after_step w p x since ask s
+      new = after_step w p x u.since ask s
 
       moved : pending n new + under w p ≡ pending n w + under new p
-      moved = moves n w new p below (λ q ne. answered w p x ask answer (Going now since) q ne)
+      moved = moves n w new p below (λ q ne. answered w p x ask answer (Going flight u.since) q ne)
 
       one : under w p ≡ 1
-      one = rw flight_is refl
+      one = rw (u.found, u.doing) refl
 
       -- The party's call stands where the step has led it.
       here : (a : After (Flight T) (Answer T)) → s.after ≡ a
-          → flight_in new p ≡ flight_of (Some (doing_after (w.changes + change_of w.words ask) (since + change_of w.words ask) a))
+          → flight_in new p ≡ flight_of (Some (doing_after (w.changes + change_of w.words ask) (u.since + change_of w.words ask) a))
       here a leads =
           ap (λ o. flight_of (doing_of o)) (party_put_same p _ w.latest)
-          ∙ ap (λ a. flight_of (Some (doing_after (w.changes + change_of w.words ask) (since + change_of w.words ask) a))) leads
+          ∙ ap (λ a. flight_of (Some (doing_after (w.changes + change_of w.words ask) (u.since + change_of w.words ask) a))) leads
 
       -- a step writes no end of its own, so the ends among its events are that of its call
       ended : ends (events_of_step p x.start s) ≡ ends (ending_of p x.start (answer_in s.after))
       ended =
           omega (
             arith,
-            writes_no_end T w.coding w.words (beside_of w.words w.kept w.latest p) p x.start now answer w.kept,
+            writes_no_end T w.coding w.words (beside_of w.words w.kept w.latest p) p x.start flight answer w.kept,
             ended_more s.wrote (ending_of p x.start (answer_in s.after)),
           )
 
@@ -126,25 +126,26 @@ module _ {T : Type 0} where
           omega (arith, ended, moved, one)
 
   -- A turn `Next` of a party below n keeps the count of calls under way, but for those that end.
-  nexts : (n : ℕ) (w : World T) (p : ℕ) → p < n → (flight : Flight T) → flight_in w p ≡ Some flight → (o : Option (Party T)) → party_of p w.latest ≡ o
-      → CountsCalls n w (after_next w p o) (ends (events_of_next w p o)) 0
-  nexts n w p below flight flight_is None found = let none : flight_in w p ≡ None = ap (λ o. flight_of (doing_of o)) found in absurd (cc)
-  nexts n w p below flight flight_is (Some x) found =
-      goes n w p x (ask_of_doing w.coding x.doing) (old_of w.words (ask_of_doing w.coding x.doing)) x.doing flight below flight_is found refl
+  nexts : (n : ℕ) (w : World T) (p : ℕ) → p < n → {flight : Flight T} → flight_in w p ≡ Some flight
+      → CountsCalls n w (world_after w (Next p)) (ends (events_of w (Next p))) 0
+  nexts n w p below {flight} flight_is =
+      let u = under_way w p flight flight_is in
+      let ask = ask_of_doing w.coding (Going flight u.since) in
+      rw (u.found, u.doing) (goes n w p u ask (old_of w.words ask) below)
 
   -- A decision for a party below n keeps the count of calls under way, but for those that end.
-  decides : (n : ℕ) (w : World T) (p : ℕ) (said : Bool) → p < n → (flight : Flight T) → flight_in w p ≡ Some flight
-      → (o : Option (Party T)) → party_of p w.latest ≡ o
-      → CountsCalls n w (after_decision w p said o) (ends (events_of_decision w p said o)) 0
-  decides n w p said below flight flight_is None found = let none : flight_in w p ≡ None = ap (λ o. flight_of (doing_of o)) found in absurd (cc)
-  decides n w p said below flight flight_is (Some x) found = goes n w p x None (number_of said) x.doing flight below flight_is found refl
+  decides : (n : ℕ) (w : World T) (p : ℕ) (said : Bool) → p < n → {flight : Flight T} → flight_in w p ≡ Some flight
+      → CountsCalls n w (world_after w (Decide p said)) (ends (events_of w (Decide p said))) 0
+  decides n w p said below {flight} flight_is =
+      let u = under_way w p flight flight_is in
+      rw (u.found, u.doing) (goes n w p u None (number_of said) below)
 
   -- each turn adds the call that it begins to those under way, and takes off the one that it ends
   pub turn_counts : (n : ℕ) (w : World T) (turn : Turn T) → IsPossible w turn → IsBelow n turn
       → CountsCalls n w (world_after w turn) (ends (events_of w turn)) (begin_in turn)
   turn_counts n w (Begin p start) may below = begins n w p start below (first_of w.kind w.capacity start w.kept) may.call may.free
-  turn_counts n w (Next p) may below = nexts n w p below may.flight may.is (party_of p w.latest) refl
-  turn_counts n w (Decide p said) may below = decides n w p said below may.0.flight may.0.is (party_of p w.latest) refl
+  turn_counts n w (Next p) may below = nexts n w p below may.is
+  turn_counts n w (Decide p said) may below = decides n w p said below may.0.is
   turn_counts n w (Die owner) may below = omega (arith, same_pending n w (world_after w (Die owner)) (λ q less. refl))
 
   -- ---- a list of turns

@@ -1,7 +1,7 @@
 -- From finite loads that end to calls that end where their parties go on.
 use Rattle.std.proofs.Common.{Bool, true, false, if◌then◌else◌}
 use Rattle.model.proofs.Names.{AllByRecursion, AreAllowedOn, Bound, IsBelow, List, None, Trace, World, []}
-use Rattle.model.proofs.Names.{after_turn, after_turns, arith, call_refusal, cases_eq, flight_in, inl, inr, length, refl, steps_in, subst, suc, sym, zero}
+use Rattle.model.proofs.Names.{after_turn, after_turns, ap, arith, call_refusal, cases_eq, flight_in, inl, inr, length, refl, steps_in, subst, suc, sym, zero}
 use Rattle.model.proofs.Names.{ℕ, ⊎_elim, ◌++◌, ◌+◌, ◌<◌, ◌==◌, ◌∙◌, ◌∷◌, ◌≡◌, ◌≢◌, ◌≤◌, ◌⊎◌}
 use Rattle.model.specs.declared.event.Start.{Start}
 use Rattle.model.specs.declared.turn.Kind.{Kind}
@@ -9,6 +9,7 @@ use Rattle.model.specs.declared.turn.Turn.{Turn}
 use Rattle.model.specs.declared.turn.Turn.TheVariants.{Begin, Decide, Die, Next}
 use Rattle.model.specs.LockFree.{steps_of}
 use Rattle.model.proofs.LockFree.Measure.{worth}
+use Rattle.model.proofs.Reached.{after_turns_more, allowed_by_more}
 use Rattle.model.specs.Loads.{begins_in, pending, load, EndsLoad, EndsLoadOf, EndsLoadRuns}
 use Rattle.model.specs.Fair.{own_step, own_steps, turns_of, StepsInEach, RestsInOne, moment, begins_by, IsFair}
 use Rattle.model.specs.Fair.{EndsInRounds, EndsInRoundsOf, EndsInRoundsRuns, EndsIfFair}
@@ -77,16 +78,11 @@ module _ {T : Type 0} where
   first turns (suc k) = first turns k ++ turns k ∷ []
 
   module _ (t : Trace T) (turns : ℕ → Turn T) where
-    then_is : (u : Trace T) (xs ys : List (Turn T)) → after_turns u (xs ++ ys) ≡ after_turns (after_turns u xs) ys
-    then_is u [] ys = refl
-    then_is u (x ∷ xs) ys = then_is (after_turn u x) xs ys
-
     -- The first k turns of the schedule lead to its moment k.
     reaches : (k : ℕ) → after_turns t (first turns k) ≡ moment t turns k
     reaches zero = refl
     reaches (suc k) =
-        let so_far = reaches k in
-        then_is t (first turns k) (turns k ∷ []) ∙ subst (λ u. after_turn u (turns k) ≡ moment t turns (suc k)) (sym so_far) refl
+        after_turns_more t (first turns k) (turns k) ∙ ap (λ u. after_turn u (turns k)) (reaches k)
 
     abbrev steps_at : ℕ → ℕ
     steps_at k = steps_of (moment t turns k).world (turns k)
@@ -127,17 +123,11 @@ module _ {T : Type 0} where
     all_of P each zero = tt
     all_of P each (suc k) = all_more P (first turns k) (turns k) (all_of P each k) (each k)
 
-    -- Turns that are not refused, and one more after them that is not, are turns that are not refused.
-    allowed_more : (u : Trace T) (xs : List (Turn T)) (x : Turn T) → AreAllowedOn u xs → call_refusal (after_turns u xs).world x ≡ None
-        → AreAllowedOn u (xs ++ x ∷ [])
-    allowed_more u [] x all here = (here, tt)
-    allowed_more u (y ∷ xs) x all here = (all.0, allowed_more (after_turn u y) xs x all.1 here)
-
     -- On a schedule of which no turn is refused the first k turns are not refused.
     all_allowed : ((k : ℕ) → call_refusal (moment t turns k).world (turns k) ≡ None) → (k : ℕ) → AreAllowedOn t (first turns k)
     all_allowed goes zero = tt
     all_allowed goes (suc k) =
-        allowed_more t (first turns k) (turns k) (all_allowed goes k)
+        allowed_by_more call_refusal t (first turns k) (turns k) (all_allowed goes k)
         (subst (λ (u : Trace T). call_refusal u.world (turns k) ≡ None) (sym (reaches k)) (goes k))
 
     module _ {p : ℕ} (fair : IsFair t turns p) where

@@ -13,13 +13,6 @@ use Rattle.model.proofs.LockFree.Measure.{worth}
 use Rattle.model.proofs.LockFree.Weighed.{ended_more}
 use Rattle.model.proofs.Rows.{IsPossible, possible_on}
 
--- One step more is within the load, if one of the calls has not ended.
-one_step : (bound before calls ended pending steps step : ℕ) → step ≤ 1 → step ≤ pending → pending + ended ≡ before + calls
-    → steps + before * (bound + 1) ≤ bound + ended * (bound + 1) → steps ≤ calls * (bound + 1) → steps + step ≤ calls * (bound + 1)
-one_step bound before calls ended pending steps zero one under count within paid = omega arith
-one_step bound before calls ended pending steps (suc step) one under count within paid =
-    let most = worth (ended + 1) (before + calls) (bound + 1) (omega arith) in omega arith
-
 more_calls : (calls begins each : ℕ) → calls * each ≤ (calls + begins) * each
 more_calls calls begins each = worth calls (calls + begins) each (omega arith)
 
@@ -33,23 +26,42 @@ module _ {T : Type 0} (refuses : World T → Turn T → Option Refusal) (possibl
       (turns : List (Turn T)) → AreAllowedBy refuses t turns → AllByRecursion May turns
       → AreWithinEnds bound (steps + steps_in t turns) before (ends (after_turns t turns).events)
 
+  -- Each of these calls, since `before` calls had ended, has paid for one step more than the bound.
+  record HavePaid (bound before calls steps : ℕ) (t : Trace T) : Type 0 where
+    within : StaysWithin bound before t steps
+    count : pending n t.world + ends t.events ≡ before + calls
+    paid : steps ≤ calls * (bound + 1)
+
+  -- One step more is within the load, if one of the calls has not ended.
+  one_step : {bound before calls steps : ℕ} {t : Trace T} → HavePaid bound before calls steps t → (step : ℕ) → step ≤ 1 → step ≤ pending n t.world
+      → steps + step ≤ calls * (bound + 1)
+  one_step have zero one under = omega (arith, have.paid)
+  one_step {bound} {before} {calls} {t = t} have (suc step) one under =
+      let count = have.count in
+      let now = have.within [] tt tt in
+      let most = worth (ends t.events + 1) (before + calls) (bound + 1) (omega arith) in
+      omega arith
+
   -- each call since that moment, and each that these turns begin, pays for one step more than the bound
-  calls_pay : (bound before calls steps : ℕ) (t : Trace T) (turns : List (Turn T)) → AreAllowedBy refuses t turns → AllByRecursion May turns
-      → StaysWithin bound before t steps → pending n t.world + ends t.events ≡ before + calls → steps ≤ calls * (bound + 1)
-      → steps + steps_in t turns ≤ (calls + begins_in turns) * (bound + 1)
-  calls_pay bound before calls steps t [] allowed may within count paid = omega (arith, more_calls calls 0 (bound + 1))
-  calls_pay bound before calls steps t (turn ∷ turns) allowed may within count paid =
+  calls_pay : {bound before : ℕ} (t : Trace T) {calls steps : ℕ} (turns : List (Turn T)) → AreAllowedBy refuses t turns → AllByRecursion May turns
+      → HavePaid bound before calls steps t → steps + steps_in t turns ≤ (calls + begins_in turns) * (bound + 1)
+  calls_pay {bound} t {calls} [] allowed may have = omega (arith, have.paid, more_calls calls 0 (bound + 1))
+  calls_pay {bound} {before} t {calls} {steps} (turn ∷ turns) allowed may have =
+      let count = have.count in
       let step = steps_of t.world turn in
       let counts = turn_counts n t.world turn (possible t.world turn allowed.0) (below turn may.0) in
       let more = ended_more t.events (events_of t.world turn) in
-      let now = within [] tt tt in
       let one = steps_small (ask_in t.world turn) in
       let under = steps_pending n t.world turn (possible t.world turn allowed.0) (below turn may.0) in
-      let here = one_step bound before calls (ends t.events) (pending n t.world) steps step one under count (omega arith) paid in
+      let here = one_step have step one under in
       let up = more_calls calls (begin_in turn) (bound + 1) in
-      let rest =
-      calls_pay bound before (calls + begin_in turn) (steps + step) (after_turn t turn) turns allowed.1 may.1
-      (λ after all are. omega (arith, within (turn ∷ after) (allowed.0, all) (may.0, are))) (omega arith) (omega arith) in
+      let then : HavePaid bound before (calls + begin_in turn) (steps + step) (after_turn t turn) =
+      record {
+        within = λ after all are. omega (arith, have.within (turn ∷ after) (allowed.0, all) (may.0, are));
+        count = omega arith;
+        paid = omega arith;
+      } in
+      let rest = calls_pay (after_turn t turn) turns allowed.1 may.1 then in
       omega arith
 
   -- turns that keep within the bound take no more steps than the load of their calls
@@ -58,8 +70,9 @@ module _ {T : Type 0} (refuses : World T → Turn T → Option Refusal) (possibl
       → AreWithinEnds bound (steps_in t turns) (ends t.events) (ends (after_turns t turns).events))
       → steps_in t turns ≤ load bound (pending n t.world + begins_in turns)
   load_within bound t turns allowed may keeps =
-      let all = calls_pay bound (ends t.events) (pending n t.world) 0 t turns allowed may
-      (λ turns allowed may. omega (arith, keeps turns allowed may)) (omega arith) (omega arith) in
+      let first : HavePaid bound (ends t.events) (pending n t.world) 0 t =
+      record { within = λ turns allowed may. omega (arith, keeps turns allowed may); count = omega arith; paid = omega arith } in
+      let all = calls_pay t turns allowed may first in
       omega arith
 
 module _ {T : Type 0} where

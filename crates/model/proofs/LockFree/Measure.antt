@@ -1,14 +1,15 @@
 -- From a measure of each call to a bound of the steps between two ends.
 use Rattle.model.proofs.Names.{After, Answer, Ask, Begin, Bool, Die, Flight, GoOn, Going, List, None, Option}
 use Rattle.model.proofs.Names.{Party, Refusal, Registry, Some, Start, Step, Trace, Turn, World, after_step, after_turn}
-use Rattle.model.proofs.Names.{answer_in, ap, arith, ask_of, cases_eq, change_of, doing_after, doing_of}
+use Rattle.model.proofs.Names.{answer_in, ap, arith, ask_of, change_of, doing_after, doing_of}
 use Rattle.model.proofs.Names.{ending_of, ends, events_of_step, flight_in, flight_of, is_question, kept_after_begin}
 use Rattle.model.proofs.Names.{kept_after_death, number_of, old_of, party_after, party_of, refl, step_count, step_in}
 use Rattle.model.proofs.Names.{stretch, true, want_of, words_after, ℕ, ⊎_elim, ◌*◌, ◌+◌, ◌-◌}
 use Rattle.model.proofs.Names.{◌<◌, ◌∙◌, ◌≡◌, ◌≢◌, ◌≤◌, ◌⊎◌}
 use Rattle.steps.specs.declared.ask.After.TheVariants.{Done}
 use Rattle.model.proofs.Counts.{steps_small}
-use Rattle.model.proofs.Parties.{party_put_same, party_put_other}
+use Rattle.model.proofs.Parties.{party_put_same, party_put_other, each_by}
+use Rattle.model.proofs.LockFree.Stays.{IsUnder}
 use Rattle.model.proofs.LockFree.Weighed.{ended_more}
 use Rattle.model.proofs.LockFree.Sums.{sum_below, sum_le, sum_falls, sum_rises, sum_most}
 
@@ -153,12 +154,18 @@ module _ {T : Type 0} (M : Measure T) where
     Shows old new steps ended = steps + weight new ≤ weight old + ended * (bound + 1)
 
     -- a call goes on by an answer
-    pub resumes : (w : World T) (p : ℕ) (x : Party T) {flight : Flight T} {since : ℕ} (answer : ℕ) (ask : Option Ask) → p < n
-        → party_of p w.latest ≡ Some x → x.doing ≡ Going flight since
-        → FallsBy w p x flight ask answer → IsWithin (after_step w p x since ask (step_in w p x flight answer))
-        → Shows w (after_step w p x since ask (step_in w p x flight answer)) (step_count ask) (ends (events_of_step p x.start (step_in w p x flight answer)))
-    resumes w p x {flight} {since} answer ask below found doing falls within = go s.after refl
+    pub resumes : (w : World T) (p : ℕ) {flight : Flight T} (u : IsUnder w p flight) (answer : ℕ) (ask : Option Ask) → p < n
+        → FallsBy w p u.party flight ask answer → IsWithin (after_step w p u.party u.since ask (step_in w p u.party flight answer))
+        → Shows w (after_step w p u.party u.since ask (step_in w p u.party flight answer)) (step_count ask)
+        (ends (events_of_step p u.party.start (step_in w p u.party flight answer)))
+    resumes w p {flight} u answer ask below falls within = go s.after refl
       where
+        x : Party T
+        x = u.party
+
+        since : ℕ
+        since = u.since
+
         -- `s` is the step of the party's call.
         s : Step (Flight T) (Registry T) T
         s = step_in w p x flight answer
@@ -167,7 +174,7 @@ module _ {T : Type 0} (M : Measure T) where
         new = after_step w p x since ask s
 
         was : flight_in w p ≡ Some flight
-        was = ap (λ o. flight_of (doing_of o)) found ∙ ap (λ d. flight_of (Some d)) doing
+        was = ap (λ o. flight_of (doing_of o)) u.found ∙ ap (λ d. flight_of (Some d)) u.doing
 
         others : (q : ℕ) → q ≢ p → flight_in new q ≡ flight_in w q
         others q ne = ap (λ o. flight_of (doing_of o)) (party_put_other q p _ w.latest ne)
@@ -186,14 +193,7 @@ module _ {T : Type 0} (M : Measure T) where
             now = here ∙ ap (λ a. flight_of (Some (doing_after (w.changes + change_of w.words ask) (since + change_of w.words ask) a))) e
 
             no_less : (q : ℕ) → M.pays next ≤ M.pays flight → pays_at new q ≤ pays_at w q
-            no_less q le = ⊎_elim mine theirs (cases_eq q p)
-              where
-                -- The case that q is the party of the turn.
-                mine : q ≡ p → pays_at new q ≤ pays_at w q
-                mine same = rw same (rw (now, was) le)
-
-                theirs : q ≢ p → pays_at new q ≤ pays_at w q
-                theirs ne = rw (others q ne) (omega arith)
+            no_less q le = each_by (λ q. pays_at new q ≤ pays_at w q) p (rw (now, was) le) (λ q ne. rw (others q ne) (omega arith)) q
 
             -- If the step harms no other call, each has no more steps to take than before.
             still : (q : ℕ) → q ≢ p → Harmless w p new.words new.kept → (o : Option (Flight T)) → flight_in w q ≡ o
@@ -211,14 +211,9 @@ module _ {T : Type 0} (M : Measure T) where
               where
                 -- No party has more steps to take than before.
                 left_no_less : (q : ℕ) → left_at new q ≤ left_at w q
-                left_no_less q = ⊎_elim mine theirs (cases_eq q p)
-                  where
-                    -- The case that q is the party of the turn.
-                    mine : q ≡ p → left_at new q ≤ left_at w q
-                    mine same = let here = left_here in rw same (omega arith)
-
-                    theirs : q ≢ p → left_at new q ≤ left_at w q
-                    theirs ne = rw (others q ne) (still q ne harmless.0 (flight_in w q) refl)
+                left_no_less =
+                    each_by (λ q. left_at new q ≤ left_at w q) p (let here = left_here in omega arith)
+                    (λ q ne. rw (others q ne) (still q ne harmless.0 (flight_in w q) refl))
 
             -- The case that the step pays for what it changes: its call has a change less to make.
             by_pay : M.pays next + 1 ≤ M.pays flight → Shows w new (step_count ask) (ends (events_of_step p x.start s))

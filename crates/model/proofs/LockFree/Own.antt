@@ -4,12 +4,12 @@ use Rattle.model.proofs.Names.{After, AllByRecursion, Answer, AreWithinEnds, Ask
 use Rattle.model.proofs.Names.{Die, Doing, Flight, GoOn, Going, IsBelow, IsCoding, KeepsEnding, Kind, List}
 use Rattle.model.proofs.Names.{Next, None, Option, Over, Party, Refusal, Registry, Some, Start, Trace, Turn, World, []}
 use Rattle.model.proofs.Names.{after_answer, after_begin, after_decision, after_next, after_of, after_turn, after_turns}
-use Rattle.model.proofs.Names.{arith, ask_of, ask_of_doing, beside_of, call_refusal, capacity_error, cases_eq}
+use Rattle.model.proofs.Names.{arith, ask_of, ask_of_doing, beside_of, call_refusal, capacity_error}
 use Rattle.model.proofs.Names.{change_of, doing_after, ends, first_of, flight_in, goes_of, is_question}
 use Rattle.model.proofs.Names.{kept_after_begin, kept_after_death, length, number_of, old_of, opening, opening_of, party_after}
 use Rattle.model.proofs.Names.{party_at_begin, party_of, refl, step_count, step_in, step_of, steps_in, stretch}
-use Rattle.model.proofs.Names.{subst, sym, true, unless_refused, want_of, words_after, world_after, ℕ, ⊎_elim, ◌+◌, ◌∙◌}
-use Rattle.model.proofs.Names.{◌∷◌, ◌≡◌, ◌≢◌, ◌≤◌}
+use Rattle.model.proofs.Names.{subst, sym, true, unless_refused, want_of, words_after, world_after, ℕ, ◌+◌, ◌∙◌}
+use Rattle.model.proofs.Names.{◌∷◌, ◌≡◌, ◌≤◌}
 use Rattle.steps.specs.declared.ask.After.TheVariants.{Done}
 use Rattle.model.specs.LockFree.{BeginsSuch}
 use Rattle.model.specs.Parties.{put}
@@ -20,7 +20,7 @@ use Rattle.model.proofs.LockFree.Measure.{Measure, WordMeasure, of_words, Owed, 
 use Rattle.model.proofs.LockFree.Stays.{under_way}
 use Rattle.model.proofs.LockFree.Walks.{calls_end}
 use Rattle.model.proofs.LockFree.Weighed.{KeepsEndingBy}
-use Rattle.model.proofs.Parties.{party_put_same, party_put_other}
+use Rattle.model.proofs.Parties.{put_each}
 use Rattle.model.proofs.Reached.{turn_making}
 use Rattle.model.proofs.Rows.{IsPossible, possible_on}
 
@@ -174,19 +174,8 @@ module _ {T : Type 0} (K : Outline T) where
     -- After a turn each party's call stands where it is known to, if that of the turn's own party does.
     put_own : (w : World T) (now : Registry T) (p : ℕ) (y : Party T) (latest : List (ℕ × Party T)) → Lasts w.kept now → OwnParty w now p (Some y)
         → ((q : ℕ) → OwnParty w w.kept q (party_of q latest)) → (q : ℕ) → OwnParty w now q (party_of q (put p y latest))
-    put_own w now p y latest lasts mine all q = ⊎_elim here there (cases_eq q p)
-      where
-        -- The case that q is the party of the turn.
-        here : q ≡ p → OwnParty w now q (party_of q (put p y latest))
-        here same_party =
-            subst (λ n. OwnParty w now n (party_of n (put p y latest))) (sym same_party)
-            (subst (OwnParty w now p) (sym (party_put_same p y latest)) mine)
-
-        -- The case that q is another party.
-        there : q ≢ p → OwnParty w now q (party_of q (put p y latest))
-        there ne =
-            subst (OwnParty w now q) (sym (party_put_other q p y latest ne))
-            (party_lasts w w.kept now lasts q (party_of q latest) (all q))
+    put_own w now p y latest lasts mine all =
+        put_each (OwnParty w now) p y latest mine (λ q ne. party_lasts w w.kept now lasts q (party_of q latest) (all q))
 
     -- After its step a call stands where it is known to, or it is over.
     doing_own : (w : World T) (now : Registry T) (p : ℕ) (start : Start T) (changes since : ℕ) (after : After (Flight T) (Answer T)) → Lasts w.kept now

@@ -1,20 +1,21 @@
 -- From what a family owes of its measure: every turn takes its steps off the weight of the machine, and every
 -- list of turns keeps calls ending.
-use Rattle.model.proofs.Names.{AllByRecursion, AreWithinEnds, Begin, Bool, Decide, Die, Doing, Flight}
-use Rattle.model.proofs.Names.{Going, IsBelow, List, Next, None, Option, Over, Party, Refusal, Some, Start, Trace, Turn, World}
-use Rattle.model.proofs.Names.{after_answer, after_begin, after_decision, after_next, after_turn, after_turns, ap}
-use Rattle.model.proofs.Names.{arith, ask_of, ask_of_doing, ask_of_flight, cases_eq, doing_of, ends}
-use Rattle.model.proofs.Names.{events_of, events_of_answer, events_of_decision, events_of_next, false, first_of}
-use Rattle.model.proofs.Names.{flight_in, flight_of, is_due, is_none, kept_after_begin, kept_after_death, number_of}
-use Rattle.model.proofs.Names.{old_of, party_of, refl, step_count, steps_in, true, want_of, world_after, ℕ, ⊎_elim}
-use Rattle.model.proofs.Names.{◌+◌, ◌<◌, ◌∙◌, ◌≡◌, ◌≢◌, ◌≤◌}
+use Rattle.model.proofs.Names.{AllByRecursion, AreWithinEnds, Begin, Bool, Decide, Die, Flight}
+use Rattle.model.proofs.Names.{IsBelow, List, Next, None, Option, Refusal, Some, Start, Trace, Turn, World}
+use Rattle.model.proofs.Names.{after_begin, after_turn, after_turns}
+use Rattle.model.proofs.Names.{arith, ask_of, ends}
+use Rattle.model.proofs.Names.{events_of, false, first_of}
+use Rattle.model.proofs.Names.{flight_in, is_due, is_none, kept_after_begin, kept_after_death, number_of}
+use Rattle.model.proofs.Names.{old_of, refl, steps_in, true, want_of, world_after, ℕ}
+use Rattle.model.proofs.Names.{◌+◌, ◌<◌, ◌≡◌, ◌≢◌, ◌≤◌}
 use Rattle.model.specs.Turns.{after_death, AreAllowedBy}
 use Rattle.model.proofs.Rows.{IsPossible, MayStart, MayGoOn}
 use Rattle.model.specs.LockFree.{steps_of}
 use Rattle.model.proofs.LockFree.Measure.{Measure, Harmless, Owed, left_of, pays_of, left_at, pays_at, weight, bound}
 use Rattle.model.proofs.LockFree.Measure.{IsWithin, Shows, at_most, by_left, resumes}
 use Rattle.model.proofs.LockFree.Weighed.{Weighs, runs_end}
-use Rattle.model.proofs.LockFree.Stays.{begun}
+use Rattle.model.proofs.LockFree.Stays.{begun, under_way}
+use Rattle.model.proofs.Parties.{each_by}
 use Rattle.model.proofs.LockFree.Sums.{sum_le}
 
 -- What a family owes of its measure (`O`) says how many steps each call has left. So each turn takes its steps off the weight of the machine.
@@ -51,71 +52,38 @@ module _ {T : Type 0} {refuses : World T → Turn T → Option Refusal} (possibl
         here : left_at M new p + 0 ≤ left_at M w p
         here = let most = within.left p in rw free (omega arith)
 
+        still : (q : ℕ) (o : Option (Flight T)) → q ≢ p → flight_in w q ≡ o → left_of M w.words new.kept o ≤ left_of M w.words w.kept o
+        still q None ne stood = omega arith
+        still q (Some other) ne stood = harmless q ne other stood
+
         left : (q : ℕ) → left_at M new q ≤ left_at M w q
-        left q = ⊎_elim mine theirs (cases_eq q p)
-          where
-            -- The case that q is the party that begins.
-            mine : q ≡ p → left_at M new q ≤ left_at M w q
-            mine same = let most = within.left p in rw (same, free) most
-
-            still : (o : Option (Flight T)) → q ≢ p → flight_in w q ≡ o → left_of M w.words new.kept o ≤ left_of M w.words w.kept o
-            still None ne stood = omega arith
-            still (Some other) ne stood = harmless q ne other stood
-
-            theirs : q ≢ p → left_at M new q ≤ left_at M w q
-            theirs ne = rw (begun w p start (Some flight) q ne) (still (flight_in w q) ne refl)
+        left =
+            each_by (λ q. left_at M new q ≤ left_at M w q) p (let most = within.left p in rw free most)
+            (λ q ne. rw (begun w p start (Some flight) q ne) (still q (flight_in w q) ne refl))
 
         pays : (q : ℕ) → pays_at M new q ≤ pays_at M w q
-        pays q = ⊎_elim mine theirs (cases_eq q p)
-          where
-            -- The case that q is the party that begins.
-            mine : q ≡ p → pays_at M new q ≤ pays_at M w q
-            mine same = let most = within.pays p in rw (same, free) most
-
-            theirs : q ≢ p → pays_at M new q ≤ pays_at M w q
-            theirs ne = rw (begun w p start (Some flight) q ne) (omega arith)
+        pays =
+            each_by (λ q. pays_at M new q ≤ pays_at M w q) p (let most = within.pays p in rw free most)
+            (λ q ne. rw (begun w p start (Some flight) q ne) (omega arith))
 
     -- a call goes on
-    nexts : (t : Trace T) → P t → (p : ℕ) → p < n → (flight : Flight T) → flight_in t.world p ≡ Some flight
-        → IsWithin M n (world_after t.world (Next p)) → (o : Option (Party T)) → party_of p t.world.latest ≡ o
-        → IsWithin M n (after_next t.world p o)
-        → Shows M n t.world (after_next t.world p o) (step_count (ask_of_flight t.world.coding (flight_of (doing_of o)))) (ends (events_of_next t.world p o))
-    nexts t h p below flight flight_is within None found there = let none : flight_in t.world p ≡ None = ap (λ o. flight_of (doing_of o)) found in absurd (cc)
-    nexts t h p below flight flight_is within (Some x) found there = go x.doing refl there
-      where
-        -- the weight pays for the step of a call under way; where none is under way there is no such turn
-        go : (doing : Doing T) → x.doing ≡ doing
-            → IsWithin M n (after_answer t.world p x (ask_of_doing t.world.coding doing) (old_of t.world.words (ask_of_doing t.world.coding doing)) doing)
-            → Shows M n t.world
-            (after_answer t.world p x (ask_of_doing t.world.coding doing) (old_of t.world.words (ask_of_doing t.world.coding doing)) doing)
-            (step_count (ask_of_flight t.world.coding (flight_of (Some doing))))
-            (ends (events_of_answer t.world p x (old_of t.world.words (ask_of_doing t.world.coding doing)) doing))
-        go (Over others) same_doing there =
-            let none : flight_in t.world p ≡ None = ap (λ o. flight_of (doing_of o)) found ∙ ap (λ d. flight_of (Some d)) same_doing in
-            absurd (cc)
-        go (Going now since) same_doing there =
-            let ask = ask_of (want_of t.world.coding now) in
-            resumes M n t.world p x (old_of t.world.words ask) ask below found same_doing (O.step t h p x now since found same_doing) there
+    nexts : (t : Trace T) → P t → (p : ℕ) → p < n → {flight : Flight T} → flight_in t.world p ≡ Some flight
+        → IsWithin M n (world_after t.world (Next p)) → ShowsTurn t (Next p)
+    nexts t h p below {flight} flight_is there =
+        let u = under_way t.world p flight flight_is in
+        let ask = ask_of (want_of t.world.coding flight) in
+        rw (u.found, u.doing)
+        (resumes M n t.world p u (old_of t.world.words ask) ask below
+        (O.step t h p u.party flight u.since u.found u.doing) (rw (u.found, u.doing) at there))
 
     -- the weight pays for an answer to a question
-    decides : (t : Trace T) → P t → (p : ℕ) (said : Bool) → p < n → (flight : Flight T) → flight_in t.world p ≡ Some flight
-        → is_due t.world.coding (flight_in t.world p) ≡ true → (o : Option (Party T)) → party_of p t.world.latest ≡ o
-        → IsWithin M n (after_decision t.world p said o)
-        → Shows M n t.world (after_decision t.world p said o) 0 (ends (events_of_decision t.world p said o))
-    decides t h p said below flight is due None found there = let none : flight_in t.world p ≡ None = ap (λ o. flight_of (doing_of o)) found in absurd (cc)
-    decides t h p said below flight is due (Some x) found there = go x.doing refl there
-      where
-        -- the call that was asked is under way, and what it owes for the answer pays
-        go : (doing : Doing T) → x.doing ≡ doing → IsWithin M n (after_answer t.world p x None (number_of said) doing)
-            → Shows M n t.world (after_answer t.world p x None (number_of said) doing) 0
-            (ends (events_of_answer t.world p x (number_of said) doing))
-        go (Over others) same_doing there =
-            let none : flight_in t.world p ≡ None = ap (λ o. flight_of (doing_of o)) found ∙ ap (λ d. flight_of (Some d)) same_doing in
-            absurd (cc)
-        go (Going now since) same_doing there =
-            let here : flight_in t.world p ≡ Some now = ap (λ o. flight_of (doing_of o)) found ∙ ap (λ d. flight_of (Some d)) same_doing in
-            resumes M n t.world p x (number_of said) None below found same_doing
-            (O.decision t h p x now since said found same_doing (rw here at due)) there
+    decides : (t : Trace T) → P t → (p : ℕ) (said : Bool) → p < n → {flight : Flight T} → flight_in t.world p ≡ Some flight
+        → is_due t.world.coding (flight_in t.world p) ≡ true → IsWithin M n (world_after t.world (Decide p said)) → ShowsTurn t (Decide p said)
+    decides t h p said below {flight} flight_is due there =
+        let u = under_way t.world p flight flight_is in
+        rw (u.found, u.doing)
+        (resumes M n t.world p u (number_of said) None below
+        (O.decision t h p u.party flight u.since said u.found u.doing (rw flight_is at due)) (rw (u.found, u.doing) at there))
 
     -- an owner dies
     dead : (t : Trace T) → P t → (owner : ℕ) → refuses t.world (Die owner) ≡ None → May (Die owner)
@@ -140,10 +108,10 @@ module _ {T : Type 0} {refuses : World T → Turn T → Option Refusal} (possibl
         omega arith
     turn_shows t h (Next p) not_refused such below there =
         let may : MayGoOn t.world p = possible t.world (Next p) not_refused in
-        nexts t h p below may.flight may.is there (party_of p t.world.latest) refl there
+        nexts t h p below may.is there
     turn_shows t h (Decide p said) not_refused such below there =
         let may : MayGoOn t.world p × (is_due t.world.coding (flight_in t.world p) ≡ true) = possible t.world (Decide p said) not_refused in
-        decides t h p said below may.0.flight may.0.is may.1 (party_of p t.world.latest) refl there
+        decides t h p said below may.0.is may.1 there
     turn_shows t h (Die owner) not_refused such below there = omega (arith, dead t h owner not_refused such)
 
     -- ---- a list of turns

@@ -6,12 +6,6 @@ use Rattle.model.proofs.Names.{◌*◌, ◌++◌, ◌+◌, ◌∷◌, ◌≡◌,
 use Rattle.model.specs.LockFree.{BeginsSuch, end_of, steps_of}
 use Rattle.model.specs.Turns.{AreAllowedBy, IsReachedBy}
 
--- The account of one turn and that of the turns after it make the account of all.
-one_turn_more : (s steps old new last before ended after each : ℕ) → s + new ≤ old + ended * each
-    → steps + last + (before + ended) * each ≤ new + after * each
-    → s + steps + last + before * each ≤ old + after * each
-one_turn_more = omega arith
-
 pub ended_more : {T : Type 0} (xs ys : List (Event T)) → ends (xs ++ ys) ≡ ends xs + ends ys
 ended_more xs ys = sum_by-append end_of xs ys
 
@@ -33,11 +27,8 @@ module _ {T : Type 0} (refuses : World T → Turn T → Option Refusal) (May : T
         let next = W.keeps t turn allowed.0 may.0 h in
         let here = W.shows t turn allowed.0 may.0 h in
         let rest = walks (after_turn t turn) next turns allowed.1 may.1 in
-        let more = ended_more t.events (events_of t.world turn) in
-        one_turn_more (steps_of t.world turn) (steps_in (after_turn t turn) turns) (weight t.world)
-        (weight (world_after t.world turn)) (weight (after_turns (after_turn t turn) turns).world)
-        (ends t.events) (ends (events_of t.world turn)) (ends (after_turns (after_turn t turn) turns).events)
-        (bound + 1) here (rw more at rest)
+        let all = rw (ended_more t.events (events_of t.world turn)) at rest in
+        omega arith
 
     -- where k calls more have ended, at most k + 1 times the bound and k steps were taken
     pub runs_end : (t : Trace T) → P t → (turns : List (Turn T)) → AreAllowedBy refuses t turns → AllByRecursion May turns

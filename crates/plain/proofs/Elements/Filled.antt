@@ -5,10 +5,11 @@ use Rattle.std.proofs.Common.{get_or-set_same, get_or-set_other}
 use Rattle.std.specs.Prelude.{slice_index_or, replicate, ◌+◌}
 use Rattle.plain.proofs.Names.{eqb_tells, by_test, ContainerHandle, ReleaseMode}
 use Rattle.std.proofs.lemmas.List.FromFn.{length-map-range_with_len}
+use Rattle.steps.specs.declared.container.enums.ContainerAddFailure.{ContainerAddFailure}
 use Rattle.steps.specs.declared.indices.enums.UniqueIndexSetAcquireFailure.{UniqueIndexSetAcquireFailure}
 use Rattle.steps.specs.Objects.Owners.{Owners, acquired, without, raised, taken, given_back}
 use Rattle.plain.specs.Alone.{BehavesAs}
-use Rattle.plain.specs.Contents.{Contents, opened, changed, names, put_at, after_add, after_remove, after_replace}
+use Rattle.plain.specs.Contents.{Contents, opened, changed, names, added, put_at, after_add, after_remove, after_replace}
 use Rattle.plain.specs.Contents.{counted, value_at, contents_in, IsFilled, Represents, Holds}
 use Rattle.plain.proofs.Elements.Adds.{acquired_low, owners_long}
 use Rattle.plain.proofs.Elements.Values.{front_fits}
@@ -66,14 +67,14 @@ module _ {V : Type 0} where
   put = grind (arith, get_or-set_same, false, get_or-set_other, eqb_tells)
 
   -- whatever the acquire of an add answers, each index with an owner has a value then
-  added : (s : Contents V) (owner : ℕ) (value : V) → length s.values ≡ length s.owners.owners → IsFilled s
+  put_filled : (s : Contents V) (owner : ℕ) (value : V) → length s.values ≡ length s.owners.owners → IsFilled s
       → (r : Result ℕ UniqueIndexSetAcquireFailure) → r ≡ acquired s.owners → IsFilled (put_at s owner value r)
-  added = grind (arith, acquired_low, put)
+  put_filled = grind (arith, acquired_low, put)
 
   -- after an add each index with an owner has a value
   pub filled_add : (owner : ℕ) (value : V) (s : Contents V) → length s.values ≡ length s.owners.owners → IsFilled s
       → IsFilled (after_add s owner value)
-  filled_add owner value s long filled = added s owner value long filled (acquired s.owners) refl
+  filled_add owner value s long filled = put_filled s owner value long filled (acquired s.owners) refl
 
   -- after a remove each index with an owner has a value
   pub filled_remove : (handle : ContainerHandle) (mode : ReleaseMode) (s : Contents V) → IsFilled s
@@ -99,3 +100,13 @@ pub values_long : {V : Type 0} (value_of : List ℕ → V) {size capacity : ℕ}
 values_long value_of {size} {capacity} container {words} fits =
     length-map-range_with_len (value_at value_of size capacity words) 0 capacity
     ∙ sym (owners_long capacity (take (1 + capacity) words) (front_fits value_of size capacity words fits))
+
+-- a call that does what the container's add does keeps `Holds`
+pub still_added : {V : Type 0} (value_of : List ℕ → V) (size capacity container : ℕ) (words : List ℕ) (owner : ℕ) (value : V)
+    → Holds value_of size capacity container words → {a : Result ContainerHandle ContainerAddFailure} {last : List ℕ}
+    → BehavesAs (Represents size capacity) (contents_in value_of size capacity container) (λ s. added s owner) (λ s. after_add s owner value) words a last
+    → BehavesAs (Holds value_of size capacity container) (contents_in value_of size capacity container) (λ s. added s owner)
+    (λ s. after_add s owner value) words a last
+still_added value_of size capacity container words owner value holds =
+    still value_of size capacity container (λ s. added s owner) (λ s. after_add s owner value) words
+    (filled_add owner value (contents_in value_of size capacity container words) (values_long value_of container holds.0) holds.1)

@@ -1,8 +1,8 @@
 -- A find in a container with its closure, from one question to the next: what the closure was called with,
 -- and that it may be called with the next value.
-use Rattle.std.proofs.Common.{◌≡◌, ℕ, suc, ◌+◌, ◌-◌, ◌^◌, ◌<◌, ◌≤◌, inl, inr, true, nat_lt, if◌then◌else◌, List, []}
-use Rattle.std.proofs.Common.{◌∷◌, ◌++◌, length, refl, sym, ap, subst, ◌∙◌, arith}
-use Rattle.plain.proofs.Names.{FoldsTo, append_assoc, append-nil, length-append, length-drop, nat_tests, Want, After}
+use Rattle.std.proofs.Common.{◌≡◌, ℕ, suc, ◌+◌, ◌-◌, ◌^◌, ◌<◌, ◌≤◌, true, nat_lt, if◌then◌else◌, List, []}
+use Rattle.std.proofs.Common.{length, refl, sym, ap, subst, ◌∙◌, arith}
+use Rattle.plain.proofs.Names.{length-drop, nat_tests, Want, After}
 use Rattle.plain.proofs.Names.{GoOn, Done, Question, ContainerHandle}
 use Rattle.steps.specs.Copied.{value_in}
 use Rattle.steps.specs.Container.Find.{first_find, find_comes_to, find_want, find_after, find_kept}
@@ -17,10 +17,10 @@ use Rattle.plain.specs.Robust.{owners_in}
 use Rattle.plain.specs.Contents.{Contents, contents_in}
 use Rattle.plain.specs.Visited.{handle_of, MaySee, Sees}
 use Rattle.plain.proofs.Alone.{Halts, can_stop, stops_so}
+use Rattle.plain.proofs.Found.{Visited, found_all, joined, visit_more, found_some}
 use Rattle.plain.proofs.Walks.{plus, plus_sum, WalksOn}
 use Rattle.plain.proofs.Rooms.{with_room, want_both, after_both, Apart, halts_both}
 use Rattle.plain.proofs.Robust.Finds.{mine}
-use Rattle.plain.proofs.Robust.Finding.{folds_more}
 use Rattle.plain.proofs.Words.{Room}
 use Rattle.plain.proofs.Elements.Finds.{Ready, cells, cells_long, front, AsksAt, StopsAt, finds_on}
 
@@ -70,22 +70,10 @@ module _ {V R F : Type 0} (case : FindCase V R F) where
   abbrev FindStopsAt : Begun → ℕ → List ℕ → stops.Stop (Find V R × R) (ℕ × R) → List ℕ → Type 0
   FindStopsAt ready found left stop last = StopsAt as_room ready found left stop last
 
-  -- what the closure was called with so far: with the values at the indices of `before`, and it said Continue each
-  -- time; those of `left` are left
-  pub record Visited (done : ℕ) (now : F) : Type 0 where
-    -- the indices at which the closure was called, and those that are left: together all of the owner's
-    pub before : List ℕ
-    pub left : List ℕ
-    pub joined : before ++ left ≡ all
-    -- the closure's calls so far, as many as the driver has counted and at most the capacity
-    pub calls : FoldsTo (λ p x q. sees p x Continue q) first before now
-    pub number : length before ≡ done
-    pub low : done ≤ capacity
-
   -- The find is under way: the closure was called as `visited` says, and the call halts at the next question or
   -- at its end.
   pub record Finding (ready : Begun) (done : ℕ) (call : Find V R) (room : R) (now : F) : Type 0 where
-    pub visited : Visited done now
+    pub visited : Visited sees all first capacity done now
     pub run : Halts want (find_after size) kept owner (Apart (FindStopsAt ready done visited.left)) call room words
 
   -- what a step has answered: the find is under way with this number of questions done, or has ended and
@@ -94,22 +82,10 @@ module _ {V R F : Type 0} (case : FindCase V R F) where
   Onward ready done (GoOn call) room now = Finding ready done call room now
   Onward ready done (Done n) room now = HasFound sees all first n now
 
-  -- where nothing is left, this is what the find has found
-  found_all : {done : ℕ} {now : F} {n : ℕ} (visited : Visited done now) → visited.left ≡ [] → n ≡ done → HasFound sees all first n now
-  found_all {done} {now} {n} visited none counted =
-      record {
-        before = visited.before;
-        now = now;
-        calls = visited.calls;
-        ended = inl (
-          sym (append-nil visited.before) ∙ (ap (λ l. visited.before ++ l) (sym none) ∙ visited.joined),
-          refl,
-          counted ∙ sym visited.number,
-        );
-      }
-
   -- over the cells that are left the find halts where it ends, or where it asks about the next index of the owner
-  goes_on : (ready : Begun) (rest : List ℕ) {done : ℕ} {now : F} (visited : Visited done now) (room : R) (a : After (Find V R) ℕ) → length rest ≤ capacity
+  goes_on : (ready : Begun) (rest : List ℕ) {done : ℕ} {now : F}
+      (visited : Visited sees all first capacity done now) (room : R) (a : After (Find V R) ℕ)
+      → length rest ≤ capacity
       → WalksOn (want_both want (find_after size) kept owner) (after_both want (find_after size) kept owner)
       (plus (suc (length rest)) (suc (suc (suc (suc (size - 1)))))) (FindStopsAt ready done visited.left) (with_room room a) words
       → Onward ready done a room now
@@ -130,7 +106,7 @@ module _ {V R F : Type 0} (case : FindCase V R F) where
       let its_cells : List ℕ = cells value_of container ready.holds in
       let starts : find_comes_to {T = V} {R = R} (first_find capacity) 0 0 ≡ GoOn (first_find capacity) =
       ap (λ b. if b then GoOn (first_find capacity) else Done 0) (let t : nat_lt 0 capacity ≡ true = grind (arith, nat_tests, some) in t) in
-      let none : Visited 0 first = record { before = []; left = all; joined = refl; calls = refl; number = refl; low = omega arith } in
+      let none : Visited sees all first capacity 0 first = record { before = []; left = all; joined = refl; calls = refl; number = refl; low = omega arith } in
       subst (λ a. Onward ready 0 a room first) starts
       (goes_on ready its_cells none room (find_comes_to (first_find capacity) 0 0) (omega arith)
       (finds_on as_room ready its_cells 0 0
@@ -186,7 +162,7 @@ module _ {V R F : Type 0} {case : FindCase V R F} {done : ℕ} {call : Find V R}
   -- words are as they were
   pub ended_so : {n : ℕ} {room : R} {last : List ℕ} → StopsSo (stops.TheVariants.Ended n) room last
       → HasFound (sees case) (all case) first n now × (last ≡ words)
-  ended_so alike = let end = stops_at alike in (found_all case visited end.0 end.1, end.2)
+  ended_so alike = let end = stops_at alike in (found_all visited end.0 end.1, end.2)
 
   -- a find asks fewer than 2^64 - 1 questions
   pub few_rounds : done < 2 ^ 64 - 1
@@ -202,10 +178,6 @@ module _ {V R F : Type 0} {case : FindCase V R F} {done : ℕ} {call : Find V R}
     pub index_small : index_in question < capacity
     index_small = subst (λ q. index_in q < capacity) (sym asked.asks) asked.near
 
-    -- the indices so far, this one and those left are all of the owner's
-    joined : visited.before ++ asked.index ∷ mine owner (asked.index + 1) asked.rest ≡ all case
-    joined = ap (λ l. visited.before ++ l) (sym asked.left_is) ∙ visited.joined
-
     -- The closure is to be called with the value that the room has, and with the handle of the question's index.
     module _ {value : V} (value_is : value ≡ value_in value_of size (words_in room)) {index : ℕ} (index_is : index ≡ index_in question) where
       -- the question is about the first index that is left
@@ -217,7 +189,7 @@ module _ {V R F : Type 0} {case : FindCase V R F} {done : ℕ} {call : Find V R}
           → pre now value (handle_of (old case) owner index)
       may_so pre may =
           subst (λ (z : V × ℕ). pre now z.0 (handle_of (old case) owner z.1)) (λ i. (sym value_is i, sym there i))
-          (may.at visited.before now asked.index (mine owner (asked.index + 1) asked.rest) visited.calls joined
+          (may.at visited.before now asked.index (mine owner (asked.index + 1) asked.rest) visited.calls (joined visited asked.left_is)
           (value_in value_of size (words_in room)) asked.copied)
 
       -- a call with the value that the room has is a call with the value at the index
@@ -239,15 +211,8 @@ module _ {V R F : Type 0} {case : FindCase V R F} {done : ℕ} {call : Find V R}
           let long_rest : length asked.rest ≤ capacity = omega (arith, length-drop (asked.index + 1) its_cells, ap length asked.rest_is) in
           let near = asked.near in
           let low = asked.low in
-          let more : Visited case (done + 1) next =
-          record {
-            before = visited.before ++ asked.index ∷ [];
-            left = mine owner (asked.index + 1) asked.rest;
-            joined = append_assoc visited.before (asked.index ∷ []) (mine owner (asked.index + 1) asked.rest) ∙ joined;
-            calls = folds_more (λ p x q. sees case p x Continue q) first now next visited.before asked.index visited.calls (saw Continue next called);
-            number = length-append visited.before (asked.index ∷ []) ∙ ap (λ n. n + 1) visited.number;
-            low = omega arith;
-          } in
+          let more : Visited (sees case) (all case) first capacity (done + 1) next =
+          visit_more visited asked.left_is (saw Continue next called) (omega arith) in
           subst (λ c. Onward case ready (done + 1) (find_after size c owner 1) room next) (sym asked.stands)
           (goes_on case ready asked.rest more room (find_comes_to (first_find capacity) (asked.index + 1) (done + 1)) long_rest
           (finds_on as_room ready asked.rest (asked.index + 1) (done + 1) (record { rest_is = asked.rest_is; low = omega arith; left_is = refl })
@@ -255,12 +220,7 @@ module _ {V R F : Type 0} {case : FindCase V R F} {done : ℕ} {call : Find V R}
       -- a call that said Stop: the find has ended, with the indices that it came to
       onward Stop next called =
           subst (λ c. Onward case ready (done + 1) (find_after size c owner 0) room next) (sym asked.stands)
-          (record {
-            before = visited.before;
-            now = now;
-            calls = visited.calls;
-            ended = inr (asked.index, mine owner (asked.index + 1) asked.rest, joined, saw Stop next called, ap (λ n. n + 1) (sym visited.number));
-          })
+          (found_some visited asked.left_is (saw Stop next called))
 
       -- `Onward` is `Further` over words that are as they were
       further : (b : After (Find V R) ℕ) (next : F) → Onward case ready (done + 1) b room next → Further case (done + 1) b room next last

@@ -25,7 +25,7 @@ use Rattle.plain.proofs.Alone.{Halts, can_stop, stops_so}
 use Rattle.plain.proofs.Walks.{plus, plus_sum}
 use Rattle.plain.proofs.Rooms.{Apart, halts_both}
 use Rattle.plain.proofs.Robust.Releases.{counter_then, given_back_is}
-use Rattle.plain.proofs.Robust.Finding.{folds_more}
+use Rattle.plain.proofs.Found.{folds_more}
 use Rattle.plain.proofs.Robust.Recovering.{locked_leaves, an_answer, questions_more, agreed_no, agreed_yes}
 use Rattle.plain.proofs.Elements.Finds.{Ready, counter, cells, cells_long, front}
 use Rattle.plain.proofs.Elements.Frees.{counter_low}

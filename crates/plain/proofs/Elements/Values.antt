@@ -13,7 +13,7 @@ use Rattle.plain.specs.Robust as robust
 use Rattle.plain.specs.Robust.{owners_in}
 use Rattle.plain.specs.Contents.{count_without, count_with, changed, value_at, values_in, counts_in, contents_in, Represents}
 use Rattle.plain.proofs.Fronts.{Behind}
-use Rattle.plain.proofs.Places.Flags.{map_same, map_changed_within}
+use Rattle.plain.proofs.Places.Flags.{map_same, map_changed}
 use Rattle.plain.proofs.Words.{words_same, words_all, stored, stored_length, stored_other, stored_words}
 
 -- How values are stored: the words of a value, and the value of words, which gives each value back from its words; a value has 1 to 128 words.
@@ -25,6 +25,12 @@ pub record Codes (V : Type 0) : Type 0 where
   pub given_back : (x : V) → value_of (words_of x) ≡ x
   pub some : 1 ≤ size
   pub wide : size ≤ 128
+
+-- values are stored so, by the laws of their type
+abbrev pub codes_by : {V : Type 0} {words_of : V → List ℕ} (value_of : List ℕ → V) {size : ℕ} → ((x : V) → length (words_of x) ≡ size)
+    → ((x : V) → value_of (words_of x) ≡ x) → 1 ≤ size → size ≤ 128 → Codes V
+codes_by {V} {words_of} value_of {size} sized given_back some wide =
+    record { words_of = words_of; value_of = value_of; size = size; sized = sized; given_back = given_back; some = some; wide = wide }
 
 -- the values of two indices lie apart
 pub apart : (size i j : ℕ) → i < j → size * i + size ≤ size * j
@@ -265,17 +271,16 @@ module _ {V : Type 0} (value_of : List ℕ → V) {size capacity : ℕ} {words :
       (get_or-set_other later (change_word capacity) (count_word capacity j) c 0 (λ e. absurd (omega arith)))
       (λ k from below. get_or-set_other later (change_word capacity) k c 0 (λ e. absurd (omega arith))) in
       let values =
-      map_changed_within (value_at value_of size capacity words)
-      (value_at value_of size capacity (after_change later)) o capacity 0 index index near (omega arith)
-      (stays index near ∙ here.0) (λ j from below ne. stays j (omega arith) ∙ written.others j (omega arith) ne) in
+      map_changed (value_at value_of size capacity words) (value_at value_of size capacity (after_change later)) o capacity index near
+      (stays index near ∙ here.0) (λ j below ne. stays j below ∙ written.others j below ne) in
       -- the number of each other index stays, and this index has the one that goes with the value
       let kept : (j : ℕ) → j < capacity → slice_index (after_change later) (count_word capacity j) ≡ slice_index later (count_word capacity j) =
       λ j low. get_or-set_other later (change_word capacity) (count_word capacity j) c 0 (λ e. absurd (omega arith)) in
       let before : slice_index (counts_in value_of size capacity words) index ≡ slice_index words (count_word capacity index) =
       get_or-map-range_with_len (λ j. slice_index words (count_word capacity j)) 0 capacity index index 0 near (omega arith) in
-      let counts = map_changed_within (λ j. slice_index words (count_word capacity j)) (λ j. slice_index (after_change later) (count_word capacity j))
-      (count_with o (slice_index (counts_in value_of size capacity words) index)) capacity 0 index index near (omega arith)
-      (kept index near ∙ here.1 ∙ ap (count_with o) (sym before)) (λ j from below ne. kept j (omega arith) ∙ written.counts j (omega arith) ne) in
+      let counts = map_changed (λ j. slice_index words (count_word capacity j)) (λ j. slice_index (after_change later) (count_word capacity j))
+      (count_with o (slice_index (counts_in value_of size capacity words) index)) capacity index near
+      (kept index near ∙ here.1 ∙ ap (count_with o) (sym before)) (λ j below ne. kept j below ∙ written.counts j below ne) in
       λ i. record { container = container; owners = owners_in (front i); values = values i; counts = counts i; changes = changes i }
 
   -- where the number of the index is the hidden one, no value stands there

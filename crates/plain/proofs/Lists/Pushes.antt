@@ -32,7 +32,7 @@ module _ {V : Type 0} (value : V) (q : Bounded V) where
       → made room position ≡ record q { values = q.values ++ value ∷ [] }
   let_in = grind (arith, true≢false)
 
-module _ {V : Type 0} (words_of : V → List ℕ) (value_of : List ℕ → V) (size : ℕ)
+module _ {V : Type 0} {words_of : V → List ℕ} (value_of : List ℕ → V) {size : ℕ}
     (sized : (x : V) → length (words_of x) ≡ size) (given_back : (x : V) → value_of (words_of x) ≡ x)
     (some : 1 ≤ size) (few : size ≤ 128) (capacity : ℕ) (value : V) where
   -- the push, run alone from these words, ends within n steps with this answer and these last words
@@ -265,6 +265,6 @@ module _ {V : Type 0} (words_of : V → List ℕ) (value_of : List ℕ → V) (s
       (cases_lt (slice_index words 0 - slice_index words 1) capacity))
 
   -- a push, run alone, does what a push does to the list
-  pub push_runs : (call : Push V) → call ≡ first_push capacity → (words : List ℕ)
+  pub push_runs : {call : Push V} → call ≡ first_push capacity → {words : List ℕ}
       → Represents size capacity words → PushRuns call words
-  push_runs call at_first words fits = subst (λ c. PushRuns c words) (sym at_first) (runs_first words fits)
+  push_runs {call} at_first {words} fits = subst (λ c. PushRuns c words) (sym at_first) (runs_first words fits)

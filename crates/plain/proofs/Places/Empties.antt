@@ -6,7 +6,6 @@ use Rattle.std.proofs.Common.{slice_set, get_or-set_same, get_or-set_other, leng
 use Rattle.plain.proofs.Names.{FoldsTo, range_with_len, cases_lt, standing_from, standing, ResetAll}
 use Rattle.std.specs.Prelude.{map, slice_index_or}
 use Rattle.steps.specs.Bits.Words.{bit_of, element_of, elements, has_flag, stands}
-use Rattle.steps.specs.Bits.ResetAll.{all_bits}
 use Rattle.steps.specs.Objects.Places.{emptied, unset}
 use Rattle.steps.proofs.Flags.Words.{none_stands}
 use Rattle.plain.specs.Bits.{flags_in, places_in, standing_in, Represents}
@@ -57,11 +56,12 @@ none_in found place (suc n) clear =
     ∙ none_in found (place + 1) n (λ q low high. clear q (omega arith) (omega arith))
 
 -- the places of an element from one on are that place, if it stands, and those after it
-next_in : (found place end : ℕ) → place < end
+next_in : (found place end : ℕ) (stood : Bool) → place < end → stood ≡ has_flag found place
     → standing_in found place (end - place)
-    ≡ (if has_flag found place then place ∷ standing_in found (place + 1) (end - (place + 1)) else standing_in found (place + 1) (end - (place + 1)))
-next_in found place end low =
+    ≡ (if stood then place ∷ standing_in found (place + 1) (end - (place + 1)) else standing_in found (place + 1) (end - (place + 1)))
+next_in found place end stood low stood_is =
     ap (standing_in found place) (let e : end - place ≡ suc (end - (place + 1)) = omega arith in e)
+    ∙ ap (λ b. if b then place ∷ standing_in found (place + 1) (end - (place + 1)) else standing_in found (place + 1) (end - (place + 1))) (sym stood_is)
 
 -- a place that may come first comes before both lists
 put_before : (b : Bool) (place : ℕ) (xs ys : List ℕ)
@@ -128,216 +128,176 @@ module _ {F : Type 0} (pre : F → ℕ → Type 0) (step : F → ℕ → Unit {0
 
   -- ---- one element is handed out
 
-  module _ (found end : ℕ) (at : ℕ) (first : F) where
-    -- The places of the element before this one are handed out. The flags of `left` from there on are those
-    -- found, the closure may be called with the places that stand, and if it is, it will have been called
-    -- with all of the element.
-    pub record Visiting (place left : ℕ) (visit : F) : Type 0 where
-      pub same : (q : ℕ) → place ≤ q → q < end → has_flag left q ≡ has_flag found q
-      pub takes : Takes pre step (standing_in found place (end - place)) visit
-      pub calls : (last : F) → Folds visit (standing_in found place (end - place)) last
-          → Folds first (standing_in found at (end - at)) last
-
-    -- where this place stands, the closure may be called with it, and then with those of the element after it
-    both : (place left : ℕ) (visit : F) → place < end → Visiting place left visit → has_flag found place ≡ true
-        → Takes pre step (place ∷ standing_in found (place + 1) (end - (place + 1))) visit
-    both place left visit low visiting some =
-        subst (λ xs. Takes pre step xs visit)
-        (next_in found place end low
-        ∙ ap (λ b. if b then place ∷ standing_in found (place + 1) (end - (place + 1)) else standing_in found (place + 1) (end - (place + 1))) some)
-        visiting.takes
-
-    -- where this place stands, the closure may be called with it
-    pub may_visit : (place left : ℕ) (visit : F) → place < end → Visiting place left visit → (stood : Bool)
-        → stood ≡ has_flag found place → stood ≡ true → pre visit place
-    may_visit place left visit low visiting stood stood_is some =
-        (both place left visit low visiting (sym stood_is ∙ some)).0
-
-    -- after a call with the place, if it stands, the places before the next one are handed out. The cases are
-    -- whether it stands.
-    pub visits_one : (place left next : ℕ) (visit : F) → place < end → end ≤ at + 64 → at ≤ place
-        → Visiting place left visit → (stood : Bool) → stood ≡ has_flag found place → (later : F)
-        → (stood ≡ true → step visit place tt later) → (stood ≡ false → later ≡ visit)
-        → ((q : ℕ) → bit_of q ≢ bit_of place → has_flag next q ≡ has_flag left q)
-        → Visiting (place + 1) next later
-    visits_one place left next visit low near from visiting true stood_is later did same others =
-        let some : has_flag found place ≡ true = sym stood_is in
-        let list = next_in found place end low
-        ∙ ap (λ b. if b then place ∷ standing_in found (place + 1) (end - (place + 1)) else standing_in found (place + 1) (end - (place + 1))) some in
-        record {
-          same = λ q below high. others q (λ e. absurd (omega (arith, e))) ∙ visiting.same q (omega arith) high;
-          takes = (both place left visit low visiting some).1 later (did refl);
-          calls = λ last f. visiting.calls last (subst (λ xs. Folds visit xs last) (sym list) (later, did refl, f));
-        }
-    visits_one place left next visit low near from visiting false stood_is later did same others =
-        let none : has_flag found place ≡ false = sym stood_is in
-        let list = next_in found place end low
-        ∙ ap (λ b. if b then place ∷ standing_in found (place + 1) (end - (place + 1)) else standing_in found (place + 1) (end - (place + 1))) none in
-        subst (Visiting (place + 1) next) (sym (same refl))
-        (record {
-          same = λ q below high. others q (λ e. absurd (omega (arith, e))) ∙ visiting.same q (omega arith) high;
-          takes = subst (λ xs. Takes pre step xs visit) list visiting.takes;
-          calls = λ last f. visiting.calls last (subst (λ xs. Folds visit xs last) (sym list) f);
-        })
-
-    -- where no flag is left, the closure was called with each place of the element that stood
-    pub visited : (place left : ℕ) (visit : F) → Visiting place left visit
-        → ((q : ℕ) → place ≤ q → q < end → has_flag left q ≡ false)
-        → Folds first (standing_in found at (end - at)) visit
-    visited place left visit visiting none =
-        visiting.calls visit
-        (subst (λ xs. Folds visit xs visit)
-        (sym (none_in found place (end - place) (λ q low high. sym (visiting.same q low (omega arith)) ∙ none q low (omega arith))))
-        refl)
+  -- The places of the element before this one are handed out. The flags of `left` from there on are those
+  -- found, the closure may be called with the places that stand, and if it is, it will have been called
+  -- with all of the element.
+  pub record Visiting (found end at : ℕ) (first : F) (place left : ℕ) (visit : F) : Type 0 where
+    pub same : (q : ℕ) → place ≤ q → q < end → has_flag left q ≡ has_flag found q
+    pub takes : Takes pre step (standing_in found place (end - place)) visit
+    pub calls : (last : F) → Folds visit (standing_in found place (end - place)) last
+        → Folds first (standing_in found at (end - at)) last
 
   -- ---- all elements
 
-  module _ (capacity : ℕ) (before : List ℕ) (first : F) where
-    -- The emptying has come to this element and its first place. The elements before it are 0, those from it
-    -- on are as before, and the closure may be called with the places that stand from there on; if it is, it
-    -- will have been called with all.
-    pub record Emptying (element place : ℕ) (call : ResetAll) (words : List ℕ) (visit : F) : Type 0 where
-      pub fits : Represents capacity before
-      -- the place is the first one of the element, or the capacity where no element is left
-      pub within : place ≤ capacity
-      pub near : place ≤ element * 64
-      pub far : place < capacity → place ≡ element * 64
-      -- where an element is left, the call is about to swap its word with 0
-      pub at : element < elements capacity → call ≡ record { word = 1 + element; end = 1 + elements capacity }
-      -- the words of the elements before this one are 0, and all other words are as before
-      pub long : length words ≡ length before
-      pub swept : (j : ℕ) → 0 < j → j ≤ element → slice_index words j ≡ 0
-      pub kept : (j : ℕ) → element < j → slice_index words j ≡ slice_index before j
-      pub head : slice_index words 0 ≡ slice_index before 0
-      -- the calls that are left, and that with them the closure was called with all places
-      pub takes : Takes pre step (left capacity before place) visit
-      pub calls : (last : F) → Folds visit (left capacity before place) last
-          → Folds first (standing (places_in capacity before)) last
+  -- The emptying has come to this element and its first place. The elements before it are 0, those from it
+  -- on are as before, and the closure may be called with the places that stand from there on; if it is, it
+  -- will have been called with all.
+  pub record Emptying (capacity : ℕ) (before : List ℕ) (first : F) (element place : ℕ) (call : ResetAll) (words : List ℕ) (visit : F) : Type 0 where
+    pub fits : Represents capacity before
+    -- the place is the first one of the element, or the capacity where no element is left
+    pub within : place ≤ capacity
+    pub near : place ≤ element * 64
+    pub far : place < capacity → place ≡ element * 64
+    -- where an element is left, the call is about to swap its word with 0
+    pub at : element < elements capacity → call ≡ record { word = 1 + element; end = 1 + elements capacity }
+    -- the words of the elements before this one are 0, and all other words are as before
+    pub long : length words ≡ length before
+    pub swept : (j : ℕ) → 0 < j → j ≤ element → slice_index words j ≡ 0
+    pub kept : (j : ℕ) → element < j → slice_index words j ≡ slice_index before j
+    pub head : slice_index words 0 ≡ slice_index before 0
+    -- the calls that are left, and that with them the closure was called with all places
+    pub takes : Takes pre step (left capacity before place) visit
+    pub calls : (last : F) → Folds visit (left capacity before place) last
+        → Folds first (standing (places_in capacity before)) last
 
-    -- an emptying begins at element 0 and place 0, where the closure may be called with all places that stand
-    pub begins : Represents capacity before → Takes pre step (standing (places_in capacity before)) first
-        → (call : ResetAll) → call ≡ all_bits capacity → Emptying 0 0 call before first
-    begins fits takes call at_first =
+-- The places of an element before this one are handed out.
+module _ {F : Type 0} {pre : F → ℕ → Type 0} {step : F → ℕ → Unit {0} → F → Type 0} {found end at : ℕ} {first : F} {place flags : ℕ} {visit : F}
+    (visiting : Visiting pre step found end at first place flags visit) where
+  -- where this place stands, the closure may be called with it, and then with those of the element after it
+  both : place < end → true ≡ has_flag found place → Takes pre step (place ∷ standing_in found (place + 1) (end - (place + 1))) visit
+  both low some = subst (λ xs. Takes pre step xs visit) (next_in found place end true low some) visiting.takes
+
+  -- where this place stands, the closure may be called with it
+  pub may_visit : place < end → {stood : Bool} → stood ≡ has_flag found place → stood ≡ true → pre visit place
+  may_visit low stood_is some = (both low (sym some ∙ stood_is)).0
+
+  -- after a call with the place, if it stands, the places before the next one are handed out. The cases are
+  -- whether it stands.
+  pub visits_one : place < end → end ≤ at + 64 → at ≤ place → (stood : Bool) → stood ≡ has_flag found place → {next : ℕ} {later : F}
+      → (stood ≡ true → step visit place tt later) → (stood ≡ false → later ≡ visit)
+      → ((q : ℕ) → bit_of q ≢ bit_of place → has_flag next q ≡ has_flag flags q)
+      → Visiting pre step found end at first (place + 1) next later
+  visits_one low near from true stood_is {next} {later} did same others =
+      record {
+        same = λ q below high. others q (λ e. absurd (omega (arith, e))) ∙ visiting.same q (omega arith) high;
+        takes = (both low stood_is).1 later (did refl);
+        calls = λ last f. visiting.calls last
+            (subst (λ xs. Folds pre step visit xs last) (sym (next_in found place end true low stood_is)) (later, did refl, f));
+      }
+  visits_one low near from false stood_is {next} {later} did same others =
+      let list = next_in found place end false low stood_is in
+      subst (Visiting pre step found end at first (place + 1) next) (sym (same refl))
+      (record {
+        same = λ q below high. others q (λ e. absurd (omega (arith, e))) ∙ visiting.same q (omega arith) high;
+        takes = subst (λ xs. Takes pre step xs visit) list visiting.takes;
+        calls = λ last f. visiting.calls last (subst (λ xs. Folds pre step visit xs last) (sym list) f);
+      })
+
+  -- where no flag is left, the closure was called with each place of the element that stood
+  pub visited : ((q : ℕ) → place ≤ q → q < end → has_flag flags q ≡ false) → Folds pre step first (standing_in found at (end - at)) visit
+  visited none =
+      visiting.calls visit
+      (subst (λ xs. Folds pre step visit xs visit)
+      (sym (none_in found place (end - place) (λ q low high. sym (visiting.same q low (omega arith)) ∙ none q low (omega arith))))
+      refl)
+
+-- The emptying has come to this element and this place.
+module _ {F : Type 0} {pre : F → ℕ → Type 0} {step : F → ℕ → Unit {0} → F → Type 0} {capacity : ℕ} {before : List ℕ} {first : F}
+    {element place : ℕ} {call : ResetAll} {words : List ℕ} {visit : F}
+    (emptying : Emptying pre step capacity before first element place call words visit) where
+  -- The set has the element, a step has swapped out its word `found`, and its places end at `end`.
+  module _ (some : element < elements capacity) {found : ℕ} (is : found ≡ slice_index words call.word) {end : ℕ} (order : place ≤ end)
+      (below : end ≤ capacity) (near : end ≤ place + 64) (far : end < capacity → end ≡ place + 64) where
+    -- the place is the first of the element
+    here : place ≡ element * 64
+    here = let n = emptying.near in let f = emptying.far in let w = emptying.within in
+        ⊎_elim (λ (low : place < capacity). f low) (λ (high : capacity ≤ place). absurd (omega arith)) (cases_lt place capacity)
+
+    -- what the step has swapped out is the element as it was before the call
+    found_is : found ≡ slice_index before (1 + element)
+    found_is = is ∙ (ap (λ (c : ResetAll). slice_index words c.word) (emptying.at some) ∙ emptying.kept (1 + element) (omega arith))
+
+    -- the places that stand from here on are those of this element and those after it
+    splits : left capacity before place ≡ standing_in found place (end - place) ++ left capacity before end
+    splits =
+        left_splits capacity before found place (end - place) (omega arith)
+        (λ q low high.
+        let e = here in
+        ap (slice_index before) (let z : element_of q ≡ 1 + element = omega arith in z) ∙ sym found_is)
+        ∙ ap (λ m. standing_in found place (end - place) ++ left capacity before m) (let z : place + (end - place) ≡ end = omega arith in z)
+
+    -- the closure may be called with the places of this element that stand
+    pub takes_element : Takes pre step (standing_in found place (end - place)) visit
+    takes_element =
+        takes_first pre step (standing_in found place (end - place)) (left capacity before end) visit
+        (subst (λ xs. Takes pre step xs visit) splits emptying.takes)
+
+    -- after the calls with the places of this element its word is 0, and the emptying has
+    -- come to the next element
+    pub empties_one : {next : ResetAll} {now : List ℕ} {later : F} → now ≡ slice_set words call.word 0
+        → (call.word + 1 < call.end → next ≡ record { word = call.word + 1; end = call.end })
+        → Folds pre step visit (standing_in found place (end - place)) later → Emptying pre step capacity before first (element + 1) end next now later
+    empties_one {next} {now} {later} writes goes went =
+        let e = here in
+        let long : 1 + element < length words = omega (arith, emptying.long, emptying.fits.long) in
+        let wrote : now ≡ slice_set words (1 + element) 0 = writes ∙ ap (λ (c : ResetAll). slice_set words c.word 0) (emptying.at some) in
         record {
-          fits = fits;
-          within = omega arith;
+          fits = emptying.fits;
+          within = below;
           near = omega arith;
-          far = λ low. refl;
-          at = λ some. at_first;
-          long = refl;
-          swept = λ j low high. absurd (omega arith);
-          kept = λ j high. refl;
-          head = refl;
-          takes = takes;
-          calls = λ last f. f;
+          far = λ low. far low ∙ omega arith;
+          -- the call stands at the next element, if there is one
+          at = λ more.
+              subst (λ (c : ResetAll). c.word + 1 < c.end → next ≡ record { word = c.word + 1; end = c.end }) (emptying.at some) goes (omega arith)
+              ∙ ap (λ w. record { word = w; end = 1 + elements capacity }) (let z : 1 + element + 1 ≡ 1 + (element + 1) = omega arith in z);
+          long = ap length wrote ∙ (length-set words (1 + element) 0 ∙ emptying.long);
+          -- the words of the elements up to this one are 0
+          swept = λ j low high.
+              ap (λ ws. slice_index ws j) wrote
+              ∙ ⊎_elim (λ (before : j < 1 + element).
+              get_or-set_other words (1 + element) j 0 0 (λ e. absurd (omega arith)) ∙ emptying.swept j low (omega arith))
+              (λ (last : 1 + element ≤ j).
+              ap (slice_index (slice_set words (1 + element) 0)) (let z : j ≡ 1 + element = omega arith in z)
+              ∙ get_or-set_same words (1 + element) 0 0 long)
+              (cases_lt j (1 + element));
+          -- the words of the elements behind it are as before
+          kept = λ j high.
+              ap (λ ws. slice_index ws j) wrote
+              ∙ (get_or-set_other words (1 + element) j 0 0 (λ e. absurd (omega arith)) ∙ emptying.kept j (omega arith));
+          head = ap (λ ws. slice_index ws 0) wrote
+              ∙ (get_or-set_other words (1 + element) 0 0 0 (λ e. absurd (omega arith)) ∙ emptying.head);
+          -- the closure may still be called with the places behind those of this element
+          takes = takes_rest pre step (standing_in found place (end - place)) (left capacity before end) visit later
+              (subst (λ xs. Takes pre step xs visit) splits emptying.takes) went;
+          -- once it is called with those, it was called with all
+          calls = λ last f.
+              emptying.calls last
+              (subst (λ xs. Folds pre step visit xs last) (sym splits)
+              (goes_further pre step (standing_in found place (end - place)) (left capacity before end) visit later last went f));
         }
 
-    -- The emptying has come to an element that the set has.
-    module _ {element place : ℕ} {call : ResetAll} {words : List ℕ} {visit : F} (emptying : Emptying element place call words visit)
-        (some : element < elements capacity) where
-      -- the call is not done yet
-      pub may_swap : call.word < call.end
-      may_swap = subst (λ (c : ResetAll). c.word < c.end) (sym (emptying.at some)) (omega arith)
+  -- The emptying has come to its end: it has gone through all elements of the set.
+  module _ (last : element ≡ elements capacity) where
+    -- after the last element the place is the capacity
+    at_end : place ≡ capacity
+    at_end = let w = emptying.within in let f = emptying.far in
+        ⊎_elim (λ (low : place < capacity). absurd (omega (arith, f low))) (λ (high : capacity ≤ place). omega arith) (cases_lt place capacity)
 
-      -- Its step has swapped out the word `found`, and the places of the element end at `end`.
-      module _ {found : ℕ} (is : found ≡ slice_index words call.word) (end : ℕ) (order : place ≤ end) (below : end ≤ capacity)
-          (near : end ≤ place + 64) (far : end < capacity → end ≡ place + 64) where
-        -- the place is the first of the element
-        here : place ≡ element * 64
-        here = let n = emptying.near in let f = emptying.far in let w = emptying.within in
-            ⊎_elim (λ (low : place < capacity). f low) (λ (high : capacity ≤ place). absurd (omega arith)) (cases_lt place capacity)
+    -- no place stands then
+    none : (q : ℕ) → q < capacity → stands words q ≡ false
+    none q low =
+        ap (λ w. has_flag w q) (emptying.swept (element_of q) (omega arith) (omega arith)) ∙ none_stands q
 
-        -- what the step has swapped out is the element as it was before the call
-        found_is : found ≡ slice_index before (1 + element)
-        found_is = is ∙ (ap (λ (c : ResetAll). slice_index words c.word) (emptying.at some) ∙ emptying.kept (1 + element) (omega arith))
+    -- the words are then those of the set emptied
+    pub all_emptied : places_in capacity words ≡ emptied (places_in capacity before)
+    all_emptied =
+        let clear : flags_in capacity words ≡ replicate (length (flags_in capacity before)) false =
+        none_of (stands words) capacity 0 (λ q low high. none q (omega arith))
+        ∙ ap (λ n. replicate n false) (sym (flags_length capacity before)) in
+        λ i. record { flags = clear i; start = emptying.head i }
 
-        -- the places that stand from here on are those of this element and those after it
-        splits : left capacity before place ≡ standing_in found place (end - place) ++ left capacity before end
-        splits =
-            left_splits capacity before found place (end - place) (omega arith)
-            (λ q low high.
-            let e = here in
-            ap (slice_index before) (let z : element_of q ≡ 1 + element = omega arith in z) ∙ sym found_is)
-            ∙ ap (λ m. standing_in found place (end - place) ++ left capacity before m) (let z : place + (end - place) ≡ end = omega arith in z)
-
-        -- the closure may be called with the places of this element that stand
-        pub takes_element : Takes pre step (standing_in found place (end - place)) visit
-        takes_element =
-            takes_first (standing_in found place (end - place)) (left capacity before end) visit
-            (subst (λ xs. Takes pre step xs visit) splits emptying.takes)
-
-        -- after the calls with the places of this element its word is 0, and the emptying has
-        -- come to the next element
-        pub empties_one : {next : ResetAll} {now : List ℕ} (later : F) → now ≡ slice_set words call.word 0
-            → (call.word + 1 < call.end → next ≡ record { word = call.word + 1; end = call.end })
-            → Folds visit (standing_in found place (end - place)) later → Emptying (element + 1) end next now later
-        empties_one {next} {now} later writes goes went =
-            let e = here in
-            let long : 1 + element < length words = omega (arith, emptying.long, emptying.fits.long) in
-            let wrote : now ≡ slice_set words (1 + element) 0 = writes ∙ ap (λ (c : ResetAll). slice_set words c.word 0) (emptying.at some) in
-            record {
-              fits = emptying.fits;
-              within = below;
-              near = omega arith;
-              far = λ low. far low ∙ omega arith;
-              -- the call stands at the next element, if there is one
-              at = λ more.
-                  subst (λ (c : ResetAll). c.word + 1 < c.end → next ≡ record { word = c.word + 1; end = c.end }) (emptying.at some) goes (omega arith)
-                  ∙ ap (λ w. record { word = w; end = 1 + elements capacity }) (let z : 1 + element + 1 ≡ 1 + (element + 1) = omega arith in z);
-              long = ap length wrote ∙ (length-set words (1 + element) 0 ∙ emptying.long);
-              -- the words of the elements up to this one are 0
-              swept = λ j low high.
-                  ap (λ ws. slice_index ws j) wrote
-                  ∙ ⊎_elim (λ (before : j < 1 + element).
-                  get_or-set_other words (1 + element) j 0 0 (λ e. absurd (omega arith)) ∙ emptying.swept j low (omega arith))
-                  (λ (last : 1 + element ≤ j).
-                  ap (slice_index (slice_set words (1 + element) 0)) (let z : j ≡ 1 + element = omega arith in z)
-                  ∙ get_or-set_same words (1 + element) 0 0 long)
-                  (cases_lt j (1 + element));
-              -- the words of the elements behind it are as before
-              kept = λ j high.
-                  ap (λ ws. slice_index ws j) wrote
-                  ∙ (get_or-set_other words (1 + element) j 0 0 (λ e. absurd (omega arith)) ∙ emptying.kept j (omega arith));
-              head = ap (λ ws. slice_index ws 0) wrote
-                  ∙ (get_or-set_other words (1 + element) 0 0 0 (λ e. absurd (omega arith)) ∙ emptying.head);
-              -- the closure may still be called with the places behind those of this element
-              takes = takes_rest (standing_in found place (end - place)) (left capacity before end) visit later
-                  (subst (λ xs. Takes pre step xs visit) splits emptying.takes) went;
-              -- once it is called with those, it was called with all
-              calls = λ last f.
-                  emptying.calls last
-                  (subst (λ xs. Folds visit xs last) (sym splits)
-                  (goes_further (standing_in found place (end - place)) (left capacity before end) visit later last went f));
-            }
-
-    -- ---- all elements are 0
-
-    -- The emptying has come to its end: it has gone through all elements of the set.
-    module _ {place : ℕ} {call : ResetAll} {words : List ℕ} {visit : F} (emptying : Emptying (elements capacity) place call words visit) where
-      -- after the last element the place is the capacity
-      at_end : place ≡ capacity
-      at_end = let w = emptying.within in let f = emptying.far in
-          ⊎_elim (λ (low : place < capacity). absurd (omega (arith, f low))) (λ (high : capacity ≤ place). omega arith) (cases_lt place capacity)
-
-      -- no place stands then
-      none : (q : ℕ) → q < capacity → stands words q ≡ false
-      none q low =
-          ap (λ w. has_flag w q) (emptying.swept (element_of q) (omega arith) (omega arith)) ∙ none_stands q
-
-      -- the words are then those of the set emptied
-      pub all_emptied : places_in capacity words ≡ emptied (places_in capacity before)
-      all_emptied =
-          let clear : flags_in capacity words ≡ replicate (length (flags_in capacity before)) false =
-          none_of (stands words) capacity 0 (λ q low high. none q (omega arith))
-          ∙ ap (λ n. replicate n false) (sym (flags_length capacity before)) in
-          λ i. record { flags = clear i; start = emptying.head i }
-
-      -- the words are still those of a bit set
-      pub still_fits : Represents capacity words
-      still_fits = grind arith
-
-      -- the closure was called with each place that stood
-      pub all_called : WasCalled step (standing (places_in capacity before)) first visit
-      all_called =
-          emptying.calls visit
-          (subst (λ xs. Folds visit xs visit) (sym (ap (left capacity before) at_end ∙ nothing_left capacity before)) refl)
+    -- the closure was called with each place that stood
+    pub all_called : WasCalled step (standing (places_in capacity before)) first visit
+    all_called =
+        emptying.calls visit
+        (subst (λ xs. Folds pre step visit xs visit) (sym (ap (left capacity before) at_end ∙ nothing_left capacity before)) refl)

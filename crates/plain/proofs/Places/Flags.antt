@@ -21,7 +21,7 @@ map_same f g (suc n) a same =
 
 -- where g agrees with f at each number of a range but p, and is b there, its list is that of
 -- f with b at p's place
-pub map_changed_within : {X : Type 0} (f g : ℕ → X) (b : X) (n a k p : ℕ) → k < n → a + k ≡ p → g p ≡ b
+map_changed_within : {X : Type 0} (f g : ℕ → X) (b : X) (n a k p : ℕ) → k < n → a + k ≡ p → g p ≡ b
     → ((q : ℕ) → a ≤ q → q < a + n → q ≢ p → g q ≡ f q)
     → map g (range_with_len a n) ≡ slice_set (map f (range_with_len a n)) k b
 map_changed_within f g b zero a k p low sum new same = absurd (omega arith)
@@ -35,13 +35,10 @@ map_changed_within f g b (suc n) a (suc k) p low sum new same =
     let tail = map_changed_within f g b n (a + 1) k p (omega arith) (omega arith) new (λ q from below. same q (omega arith) (omega arith)) in
     λ i. head i ∷ tail i
 
--- where g agrees with f at every number but p, and is b there, its list over a range is that of
--- f with b at p's place
-pub map_changed : {X : Type 0} (f g : ℕ → X) (b : X) (n a k p : ℕ) → k < n → a + k ≡ p → g p ≡ b
-    → ((q : ℕ) → q ≢ p → g q ≡ f q)
-    → map g (range_with_len a n) ≡ slice_set (map f (range_with_len a n)) k b
-map_changed f g b n a k p low sum new same =
-    map_changed_within f g b n a k p low sum new (λ q from below. same q)
+-- where g agrees with f at each number below n but p, and is b there, its list of those numbers is that of f with b at p's place
+pub map_changed : {X : Type 0} (f g : ℕ → X) (b : X) (n p : ℕ) → p < n → g p ≡ b → ((q : ℕ) → q < n → q ≢ p → g q ≡ f q)
+    → map g (range_with_len 0 n) ≡ slice_set (map f (range_with_len 0 n)) p b
+map_changed f g b n p low new same = map_changed_within f g b n 0 p p low (omega arith) new (λ q from below. same q (omega arith))
 
 module _ (capacity : ℕ) (words : List ℕ) where
   -- the flag of a place below the capacity is whether it stands in the words
@@ -92,4 +89,4 @@ module _ (words : List ℕ) (place new : ℕ) (near : element_of place < length 
   pub flags_change : (capacity : ℕ) → place < capacity
       → flags_in capacity now ≡ slice_set (flags_in capacity words) place b
   flags_change capacity low =
-      map_changed (stands words) (stands now) b capacity 0 place place low (omega arith) changed unchanged
+      map_changed (stands words) (stands now) b capacity place low changed (λ q below. unchanged q)

@@ -1,8 +1,8 @@
 -- A find of a robust set with its closure, from one question to the next: what the closure was called with,
 -- and that it may be called with the next index.
-use Rattle.std.proofs.Common.{◌≡◌, ℕ, suc, ◌+◌, ◌-◌, ◌^◌, ◌<◌, ◌≤◌, inl, inr, true, nat_lt, if◌then◌else◌, List, []}
-use Rattle.std.proofs.Common.{◌∷◌, ◌++◌, length, refl, sym, ap, subst, ◌∙◌, arith}
-use Rattle.plain.proofs.Names.{FoldsTo, append_assoc, append-nil, length-append, length-drop, nat_tests, After, GoOn}
+use Rattle.std.proofs.Common.{◌≡◌, ℕ, suc, ◌+◌, ◌-◌, ◌^◌, ◌<◌, ◌≤◌, true, nat_lt, if◌then◌else◌, List, []}
+use Rattle.std.proofs.Common.{◌∷◌, length, refl, sym, ap, subst, ◌∙◌, arith}
+use Rattle.plain.proofs.Names.{length-drop, nat_tests, After, GoOn}
 use Rattle.plain.proofs.Names.{Done, Question, Want}
 use Rattle.steps.specs.Indices.Robust.Parts.{empty}
 use Rattle.steps.specs.Indices.Robust.Find.{first_find, find_comes_to, find_want, find_after}
@@ -15,15 +15,10 @@ use Rattle.plain.specs.Alone.{CanStop, StopsAlike}
 use Rattle.plain.specs.Callable.{TakesIndices, HasFound, index_in, as_answer}
 use Rattle.plain.specs.Robust.{owners_in, Represents}
 use Rattle.plain.proofs.Alone.{Halts, can_stop, stops_so}
+use Rattle.plain.proofs.Found.{Visited, found_all, joined, visit_more, found_some}
 use Rattle.plain.proofs.Walks.{WalksOn, halts}
 use Rattle.plain.proofs.Robust.Finds.{SetWords, mine, AsksAt, StopsAt, finds_on}
 use Rattle.plain.proofs.Robust.Parts.{head_or, tail_of, split}
-
--- calls with a list, and one more call, are calls with the list and one more at its end
-pub folds_more : {P A : Type 0} (R : P → A → P → Type 0) (p q r : P) (xs : List A) (x : A)
-    → FoldsTo R p xs q → R q x r → FoldsTo R p (xs ++ x ∷ []) r
-folds_more R p q r [] x folds step = (r, subst (λ z. R z x r) (sym folds) step, refl)
-folds_more R p q r (y ∷ xs) x folds step = (folds.0, folds.1, folds_more R folds.0 q r xs x folds.2 step)
 
 -- A find with its closure: the capacity and the words of the set, the owner whose indices are visited, and the closure.
 pub record FindCase (F : Type 0) : Type 1 where
@@ -49,22 +44,10 @@ module _ {F : Type 0} (case : FindCase F) where
   abbrev all : List ℕ
   all = indices_of (owners_in words) owner
 
-  -- what the closure was called with so far: with the indices of `before`, and it said Continue each time; those of
-  -- `left` are left
-  pub record Visited (done : ℕ) (now : F) : Type 0 where
-    -- the indices at which the closure was called, and those that are left: together all of the owner's
-    pub before : List ℕ
-    pub left : List ℕ
-    pub joined : before ++ left ≡ all
-    -- the closure's calls so far, as many as the driver has counted and at most the capacity
-    pub calls : FoldsTo (λ p x q. step p x Continue q) first before now
-    pub number : length before ≡ done
-    pub low : done ≤ capacity
-
   -- The find is under way: the closure was called as `visited` says, the words are as they were, and the call halts
   -- at the next question or at its end.
   pub record Searching (done : ℕ) (call : Find) (now : F) (items : List ℕ) : Type 0 where
-    pub visited : Visited done now
+    pub visited : Visited step all first capacity done now
     -- the counter and the cells that the words are
     pub set : SetWords capacity owner
     pub is : words ≡ set.g ∷ set.cells
@@ -77,22 +60,9 @@ module _ {F : Type 0} (case : FindCase F) where
   Further done (GoOn call) now items = Searching done call now items
   Further done (Done n) now items = HasFound step all first n now × (items ≡ words)
 
-  -- where nothing is left, this is what the find has found
-  found_all : {done : ℕ} {now : F} {n : ℕ} (visited : Visited done now) → visited.left ≡ [] → n ≡ done → HasFound step all first n now
-  found_all {done} {now} {n} visited none counted =
-      record {
-        before = visited.before;
-        now = now;
-        calls = visited.calls;
-        ended = inl (
-          sym (append-nil visited.before) ∙ (ap (λ l. visited.before ++ l) (sym none) ∙ visited.joined),
-          refl,
-          counted ∙ sym visited.number,
-        );
-      }
-
   -- over the cells that are left the find halts where it ends, or where it asks about the next index of the owner
-  goes_on : (set : SetWords capacity owner) → words ≡ set.g ∷ set.cells → (rest : List ℕ) {done : ℕ} {now : F} (visited : Visited done now)
+  goes_on : (set : SetWords capacity owner) → words ≡ set.g ∷ set.cells
+      → (rest : List ℕ) {done : ℕ} {now : F} (visited : Visited step all first capacity done now)
       (a : After Find ℕ) {items : List ℕ} → items ≡ set.g ∷ set.cells → length rest ≤ capacity
       → WalksOn (λ c. find_want c) (λ c old. find_after c owner old) (suc (length rest)) (StopsAt set done visited.left) a (set.g ∷ set.cells)
       → Further done a now items
@@ -115,7 +85,7 @@ module _ {F : Type 0} (case : FindCase F) where
       let cells : List ℕ = tail_of words in
       let long : length cells ≡ capacity = (let e : suc (length cells) ≡ 1 + capacity = sym (ap length front) ∙ fits.long in omega arith) in
       let set : SetWords capacity owner = record { g = head_or 0 words; cells = cells; long = long; few = fits.few; lives = lives } in
-      let none : Visited 0 first = record { before = []; left = all; joined = refl; calls = refl; number = refl; low = omega arith } in
+      let none : Visited step all first capacity 0 first = record { before = []; left = all; joined = refl; calls = refl; number = refl; low = omega arith } in
       let begins : find_comes_to (first_find capacity) 0 0 ≡ GoOn (first_find capacity) =
       ap (λ b. if b then GoOn (first_find capacity) else Done 0) (let t : nat_lt 0 capacity ≡ true = grind (arith, nat_tests, some) in t) in
       subst (λ c. Searching 0 c first words) (sym at_first)
@@ -146,7 +116,7 @@ module _ {F : Type 0} {case : FindCase F} {done : ℕ} {call : Find} {now : F} {
   -- words are as they were
   pub ended_so : {n : ℕ} {r : Unit {0}} {last : List ℕ} → StopsSo (stops.TheVariants.Ended n) r last
       → HasFound step (all case) first n now × (last ≡ words)
-  ended_so alike = let end = stops_at alike in (found_all case visited end.0 end.1, end.2 ∙ sym is)
+  ended_so alike = let end = stops_at alike in (found_all visited end.0 end.1, end.2 ∙ sym is)
 
   -- a find asks fewer than 2^64 - 1 questions
   pub few_rounds : done < 2 ^ 64 - 1
@@ -158,10 +128,6 @@ module _ {F : Type 0} {case : FindCase F} {done : ℕ} {call : Find} {now : F} {
     pub asked : AsksAt set done visited.left question asks last
     asked = stops_at alike
 
-    -- the indices so far, this one and those left are all of the owner's
-    joined : visited.before ++ asked.index ∷ mine owner (asked.index + 1) asked.rest ≡ all case
-    joined = ap (λ l. visited.before ++ l) (sym asked.left_is) ∙ visited.joined
-
     module _ {index : ℕ} (index_is : index ≡ index_in question) where
       -- the question is about the first index that is left
       there : index ≡ asked.index
@@ -170,7 +136,8 @@ module _ {F : Type 0} {case : FindCase F} {done : ℕ} {call : Find} {now : F} {
       -- the closure may be called with the question's index
       pub may_so : {pre : F → ℕ → Type 0} → TakesIndices pre step (all case) first → pre now index
       may_so {pre} may =
-          subst (pre now) (sym there) (may.at visited.before now asked.index (mine owner (asked.index + 1) asked.rest) visited.calls joined)
+          subst (pre now) (sym there)
+          (may.at visited.before now asked.index (mine owner (asked.index + 1) asked.rest) visited.calls (joined visited asked.left_is))
 
       -- after a call that said Continue the find is under way with one index more; after one that said Stop
       -- it has found what it says
@@ -182,36 +149,15 @@ module _ {F : Type 0} {case : FindCase F} {done : ℕ} {call : Find} {now : F} {
           let long_rest : length asked.rest ≤ capacity = omega (arith, length-drop (asked.index + 1) set.cells, ap length asked.rest_is) in
           let near = asked.near in
           let low = asked.low in
-          let more : Visited case (done + 1) next =
-          record {
-            before = visited.before ++ asked.index ∷ [];
-            left = mine owner (asked.index + 1) asked.rest;
-            joined = append_assoc visited.before (asked.index ∷ []) (mine owner (asked.index + 1) asked.rest) ∙ joined;
-            calls = folds_more (λ p x q. step p x Continue q) first now next visited.before asked.index visited.calls
-                (subst (λ i. step now i Continue next) there called);
-            number = length-append visited.before (asked.index ∷ []) ∙ ap (λ n. n + 1) visited.number;
-            low = omega arith;
-          } in
+          let more : Visited step (all case) first capacity (done + 1) next =
+          visit_more visited asked.left_is (subst (λ i. step now i Continue next) there called) (omega arith) in
           subst (λ c. Further case (done + 1) (find_after c owner 1) next last) (sym asked.stands)
           (goes_on case set is asked.rest more (find_comes_to (first_find capacity) (asked.index + 1) (done + 1)) asked.same long_rest
           (finds_on set asked.rest (asked.index + 1) (done + 1) asked.rest_is (omega arith) refl))
       -- a call that said Stop: the find has ended, with the indices that it came to
       onward Stop next called =
-          subst (λ c. Further case (done + 1) (find_after c owner 0) next last) (sym asked.stands) (
-            record {
-              before = visited.before;
-              now = now;
-              calls = visited.calls;
-              ended = inr (
-                asked.index,
-                mine owner (asked.index + 1) asked.rest,
-                joined,
-                subst (λ i. step now i Stop next) there called,
-                ap (λ n. n + 1) (sym visited.number),
-              );
-            },
-            asked.same ∙ sym is,
-          )
+          subst (λ c. Further case (done + 1) (find_after c owner 0) next last) (sym asked.stands)
+          (found_some visited asked.left_is (subst (λ i. step now i Stop next) there called), asked.same ∙ sym is)
 
       -- after the closure was called at a question and the call was handed its answer as a number, the find is
       -- under way, or has ended with what it says

@@ -24,7 +24,7 @@ use Rattle.plain.proofs.Alone.{Halts, can_stop, stops_so}
 use Rattle.plain.proofs.Walks.{plus, plus_sum, Walks, WalksOn, halts}
 use Rattle.plain.proofs.Robust.Parts.{head_or, tail_of, split, number, locking, next_below, next_there, next_small}
 use Rattle.plain.proofs.Robust.Releases.{counter_then, counter_small, given_back_is}
-use Rattle.plain.proofs.Robust.Finding.{folds_more}
+use Rattle.plain.proofs.Found.{folds_more}
 use Rattle.plain.proofs.Robust.Recovers.{AsksAt, StopsAt, recovers_on, frees_on, rounds}
 
 -- holds of false and not of true
@@ -322,25 +322,11 @@ module _ {F S : Type 0} {case : RecoverCase F S} {done : ℕ} {call : Recover} {
 
     -- ---- as the question was matched
 
-    -- the question is about an index and its owner
-    abbrev is_owned : Question (Unit {0}) → Type 0
-    is_owned (questions.Owned owner index) = Unit {0}
-    is_owned (questions.Index index) = ⊥
-    is_owned (questions.Value index unit) = ⊥
-
     -- the owner that the question names, or 0
     abbrev owner_of : Question (Unit {0}) → ℕ
     owner_of (questions.Owned owner index) = owner
     owner_of (questions.Index index) = 0
     owner_of (questions.Value index unit) = 0
-
-    -- a recovery asks no question about an index alone
-    pub no_index : (index : ℕ) → question ≡ questions.Index index → ⊥
-    no_index index asks = subst is_owned (sym stopped.asks ∙ asks) tt
-
-    -- a recovery asks no question about a value
-    pub no_value : (index : ℕ) (unit : Unit {0}) → question ≡ questions.Value index unit → ⊥
-    no_value index unit asks = subst is_owned (sym stopped.asks ∙ asks) tt
 
     module _ {owner index : ℕ} (is : question ≡ questions.Owned owner index) where
       -- the owner of the question is the one at which the recovery stopped

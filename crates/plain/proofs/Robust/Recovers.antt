@@ -1,8 +1,8 @@
 -- A recovery of a robust set that runs alone: from one question to the next, or to its end.
 use Rattle.std.proofs.Common.{◌≡◌, ◌≢◌, ℕ, suc, ◌+◌, ◌^◌, ◌<◌, ◌≤◌, nat_lt, List, [], ◌∷◌, length, drop, map}
 use Rattle.std.proofs.Common.{refl, sym, ap, ◌∙◌, arith, slice_index, slice_set, length-set, eq-eqb}
-use Rattle.plain.proofs.Names.{nat_tests, drop-set-lt, by_test, by_eq, Question, Want, After, ReleaseMode}
-use Rattle.plain.proofs.Names.{LockIfLastIndex, Default, ReleaseState}
+use Rattle.plain.proofs.Names.{nat_tests, drop-set-lt, by_test, by_eq, Question, Want, After, Done, ReleaseMode}
+use Rattle.plain.proofs.Names.{LockIfLastIndex, Default, ReleaseState, Unlocked}
 use Rattle.steps.specs.Indices.Robust.Parts.{cell_word, empty, locked, raise_want, raise_after, lock_want, lock_after, first_lock}
 use Rattle.steps.specs.Indices.Robust.Recover.{at_recover, first_recover, recover_comes_to, recover_raised, recover_locked, recover_want, recover_after}
 use Rattle.steps.specs.declared.ask.Question.TheVariants as questions
@@ -150,47 +150,36 @@ module _ {capacity g : ℕ} (cells : List ℕ) (small : g < 2 ^ 64) (long : leng
       (plus (suc (suc (suc (length emptied)))) 1) scan (StopsAt capacity (locking counter emptied) emptied left_then) first_lock (counter ∷ emptied) tt
       (lock_walks capacity counter emptied low emptied_long few _ (then_on LockIfLastIndex (locking counter emptied)))
 
-  -- In either mode the recovery raises the counter, in the mode that locks also tries to lock, and goes on to
-  -- where it stops next.
+  -- once the counter is raised, the recovery goes on to where it stops next, in the mode that locks after it has tried to lock
+  on_raised : (mode : ReleaseMode) → WalksOn (λ c. recover_want c) (λ c old. recover_after c mode old) rounds
+      (StopsAt capacity (counter_then mode g emptied) emptied left_then) (recover_raised (first_recover capacity) index mode (Done Unlocked))
+      (next_generation g ∷ emptied)
+  on_raised Default =
+      goes_longer (λ c. recover_want c) (λ c old. recover_after c Default old) (plus (suc (suc (suc (length emptied)))) 1) scan
+      (StopsAt capacity (next_generation g) emptied left_then) (recover_comes_to (first_recover capacity) (index + 1)) (next_generation g ∷ emptied)
+      (then_on Default (next_generation g))
+  on_raised LockIfLastIndex = locks_on (next_generation g) (next_small g small)
+
+  -- in either mode the recovery raises the counter, and goes on to where it stops next
   raises_on : (mode : ReleaseMode)
       → RecoveryStops mode (suc (suc rounds)) (counter_then mode g emptied) (at (recovers.Raises index raises.LoadsCounter)) (g ∷ emptied)
-  raises_on Default =
+  raises_on mode =
       part_walks
       (record {
         want = λ c. recover_want c;
-        after = λ c old. recover_after c Default old;
+        after = λ c old. recover_after c mode old;
         part_want = raise_want;
         part_after = raise_after;
         within = λ r. at (recovers.Raises index r);
-        lift = recover_raised (first_recover capacity) index Default;
+        lift = recover_raised (first_recover capacity) index mode;
         Low = λ d. Unit {0};
         low_on = λ d old low. any_low (raise_after d old);
         wants_so = λ d. refl;
         goes_so = λ d old low. refl;
         lifts = λ d. refl;
       })
-      2 rounds (StopsAt capacity (next_generation g) emptied left_then) raises.LoadsCounter (g ∷ emptied) tt
-      (raise_walks g emptied small _ (λ e. absurd (opens e))
-      (λ _. goes_longer (λ c. recover_want c) (λ c old. recover_after c Default old) (plus (suc (suc (suc (length emptied)))) 1) scan
-      (StopsAt capacity (next_generation g) emptied left_then) (recover_comes_to (first_recover capacity) (index + 1)) (next_generation g ∷ emptied)
-      (then_on Default (next_generation g))))
-  raises_on LockIfLastIndex =
-      part_walks
-      (record {
-        want = λ c. recover_want c;
-        after = λ c old. recover_after c LockIfLastIndex old;
-        part_want = raise_want;
-        part_after = raise_after;
-        within = λ r. at (recovers.Raises index r);
-        lift = recover_raised (first_recover capacity) index LockIfLastIndex;
-        Low = λ d. Unit {0};
-        low_on = λ d old low. any_low (raise_after d old);
-        wants_so = λ d. refl;
-        goes_so = λ d old low. refl;
-        lifts = λ d. refl;
-      })
-      2 rounds (StopsAt capacity (locking (next_generation g) emptied) emptied left_then) raises.LoadsCounter (g ∷ emptied) tt
-      (raise_walks g emptied small _ (λ e. absurd (opens e)) (λ _. locks_on (next_generation g) (next_small g small)))
+      2 rounds (StopsAt capacity (counter_then mode g emptied) emptied left_then) raises.LoadsCounter (g ∷ emptied) tt
+      (raise_walks g emptied small _ (λ e. absurd (opens e)) (λ _. on_raised mode))
 
   -- after a yes the recovery empties the cell, raises the counter and goes on to where it stops next
   pub frees_on : (mode : ReleaseMode) {owner : ℕ} → slice_index (g ∷ cells) (cell_word index) ≡ owner

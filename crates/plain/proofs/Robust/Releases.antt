@@ -3,7 +3,8 @@
 use Rattle.std.proofs.Common.{◌≡◌, ℕ, suc, ◌+◌, ◌^◌, ◌<◌, ◌≤◌, Bool, true, false, ◌==◌, List, [], ◌∷◌}
 use Rattle.std.proofs.Common.{length, map, Option, Ok, Err, refl, sym, ap, subst, ◌∙◌, arith, slice_index}
 use Rattle.std.proofs.Common.{slice_set, length-set, eq-eqb, ne_eqb, if◌then◌else◌}
-use Rattle.plain.proofs.Names.{map-set, get_or-map, by_eq, After, GoOn, ReleaseMode, LockIfLastIndex, Default, GiveBack}
+use Rattle.plain.proofs.Names.{map-set, get_or-map, by_eq, After, GoOn, Done, ReleaseMode, LockIfLastIndex, Default, GiveBack}
+use Rattle.plain.proofs.Names.{ReleaseState, Locked, Unlocked}
 use Rattle.steps.specs.Indices.Robust.Parts.{cell_word, empty, locked, greatest, raise_want, raise_after, lock_want, lock_after, first_lock}
 use Rattle.steps.specs.Indices.Robust.Release.{Released, first_release, at_release, release_raised, release_locked, release_want, release_after}
 use Rattle.steps.specs.declared.indices.enums.RobustUniqueIndexSetReleaseError.TheVariants.{IndexIsNotOwnedByProvidedOwner}
@@ -88,29 +89,12 @@ module _ (capacity index owner g : ℕ) (cells : List ℕ) (small : g < 2 ^ 64) 
   abbrev answer : ReleaseMode → Released
   answer mode = Ok (release_state mode (owners_in (counter_then mode g emptied ∷ emptied)))
 
-  -- Once the cell is emptied, the release raises the counter, locks the set in the mode that locks, and ends
-  -- with the answer of its mode.
-  raises_on : (mode : ReleaseMode) (P : Released → List ℕ → Type 0) → P (answer mode) (counter_then mode g emptied ∷ emptied)
-      → ReleaseEnds mode (suc (suc fuel)) P (at_release first (releases.Raises raises.LoadsCounter)) (g ∷ emptied)
-  raises_on Default P holds =
-      part_walks
-      (record {
-        want = λ c. release_want c (given Default);
-        after = λ c old. release_after c (given Default) old;
-        part_want = raise_want;
-        part_after = raise_after;
-        within = λ r. at_release first (releases.Raises r);
-        lift = release_raised first Default;
-        Low = λ d. Unit {0};
-        low_on = λ d old low. any_low (raise_after d old);
-        wants_so = λ d. refl;
-        goes_so = λ d old low. refl;
-        lifts = λ d. refl;
-      })
-      2 fuel (OnEnd P) raises.LoadsCounter (g ∷ emptied) tt
-      (raise_walks g emptied small _ (λ _. holds) (λ _. holds))
-  raises_on LockIfLastIndex P holds =
-      let locks_on : ReleaseEnds LockIfLastIndex fuel P (at_release first (releases.Locks first_lock)) (next_generation g ∷ emptied) =
+  -- Once the counter is raised, the release locks the set in the mode that locks, and ends with the answer of its
+  -- mode, whatever the raise has answered.
+  on_raised : (mode : ReleaseMode) (P : Released → List ℕ → Type 0) → P (answer mode) (counter_then mode g emptied ∷ emptied) → (state : ReleaseState)
+      → ReleaseEndsFrom mode fuel P (release_raised first mode (Done state)) (next_generation g ∷ emptied)
+  on_raised Default P holds state = holds
+  on_raised LockIfLastIndex P holds state =
       part_walks
       (record {
         want = λ c. release_want c (given LockIfLastIndex);
@@ -126,15 +110,20 @@ module _ (capacity index owner g : ℕ) (cells : List ℕ) (small : g < 2 ^ 64) 
         lifts = λ d. refl;
       })
       (plus (suc (suc (suc (length emptied)))) 1) 0 (OnEnd P) first_lock (next_generation g ∷ emptied) tt
-      (lock_walks capacity (next_generation g) emptied (next_small g small) emptied_long few _ holds) in
+      (lock_walks capacity (next_generation g) emptied (next_small g small) emptied_long few _ holds)
+
+  -- once the cell is emptied, the release raises the counter, and ends with the answer of its mode
+  raises_on : (mode : ReleaseMode) (P : Released → List ℕ → Type 0) → P (answer mode) (counter_then mode g emptied ∷ emptied)
+      → ReleaseEnds mode (suc (suc fuel)) P (at_release first (releases.Raises raises.LoadsCounter)) (g ∷ emptied)
+  raises_on mode P holds =
       part_walks
       (record {
-        want = λ c. release_want c (given LockIfLastIndex);
-        after = λ c old. release_after c (given LockIfLastIndex) old;
+        want = λ c. release_want c (given mode);
+        after = λ c old. release_after c (given mode) old;
         part_want = raise_want;
         part_after = raise_after;
         within = λ r. at_release first (releases.Raises r);
-        lift = release_raised first LockIfLastIndex;
+        lift = release_raised first mode;
         Low = λ d. Unit {0};
         low_on = λ d old low. any_low (raise_after d old);
         wants_so = λ d. refl;
@@ -142,7 +131,7 @@ module _ (capacity index owner g : ℕ) (cells : List ℕ) (small : g < 2 ^ 64) 
         lifts = λ d. refl;
       })
       2 fuel (OnEnd P) raises.LoadsCounter (g ∷ emptied) tt
-      (raise_walks g emptied small _ (λ _. locks_on) (λ _. locks_on))
+      (raise_walks g emptied small _ (λ _. on_raised mode P holds Locked) (λ _. on_raised mode P holds Unlocked))
 
   -- ---- what it makes of the map
 

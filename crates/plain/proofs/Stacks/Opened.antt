@@ -1,8 +1,8 @@
 -- The words of a unique index set of which all indices are free: the chain of its indices is
 -- the stack with 0 on top.
 use Rattle.std.proofs.Common.{◌≡◌, ◌≢◌, ℕ, zero, suc, ◌+◌, ◌-◌, ◌%◌, ◌/◌, ◌^◌, ◌<◌, ◌≤◌, ⊎_elim, true, false, not, eqb}
-use Rattle.std.proofs.Common.{List, ◌∷◌, length, refl, sym, ap, subst, ◌∙◌, arith, slice_index, slice_set}
-use Rattle.std.proofs.Common.{get_or-set_same, get_or-set_other, length-set, true≢false}
+use Rattle.std.proofs.Common.{List, ◌∷◌, length, refl, sym, ap, subst, ◌∙◌, arith, slice_index}
+use Rattle.std.proofs.Common.{true≢false}
 use Rattle.plain.proofs.Names.{IsDistinct, range_with_len, eqb_tells, cases_Bool}
 use Rattle.steps.specs.Indices.Head.{next_word, flag_word, has_flag}
 use Rattle.steps.specs.Indices.Unique.{borrowed_number}
@@ -17,11 +17,6 @@ pub record Linked (n capacity : ℕ) (words : List ℕ) : Type 0 where
   pub head : slice_index words 0 ≡ 0
   pub next : (i : ℕ) → i < n → slice_index words (1 + i) ≡ i + 1
   pub flags : (j : ℕ) → capacity < j → slice_index words j ≡ 0
-
--- with the next index of n written too, one index more is linked
-pub one_linked : (n capacity : ℕ) (words : List ℕ) → n < capacity → Linked n capacity words
-    → Linked (n + 1) capacity (slice_set words (1 + n) (n + 1))
-one_linked = grind (arith, length-set, get_or-set_other, get_or-set_same, false, eqb_tells)
 
 -- ---- the numbers of a range
 

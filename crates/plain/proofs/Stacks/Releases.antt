@@ -134,6 +134,29 @@ module _ (lock : Bool) (capacity index : ℕ) (words : List ℕ) where
       last_fits : Represents capacity last
       last_fits = grind (arith, last_long, head_is, last_free, one_more, in_other, eqb_tells, flags_are)
 
+    -- where the new head does not lock, the last words are those of a set that is not locked, with the index on the stack
+    gave : head_released lock h index ≡ head_given_back h index
+        → Represents capacity last × (stack_in capacity last ≡ record { capacity = capacity; free = index ∷ free; locked = false })
+    gave head =
+        let is = number in
+        let some = some_out in
+        let in_set = is_out.0 in
+        let few = fits.few in
+        -- the head proposes the index and counts one borrowed index less
+        let here : proposed (head_given_back h index) ≡ index = omega arith in
+        let less : borrowed (head_given_back h index) + 1 ≡ borrowed h = omega arith in
+        let still : says_locked (head_given_back h index) ≡ false = ne_eqb _ locked (λ e. absurd (omega arith)) in
+        let now : borrowed_number (head_given_back h index) ≡ borrowed (head_given_back h index) =
+        ap (λ b. if b then 0 else borrowed (head_given_back h index)) still in
+        let a : proposed (head_released lock h index) ≡ index = ap proposed head ∙ here in
+        let n : borrowed_number (head_released lock h index) ≡ borrowed (head_given_back h index) = ap borrowed_number head ∙ now in
+        let under : head_given_back h index < 2 ^ 64 = omega arith in
+        let small : head_released lock h index < 2 ^ 64 = subst (λ z. z < 2 ^ 64) (sym head) under in
+        let all = last_free a (omega arith) (omega arith) small in (
+          last_fits a (omega arith) (omega arith) small,
+          λ i. record { capacity = capacity; free = all i; locked = (ap says_locked (head_is ∙ head) ∙ still) i },
+        )
+
 -- ---- mode Default
 
 -- from these words the release has done what a release in mode Default does to the stack
@@ -152,18 +175,7 @@ module _ (M : Type 0) (capacity index : ℕ) (words : List ℕ) (fits : Represen
   gives_first : GiveRuns (first_release capacity)
   gives_first =
       let free_one = unlocked false capacity index words fits is_out in
-      let is = number false capacity index words fits is_out in
-      let some = some_out false capacity index words fits is_out in
-      let few = fits.few in
-      let in_set = is_out.0 in
-      -- the new head proposes the index, counts one borrowed index less, and does not say
-      -- that the set is locked
-      let here : proposed (head_given_back (slice_index words 0) index) ≡ index = omega arith in
-      let less : borrowed (head_given_back (slice_index words 0) index) + 1 ≡ borrowed (slice_index words 0) = omega arith in
-      let still : says_locked (head_given_back (slice_index words 0) index) ≡ false = ne_eqb _ locked (λ e. absurd (omega arith)) in
-      let now : borrowed_number (head_given_back (slice_index words 0) index) ≡ borrowed (head_given_back (slice_index words 0) index) =
-      ap (λ b. if b then 0 else borrowed (head_given_back (slice_index words 0) index)) still in
-      let all = last_free false capacity index words fits is_out here (omega arith) (omega arith) (omega arith) in
+      let so = gave false capacity index words fits is_out refl in
       record {
         steps = 4;
         few = omega arith;
@@ -171,15 +183,7 @@ module _ (M : Type 0) (capacity index : ℕ) (words : List ℕ) (fits : Represen
         last_room = tt;
         last_words = last false capacity index words;
         ends = goes false capacity index words M (one false capacity index words fits is_out) (two false capacity index words fits is_out);
-        holds = (
-          last_fits false capacity index words fits is_out here (omega arith) (omega arith) (omega arith),
-          refl,
-          λ i. record {
-            capacity = capacity;
-            free = all i;
-            locked = (ap says_locked (head_is false capacity index words fits is_out) ∙ (still ∙ sym free_one)) i;
-          },
-        );
+        holds = (so.0, refl, so.1 ∙ (λ i. record { capacity = capacity; free = index ∷ free_in capacity words; locked = sym free_one i }));
       }
 
   -- a release in mode Default, run alone, puts the index on the stack
@@ -236,32 +240,8 @@ module _ (M : Type 0) (capacity index : ℕ) (words : List ℕ) (fits : Represen
       )
   -- other indices are out: the new head does not lock
   shaped false more =
-      let is = number true capacity index words fits is_out in
-      let some = some_out true capacity index words fits is_out in
-      let head : head_released true (slice_index words 0) index ≡ head_given_back (slice_index words 0) index =
-      ap (λ b. if b then head_locked (slice_index words 0) index else head_given_back (slice_index words 0) index) more in
-      let in_set = is_out.0 in
-      let few = fits.few in
-      -- the head proposes the index and counts one borrowed index less
-      let here : proposed (head_given_back (slice_index words 0) index) ≡ index = omega arith in
-      let less : borrowed (head_given_back (slice_index words 0) index) + 1 ≡ borrowed (slice_index words 0) = omega arith in
-      let still : says_locked (head_given_back (slice_index words 0) index) ≡ false = ne_eqb _ locked (λ e. absurd (omega arith)) in
-      let now : borrowed_number (head_given_back (slice_index words 0) index) ≡ borrowed (head_given_back (slice_index words 0) index) =
-      ap (λ b. if b then 0 else borrowed (head_given_back (slice_index words 0) index)) still in
-      let a : proposed (head_released true (slice_index words 0) index) ≡ index = ap proposed head ∙ here in
-      let n : borrowed_number (head_released true (slice_index words 0) index)
-      ≡ borrowed (head_given_back (slice_index words 0) index) =
-      ap borrowed_number head ∙ now in
-      let low : head_given_back (slice_index words 0) index < 2 ^ 64 = omega arith in
-      let small : head_released true (slice_index words 0) index < 2 ^ 64 = subst (λ z. z < 2 ^ 64) (sym head) low in
-      let all = last_free true capacity index words fits is_out a (omega arith) (omega arith) small in (
-        last_fits true capacity index words fits is_out a (omega arith) (omega arith) small,
-        λ i. record {
-          capacity = capacity;
-          free = all i;
-          locked = (ap says_locked (head_is true capacity index words fits is_out ∙ head) ∙ still) i;
-        },
-      )
+      gave true capacity index words fits is_out
+      (ap (λ b. if b then head_locked (slice_index words 0) index else head_given_back (slice_index words 0) index) more)
 
   -- a release in mode LockIfLastIndex that has taken no step puts the index on the stack, and locks the set
   -- where it was the only index out

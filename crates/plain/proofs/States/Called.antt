@@ -9,10 +9,10 @@ use Rattle.plain.proofs.States.Showing.{updates}
 
 module _ {V : Type 0} where
   -- after an add and an update a state follows the container, and shows its values
-  pub shown_then : (old now last : Contents V) (owner : ℕ) (value : V) (seen after : Snapshot V) → MayChange old
+  pub shown_then : {old now last : Contents V} (owner : ℕ) (value : V) {seen after : Snapshot V} → MayChange old
       → Follows old seen → now ≡ after_add old owner value → last ≡ now → after ≡ updated now seen
       → Follows last after × (after.values ≡ last.values)
-  shown_then old now last owner value seen after may followed add stays update =
+  shown_then {old} {now} {last} owner value {seen} {after} may followed add stays update =
       let follows = subst (λ s. Follows s seen) (sym add) ((adds old owner value may).follows seen followed) in
       subst (λ s. Follows s after × (after.values ≡ s.values)) (sym stays)
       (subst (λ x. Follows now x × (x.values ≡ now.values)) (sym update) (updates now seen follows))

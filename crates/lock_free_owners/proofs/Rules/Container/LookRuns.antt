@@ -13,8 +13,30 @@ use Rattle.lock_free_owners.specs.Container.Bare.{Still, LookStage, LookStands, 
 use Rattle.lock_free_owners.proofs.Rules.Container.Bare.{Stays, one_more, counted_on, counted_one, still_tells, leaves, unchanged}
 use Rattle.lock_free_owners.proofs.Rules.Container.Places.{change_fits, count_fits, element_fits}
 
-module _ {T : Type 0} (code : Coding T) (value_of : List ℕ → T) (size : ℕ) (some_words : 1 ≤ size) (seen : Numbers) (v : View T) (c : Look T)
-    (same : c.capacity ≡ v.capacity) (room : Showing T) (cap words slots id : ℕ) (sized : words ≡ total_words cap size + 1) (known : v.capacity ≡ cap) where
+-- A look that updates a state which the pass has not, and the seat at a container's table whose step it is.
+record LookStep (T : Type 0) : Type 0 where
+  -- how a value is coded in words, how one is read from them, and how many they are
+  code : Coding T
+  value_of : List ℕ → T
+  size : ℕ
+  some_words : 1 ≤ size
+  -- the numbers that the state has seen, what the pass knows, the look, and what the state shows
+  seen : Numbers
+  v : View T
+  c : Look T
+  same : c.capacity ≡ v.capacity
+  room : Showing T
+  -- the container's capacity, the words and slots of its table, and the number of the seat
+  cap : ℕ
+  words : ℕ
+  slots : ℕ
+  id : ℕ
+  sized : words ≡ total_words cap size + 1
+  known : v.capacity ≡ cap
+
+module _ {T : Type 0} (step : LookStep T) where
+  open step use {code, value_of, size, some_words, seen, v, c, same, room, cap, words, slots, id, sized, known}
+
   -- The look after a number that it hears.
   abbrev after : Look T → ℕ → After (Look T) Bool
   after d k = look_after size d seen k
@@ -85,5 +107,24 @@ module _ {T : Type 0} (code : Coding T) (value_of : List ℕ → T) (size : ℕ)
 pub state_rule : {T : Type 0} (code : Coding T) (value_of : List ℕ → T) (size : ℕ) → 1 ≤ size → (seen : Numbers)
     → KeepsRule (λ (z : View T). z.asked) (λ (z : View T). z.capacity) (Still (LookStands size)) LookEnds (λ key. total_words key size + 1) (λ key. key)
     (λ key. IsMachine code kinds.Container key) (λ (c : Look T). look_want size c) (λ c k. look_after size c seen k) (look_kept value_of size)
-state_rule code value_of size some_words seen base v c room key words slots id sized known at =
-    stage_owes code value_of size some_words seen v c at.1.0 room key words slots id sized known c.stage (λ k. refl) at.1.1
+state_rule {T} code value_of size some_words seen base v c room key words slots id sized known at =
+    let step : LookStep T =
+    record {
+      code = code;
+      value_of = value_of;
+      size = size;
+      some_words = some_words;
+      seen = seen;
+      v = v;
+      c = c;
+      same = at.1.0;
+      room = room;
+      cap = key;
+      words = words;
+      slots = slots;
+      id = id;
+      sized = sized;
+      known = known;
+    }
+    in
+    stage_owes step c.stage (λ k. refl) at.1.1

@@ -15,10 +15,6 @@ in_change cap m words e = omega arith
 in_elements : (cap m n at words : ℕ) → words ≡ 2 + (cap + cap) + m + 1 → n + at < m → 2 + (cap + cap) + (n + at) < words
 in_elements cap m n at words e l = omega arith
 
--- The cell of an index is a word of the table.
-in_cells : (cap m index words : ℕ) → words ≡ 2 + (cap + cap) + m + 1 → index < cap → 1 + index < words
-in_cells cap m index words e l = omega arith
-
 -- Word `at` of a row of `size` words that ends below m lies below m.
 before : (size n m at : ℕ) → n + size ≤ m → at < size → n + at < m
 before size n m at l k = omega arith
@@ -28,10 +24,6 @@ row : (size index cap : ℕ) → index < cap → size * index + size ≤ size * 
 row size index cap index_below_cap = grind (arith, suc, mul-le-mul_left, mul-suc)
 
 module _ (cap size words : ℕ) (sized : words ≡ total_words cap size + 1) where
-  -- The cell of an index lies in a table with the words of a container and one more.
-  pub cell_fits : (index : ℕ) → index < cap → 1 + index < words
-  cell_fits index l = in_cells cap (size * cap) index words sized l
-
   -- The number of changes lies in such a table.
   pub change_fits : change_word cap < words
   change_fits = in_change cap (size * cap) words sized

@@ -145,20 +145,7 @@ module _ {T F : Type 0} (recovery : RecoveryCase T F) where
   pub may_ask : {pre : F → T → Type 0} → (shut ≡ false → TakesValues pre step cap f) → (stage : RecoverStage)
       → RecoverIn code.size cap given.mode stage → Knows stage
       → (visits : Visits) (value : T) (p : F) → SoFar stage visits value p → RecoverAsks pre stage value p
-  may_ask takes recovers.LoadsCounter at free visits value p so = tt
-  may_ask takes (recovers.LoadsCell index) at free visits value p so = tt
-  may_ask takes (recovers.LoadsCount index) at free visits value p so = tt
-  may_ask takes (recovers.LoadsWord index count place) at free visits value p so = tt
-  may_ask takes (recovers.ChecksCount index count) at free visits value p so = tt
-  may_ask takes (recovers.Asks index count) at free visits value p so =
-      let h = so.2 in
-      (takes free).at (questions_of so.0) p index value h.questions h.ascend h.below at.0 (let l = h.few in let within = at.0 in omega arith)
-  may_ask takes (recovers.EmptiesCell index count) at free visits value p so = tt
-  may_ask takes (recovers.Hides index count) at free visits value p so = tt
-  may_ask takes (recovers.Raises index raise) at free visits value p so = tt
-  may_ask takes (recovers.Locks index lock) at free visits value p so = tt
-  may_ask takes recovers.LoadsCounterAgain at free visits value p so = tt
-  may_ask takes (recovers.AddsChange state) at free visits value p so = tt
+  may_ask takes stage at free visits value p so = grind arith
 
   -- The recovery stands at a word of the container, not at a question, so its step calls no closure.
   abbrev pub IsQuiet : RecoverStage → Type 0

@@ -6,22 +6,13 @@ use Rattle.plain.proofs.Elements.Snapshots.{LookCase, words_kept, brought_if, br
 use Rattle.std.proofs.Common.{ℕ, List}
 use Rattle.steps.specs.declared.container.state.ContainerState.{ContainerState}
 use Rattle.plain.specs.Contents.{Represents}
-use Rattle.plain.proofs.Elements.Values.{Codes}
+use Rattle.plain.proofs.Elements.Values.{Codes, codes_by}
 use Rattle.plain.proofs.container.bring_up.Given.{Over}
 use Rattle.plain.proofs.container.bring_up.Goals as goal
 
 -- how the values of the container are stored
 abbrev codes : (g : Over) → Codes g.row.T.Denot
-codes g =
-    record {
-      words_of = g.T.Words.words_of;
-      value_of = g.T.Words.value_of;
-      size = g.T.Words.WORDS;
-      sized = g.met.T.Words.sized;
-      given_back = g.met.T.Words.given_back;
-      some = g.met.T.Words.some;
-      wide = g.met.T.Words.few;
-    }
+codes g = codes_by g.T.Words.value_of g.met.T.Words.sized g.met.T.Words.given_back g.met.T.Words.some g.met.T.Words.few
 
 -- the look of a state at the container, from the call's arguments
 abbrev look_from : (g : Over) (capacity id : ℕ) {words : List ℕ} → Represents g.T.Words.WORDS capacity words → ContainerState g.row.T.Denot

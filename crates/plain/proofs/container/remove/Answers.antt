@@ -4,22 +4,13 @@ use Rattle.plain.proofs.Alone.{can_end, ends_so}
 use Rattle.plain.proofs.Elements.Removes.{remove_at}
 use Rattle.plain.proofs.Elements.Filled.{still, filled_remove}
 use Rattle.plain.specs.Contents.{removed, after_remove}
-use Rattle.plain.proofs.Elements.Values.{Codes}
+use Rattle.plain.proofs.Elements.Values.{Codes, codes_by}
 use Rattle.plain.proofs.container.remove.Given.{Over}
 use Rattle.plain.proofs.container.remove.Goals as goal
 
 -- how the values of the container are stored
 abbrev codes : (g : Over) → Codes g.row.T.Denot
-codes g =
-    record {
-      words_of = g.T.Words.words_of;
-      value_of = g.T.Words.value_of;
-      size = g.T.Words.WORDS;
-      sized = g.met.T.Words.sized;
-      given_back = g.met.T.Words.given_back;
-      some = g.met.T.Words.some;
-      wide = g.met.T.Words.few;
-    }
+codes g = codes_by g.T.Words.value_of g.met.T.Words.sized g.met.T.Words.given_back g.met.T.Words.some g.met.T.Words.few
 
 -- the call that `remove` drives is as `drive` requires
 pub drive-requires : goal.drive-requires

@@ -1,20 +1,12 @@
 -- `count` (src/counts.rt): the call that `count` drives is as `drive` requires, and its return meets the
 -- clauses `answer` and `counts`.
-use Rattle.std.proofs.Common.{refl, arith, slice_index}
+use Rattle.std.proofs.Common.{refl, slice_index}
+use Rattle.plain.proofs.Alone.{ends_at_once}
 use Rattle.plain.proofs.counts.count.Goals as goal
 
 -- the call that `count` drives is as `drive` requires
 pub drive-requires : goal.drive-requires
-drive-requires c = record {
-  ends = record {
-    steps = 1;
-    few = omega arith;
-    end = slice_index c.args.words.now.items c.args.place;
-    last_room = tt;
-    last_words = c.args.words.now.items;
-    ends = (refl, refl, refl);
-  };
-}
+drive-requires c = record { ends = ends_at_once (slice_index c.args.words.now.items c.args.place) tt c.args.words.now.items (refl, refl, refl) }
 
 -- `count` answers as clause `answer` says: it is the word of the place
 pub returns-clause-answer : goal.returns-clause-answer

@@ -9,17 +9,13 @@ use Rattle.plain.proofs.drive.drive_words_to_stop.Goals as goal
 -- where the answer is `Done`, its return meets what it ensures
 pub returns-in-Done : goal.returns-in-Done
 returns-in-Done g c = record {
-  alone =
-      stops_early g.C.Routine.want_of g.C.Routine.after g.C.Routine.kept c.args.given.now c.args.call c.in-Done.stop
-      c.args.room.now c.four_steps.new.room c.args.words.now c.four_steps.new.words c.four_steps.result
-      c.in-Done.is c.four_steps.ensures;
+  alone = stops_early g.C.Routine.want_of g.C.Routine.after g.C.Routine.kept c.args.given.now c.in-Done.is c.four_steps.ensures;
 }
 
 -- after its first four steps the driver is under way, with no round done
 pub loop-init : goal.loop-init
 loop-init g c =
-    begins_later g.C.Routine.want_of g.C.Routine.after g.C.Routine.kept c.args.given.now c.args.call c.in-GoOn.next
-    c.args.room.now c.four_steps.new.room c.args.words.now c.four_steps.new.words c.four_steps.result
+    begins_later g.C.Routine.want_of g.C.Routine.after g.C.Routine.kept c.args.given.now
     c.in-GoOn.is c.requires.stops c.four_steps.ensures
 
 -- where a step lets the call go on, the driver is under way with one round more
@@ -33,7 +29,6 @@ returns-in-Done-step g c = record {
       subst (λ (z : g.row.C-Room.Denot × List ℕ). StopsAlike g.C.Routine.want_of g.C.Routine.after g.C.Routine.kept
       c.args.given.now c.args.call c.args.room.now c.args.words.now c.in-Done-step.stop z.0 z.1)
       (λ i. (sym c.step.ensures.room i, sym c.step.ensures.words i))
-      (stops g.C.Routine.want_of g.C.Routine.after g.C.Routine.kept c.args.given.now c.args.call c.args.room.now
-      c.args.words.now c.loop.counter c.loop.call c.in-Done-step.stop c.loop.room c.loop.words
+      (stops g.C.Routine.want_of g.C.Routine.after g.C.Routine.kept c.args.given.now
       c.loop.invariant (sym c.step.ensures.goes ∙ c.in-Done-step.is));
 }

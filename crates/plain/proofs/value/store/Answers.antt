@@ -7,15 +7,13 @@ use Rattle.plain.proofs.value.store.Goals as goal
 pub drive-requires : goal.drive-requires
 drive-requires g c = record {
   ends = can_end
-      (store_runs g.T.Words.words_of g.T.Words.value_of g.T.Words.WORDS g.met.T.Words.sized g.met.T.Words.given_back
-      g.met.T.Words.some g.met.T.Words.few c.args.value.now c.new.result c.new.ensures c.args.words.now.items
-      c.requires);
+      (store_runs g.T.Words.value_of g.met.T.Words.sized g.met.T.Words.given_back g.met.T.Words.some g.met.T.Words.few
+      c.args.value.now c.new.ensures c.requires);
 }
 
 -- what `store` returns and leaves is as its clause says
 pub returns : goal.returns
 returns g c = ends_so
-    (store_runs g.T.Words.words_of g.T.Words.value_of g.T.Words.WORDS g.met.T.Words.sized g.met.T.Words.given_back
-    g.met.T.Words.some g.met.T.Words.few c.args.value.now c.new.result c.new.ensures c.args.words.now.items
-    c.requires)
+    (store_runs g.T.Words.value_of g.met.T.Words.sized g.met.T.Words.given_back g.met.T.Words.some g.met.T.Words.few
+    c.args.value.now c.new.ensures c.requires)
     c.drive.ensures.alone

@@ -9,8 +9,7 @@ returns-clause-first g c v share seen made = first_whole v share seen made
 
 -- A call keeps the whole.
 pub returns-clause-call : goal.returns-clause-call
-returns-clause-call g c p start answer wrote old new called was inside share all =
-    still_whole p start answer wrote old new called was inside share all
+returns-clause-call g c p start answer wrote old new called was inside share all = still_whole called was inside share all
 
 -- A join that leaves no share out has the whole.
 pub returns-clause-joined : goal.returns-clause-joined

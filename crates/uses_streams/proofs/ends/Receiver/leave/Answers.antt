@@ -2,25 +2,24 @@
 -- `end`.
 use Rattle.std.proofs.Common.{ap}
 use Rattle.steps.specs.declared.queues.roles.Role.TheVariants as roles
-use Rattle.lock_free_queues.specs.Queues.Rings.{view, consumer_view}
 use Rattle.uses_streams.specs.Streams.{has_end, values_in}
 use Rattle.uses_streams.proofs.Streams.{stops_popping}
 use Rattle.uses_streams.proofs.ends.Receiver.leave.Goals as goal
 
 pub invariant_of-result : goal.invariant_of-result
 invariant_of-result g c =
-    let left = stops_popping (consumer_view c.args.self.consumer) (view c.release-pass.result) c.release-pass.ensures.same.goes roles.Consumer
+    let left = stops_popping c.release-pass.ensures.same.goes roles.Consumer
     c.args.self.alone c.release-pass.ensures.released c.release-pass.ensures.list in
     record { alone = left.0 }
 
 -- giving the role back leaves what was received
 pub returns-clause-received : goal.returns-clause-received
 returns-clause-received g c =
-    ap values_in (stops_popping (consumer_view c.args.self.consumer) (view c.release-pass.result) c.release-pass.ensures.same.goes
+    ap values_in (stops_popping c.release-pass.ensures.same.goes
     roles.Consumer c.args.self.alone c.release-pass.ensures.released c.release-pass.ensures.list).1
 
 -- giving the role back leaves whether the end was received
 pub returns-clause-end : goal.returns-clause-end
 returns-clause-end g c =
-    ap has_end (stops_popping (consumer_view c.args.self.consumer) (view c.release-pass.result) c.release-pass.ensures.same.goes
+    ap has_end (stops_popping c.release-pass.ensures.same.goes
     roles.Consumer c.args.self.alone c.release-pass.ensures.released c.release-pass.ensures.list).1

@@ -13,8 +13,8 @@ use Rattle.uses_streams.proofs.ends.Receiver.receive.Goals as goal
 -- `self` still meets the invariant of its type
 pub invariant_of-self : goal.invariant_of-self
 invariant_of-self g c =
-    let came = receives (consumer_view c.args.self.now.consumer) (consumer_view c.pop.new.self) c.pop.ensures.same.goes c.pop.result
-    c.args.self.now.ended c.if-self.false c.args.self.now.alone c.args.self.now.came c.pop.ensures.popped c.pop.ensures.empty in
+    let came = receives c.pop.ensures.same.goes c.pop.result c.if-self.false c.args.self.now.alone c.args.self.now.came
+    c.pop.ensures.popped c.pop.ensures.empty in
     record {
       alone = came.0;
       came = subst (λ b. CameUpTo b (popped_by (consumer_view c.pop.new.self))) (sym (c.is_end-self.ensures ∙ ap is_end c.of-arrival.ensures)) came.1;
@@ -23,15 +23,15 @@ invariant_of-self g c =
 -- what arrived comes behind what was received before
 pub returns-clause-received : goal.returns-clause-received
 returns-clause-received g c =
-    (receives (consumer_view c.args.self.now.consumer) (consumer_view c.pop.new.self) c.pop.ensures.same.goes c.pop.result
-    c.args.self.now.ended c.if-self.false c.args.self.now.alone c.args.self.now.came c.pop.ensures.popped c.pop.ensures.empty).2
+    (receives c.pop.ensures.same.goes c.pop.result c.if-self.false c.args.self.now.alone c.args.self.now.came
+    c.pop.ensures.popped c.pop.ensures.empty).2
     ∙ ap (λ a. values_in (popped_by (consumer_view c.args.self.now.consumer)) ++ arrived a) (sym c.of-arrival.ensures)
 
 -- the receiver is at the end if the end arrived
 pub returns-clause-end : goal.returns-clause-end
 returns-clause-end g c =
-    (receives (consumer_view c.args.self.now.consumer) (consumer_view c.pop.new.self) c.pop.ensures.same.goes c.pop.result
-    c.args.self.now.ended c.if-self.false c.args.self.now.alone c.args.self.now.came c.pop.ensures.popped c.pop.ensures.empty).3
+    (receives c.pop.ensures.same.goes c.pop.result c.if-self.false c.args.self.now.alone c.args.self.now.came
+    c.pop.ensures.popped c.pop.ensures.empty).3
     ∙ ap is_end (sym c.of-arrival.ensures)
 
 pub returns-clause-again : goal.returns-clause-again

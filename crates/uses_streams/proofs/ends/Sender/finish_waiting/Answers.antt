@@ -1,8 +1,7 @@
 -- `Sender::finish_waiting` (src/ends/waits.rt): each iteration keeps the invariant of its loop, its result meets the invariant of its
 -- type, and its return meets the clauses `sent`, `finished` and `end`.
 use Rattle.std.proofs.Common.{ap, ◌∙◌}
-use Rattle.steps.specs.declared.queues.roles.Role.TheVariants as roles
-use Rattle.lock_free_queues.specs.Queues.Rings.{view, producer_view, producer_queue}
+use Rattle.lock_free_queues.specs.Queues.Rings.{producer_queue}
 use Rattle.uses_streams.specs.Streams.{has_values, values_in}
 use Rattle.uses_streams.proofs.Streams.{finishes, pushes_none}
 use Rattle.uses_streams.proofs.ends.Sender.finish_waiting.Goals as goal
@@ -11,40 +10,35 @@ use Rattle.uses_streams.proofs.ends.Sender.finish_waiting.Goals as goal
 pub loop-preserved : goal.loop-preserved
 loop-preserved g c =
     let l = c.loop in
-    let none = pushes_none (producer_view l.producer) (producer_view c.push.new.self) c.push.ensures.same.goes (producer_queue l.producer).capacity _
-    l.invariant.1 (c.push.ensures.full c.if-push.false) in
+    let none = pushes_none c.push.ensures.same.goes (producer_queue l.producer).capacity _ l.invariant.1 (c.push.ensures.full c.if-push.false) in
     (c.push.ensures.same.queue ∙ l.invariant.0, none.0, none.1 ∙ l.invariant.2)
 
 -- the result meets the invariant of its type
 pub invariant_of-result : goal.invariant_of-result
 invariant_of-result g c =
     let l = c.loop in
-    let done = finishes (producer_view l.producer) (producer_view c.push.new.self) (view c.release-pass.result) roles.Producer l.invariant.1
-    (ap has_values l.invariant.2 ∙ c.args.self.unended) c.push.ensures.same.goes (c.push.ensures.pushed c.if-push.true)
-    c.release-pass.ensures.same.goes c.release-pass.ensures.released c.release-pass.ensures.list in
-    record { alone = done.0 }
+    let done = finishes c.push.ensures.same.goes c.release-pass.ensures.same.goes l.invariant.1 (ap has_values l.invariant.2 ∙ c.args.self.unended)
+    (c.push.ensures.pushed c.if-push.true) c.release-pass.ensures.released c.release-pass.ensures.list in
+    record { alone = done.alone }
 
 -- the end and the role's return leave the values that were sent
 pub returns-then-push-clause-sent : goal.returns-then-push-clause-sent
 returns-then-push-clause-sent g c =
     let l = c.loop in
-    (finishes (producer_view l.producer) (producer_view c.push.new.self) (view c.release-pass.result) roles.Producer l.invariant.1
-    (ap has_values l.invariant.2 ∙ c.args.self.unended) c.push.ensures.same.goes (c.push.ensures.pushed c.if-push.true)
-    c.release-pass.ensures.same.goes c.release-pass.ensures.released c.release-pass.ensures.list).1
+    (finishes c.push.ensures.same.goes c.release-pass.ensures.same.goes l.invariant.1 (ap has_values l.invariant.2 ∙ c.args.self.unended)
+    (c.push.ensures.pushed c.if-push.true) c.release-pass.ensures.released c.release-pass.ensures.list).same
     ∙ ap values_in l.invariant.2
 
 -- where `push` answers true, the end was pushed
 pub returns-then-push-clause-finished : goal.returns-then-push-clause-finished
 returns-then-push-clause-finished g c =
     let l = c.loop in
-    (finishes (producer_view l.producer) (producer_view c.push.new.self) (view c.release-pass.result) roles.Producer l.invariant.1
-    (ap has_values l.invariant.2 ∙ c.args.self.unended) c.push.ensures.same.goes (c.push.ensures.pushed c.if-push.true)
-    c.release-pass.ensures.same.goes c.release-pass.ensures.released c.release-pass.ensures.list).2
+    (finishes c.push.ensures.same.goes c.release-pass.ensures.same.goes l.invariant.1 (ap has_values l.invariant.2 ∙ c.args.self.unended)
+    (c.push.ensures.pushed c.if-push.true) c.release-pass.ensures.released c.release-pass.ensures.list).ended
 
 -- where `push` answers true, the end was pushed once, after all values
 pub returns-then-push-clause-end : goal.returns-then-push-clause-end
 returns-then-push-clause-end g c =
     let l = c.loop in
-    (finishes (producer_view l.producer) (producer_view c.push.new.self) (view c.release-pass.result) roles.Producer l.invariant.1
-    (ap has_values l.invariant.2 ∙ c.args.self.unended) c.push.ensures.same.goes (c.push.ensures.pushed c.if-push.true)
-    c.release-pass.ensures.same.goes c.release-pass.ensures.released c.release-pass.ensures.list).3
+    (finishes c.push.ensures.same.goes c.release-pass.ensures.same.goes l.invariant.1 (ap has_values l.invariant.2 ∙ c.args.self.unended)
+    (c.push.ensures.pushed c.if-push.true) c.release-pass.ensures.released c.release-pass.ensures.list).once

@@ -3,8 +3,7 @@
 use Rattle.std.proofs.Common.{refl, ap, ◌∙◌, ◌+◌, ◌*◌, arith}
 use Rattle.history.specs.Steps.{TakesAtMost}
 use Rattle.model.specs.declared.event.Item.TheVariants.{Value}
-use Rattle.steps.specs.declared.queues.roles.Role.TheVariants as roles
-use Rattle.lock_free_queues.specs.Queues.Rings.{view, producer_view, producer_queue}
+use Rattle.lock_free_queues.specs.Queues.Rings.{producer_view, producer_queue}
 use Rattle.uses_streams.specs.declared.element.Element.TheVariants as elements
 use Rattle.uses_streams.specs.Ends.{sender_queue, sender_view, sender_words}
 use Rattle.uses_streams.specs.Streams.{has_values, values_in}
@@ -19,13 +18,12 @@ loop-refused-init g c = record { queue = refl; alone = c.args.self.alone; same =
 pub loop-refused-preserved : goal.loop-refused-preserved
 loop-refused-preserved g c =
     let l = c.loop-refused in
-    let none = pushes_none (producer_view l.producer) (producer_view c.push.new.self) c.push.ensures.same.goes (producer_queue l.producer).capacity _
-    l.invariant.alone (c.push.ensures.full c.if-push.false) in
+    let none = pushes_none c.push.ensures.same.goes (producer_queue l.producer).capacity _ l.invariant.alone (c.push.ensures.full c.if-push.false) in
     record {
       queue = c.push.ensures.same.queue ∙ l.invariant.queue;
       alone = none.0;
       same = none.1 ∙ l.invariant.same;
-      full = refused_more (sender_queue c.args.self) (producer_queue l.producer) l.invariant.queue (Value elements.End) l._refused
+      full = refused_more l.invariant.queue (Value elements.End) l._refused
           (sender_view c.args.self) (producer_view l.producer) (producer_view c.push.new.self) l.invariant.full
           (c.push.ensures.full c.if-push.false);
       steps = steps_more (3 + sender_words c.args.self) l._refused (sender_view c.args.self) (producer_view l.producer)
@@ -36,35 +34,31 @@ loop-refused-preserved g c =
 pub invariant_of-result : goal.invariant_of-result
 invariant_of-result g c =
     let l = c.loop-refused in
-    let done = finishes (producer_view l.producer) (producer_view c.push.new.self) (view c.release-pass.result) roles.Producer l.invariant.alone
-    (ap has_values l.invariant.same ∙ c.args.self.unended) c.push.ensures.same.goes (c.push.ensures.pushed c.if-push.true)
-    c.release-pass.ensures.same.goes c.release-pass.ensures.released c.release-pass.ensures.list in
-    record { alone = done.0 }
+    let done = finishes c.push.ensures.same.goes c.release-pass.ensures.same.goes l.invariant.alone (ap has_values l.invariant.same ∙ c.args.self.unended)
+    (c.push.ensures.pushed c.if-push.true) c.release-pass.ensures.released c.release-pass.ensures.list in
+    record { alone = done.alone }
 
 -- the end and the role's return leave the values that were sent
 pub returns-then-push-clause-sent : goal.returns-then-push-clause-sent
 returns-then-push-clause-sent g c =
     let l = c.loop-refused in
-    (finishes (producer_view l.producer) (producer_view c.push.new.self) (view c.release-pass.result) roles.Producer l.invariant.alone
-    (ap has_values l.invariant.same ∙ c.args.self.unended) c.push.ensures.same.goes (c.push.ensures.pushed c.if-push.true)
-    c.release-pass.ensures.same.goes c.release-pass.ensures.released c.release-pass.ensures.list).1
+    (finishes c.push.ensures.same.goes c.release-pass.ensures.same.goes l.invariant.alone (ap has_values l.invariant.same ∙ c.args.self.unended)
+    (c.push.ensures.pushed c.if-push.true) c.release-pass.ensures.released c.release-pass.ensures.list).same
     ∙ ap values_in l.invariant.same
 
 -- where `push` answers true, the end was pushed
 pub returns-then-push-clause-finished : goal.returns-then-push-clause-finished
 returns-then-push-clause-finished g c =
     let l = c.loop-refused in
-    (finishes (producer_view l.producer) (producer_view c.push.new.self) (view c.release-pass.result) roles.Producer l.invariant.alone
-    (ap has_values l.invariant.same ∙ c.args.self.unended) c.push.ensures.same.goes (c.push.ensures.pushed c.if-push.true)
-    c.release-pass.ensures.same.goes c.release-pass.ensures.released c.release-pass.ensures.list).2
+    (finishes c.push.ensures.same.goes c.release-pass.ensures.same.goes l.invariant.alone (ap has_values l.invariant.same ∙ c.args.self.unended)
+    (c.push.ensures.pushed c.if-push.true) c.release-pass.ensures.released c.release-pass.ensures.list).ended
 
 -- where `push` answers true, the end was pushed once, after all values
 pub returns-then-push-clause-end : goal.returns-then-push-clause-end
 returns-then-push-clause-end g c =
     let l = c.loop-refused in
-    (finishes (producer_view l.producer) (producer_view c.push.new.self) (view c.release-pass.result) roles.Producer l.invariant.alone
-    (ap has_values l.invariant.same ∙ c.args.self.unended) c.push.ensures.same.goes (c.push.ensures.pushed c.if-push.true)
-    c.release-pass.ensures.same.goes c.release-pass.ensures.released c.release-pass.ensures.list).3
+    (finishes c.push.ensures.same.goes c.release-pass.ensures.same.goes l.invariant.alone (ap has_values l.invariant.same ∙ c.args.self.unended)
+    (c.push.ensures.pushed c.if-push.true) c.release-pass.ensures.released c.release-pass.ensures.list).once
 
 -- where `push` answers true, the steps are those of the tries so far, and one for the role
 pub returns-then-push-clause-steps : goal.returns-then-push-clause-steps

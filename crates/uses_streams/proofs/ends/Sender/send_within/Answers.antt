@@ -17,7 +17,7 @@ loop-refused-preserved g c =
     record {
       queue = c.send.ensures.queue ∙ l.invariant.queue;
       same = c.send.ensures.same c.if-send.false ∙ l.invariant.same;
-      full = refused_more (sender_queue c.args.self.now) (sender_queue l.self) l.invariant.queue (Value (elements.Value c.args.value))
+      full = refused_more l.invariant.queue (Value (elements.Value c.args.value))
           l._refused (sender_view c.args.self.now) (sender_view l.self) (sender_view c.send.new.self) l.invariant.full
           (c.send.ensures.full c.if-send.false);
       steps = steps_more (3 + sender_words c.args.self.now) l._refused (sender_view c.args.self.now) (sender_view l.self)
@@ -35,7 +35,7 @@ returns-then-send-clause-sent g c is =
 pub returns-then-send-clause-pushed : goal.returns-then-send-clause-pushed
 returns-then-send-clause-pushed g c is =
     let l = c.loop-refused in
-    pushed_within (sender_queue c.args.self.now) (sender_queue l.self) l.invariant.queue (Value (elements.Value c.args.value))
+    pushed_within l.invariant.queue (Value (elements.Value c.args.value))
     l._refused (sender_view c.args.self.now) (sender_view l.self) (sender_view c.send.new.self) l.invariant.full c.args.tries
     (omega arith) (c.send.ensures.pushed c.if-send.true)
 

@@ -1,6 +1,6 @@
 -- `pop_all` (src/queues/pops.rt): the invariant of its loop holds at the start and after each iteration, and its return meets the
 -- clauses `received`, `tried`, `steps` and `rest`.
-use Rattle.std.proofs.Common.{◌≡◌, ◌+◌, ◌<◌, ◌≤◌, Some, None, length, take, drop, refl, ap, subst, sym, ◌∙◌, arith}
+use Rattle.std.proofs.Common.{◌≡◌, ◌+◌, ◌<◌, None, length, take, drop, refl, subst, arith}
 use Rattle.lock_free_queues.specs.Queues.Relays.{Receiving}
 use Rattle.lock_free_queues.specs.Queues.Rings.{consumer_view}
 use Rattle.lock_free_queues.proofs.Queues.Relays.{receiving_none, receiving_still}
@@ -18,7 +18,7 @@ loop-count-preserved g c =
     let value = c.in-Some.value in
     let below : l.count < length l.values = omega arith in
     record {
-      received = receives_next g.E.BoundedKind.named l.values l.count value below c.args.consumer.now l.consumer c.pop.new.consumer
+      received = receives_next g.E.BoundedKind.named l.values l.count value below
           l.invariant.received c.pop.ensures.same c.in-Some.ensures.popped;
       rest = rest_stays c.args.values.now l.values l.count value l.invariant.rest;
       popped = popped_next g.E.BoundedKind.named l.values l.count value (consumer_view c.args.consumer.now) (consumer_view l.consumer)

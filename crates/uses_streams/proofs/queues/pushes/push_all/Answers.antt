@@ -1,6 +1,6 @@
 -- `push_all` (src/queues/pushes.rt): the invariant of its loop holds at the start and after each iteration, and its return meets the
 -- clauses `sent`, `tried` and `steps`.
-use Rattle.std.proofs.Common.{◌≡◌, ◌+◌, ◌<◌, ◌≤◌, length, take, refl, subst, arith}
+use Rattle.std.proofs.Common.{◌≡◌, ◌+◌, ◌<◌, length, take, refl, subst, arith}
 use Rattle.lock_free_queues.specs.Queues.Contracts.{PushRefused}
 use Rattle.lock_free_queues.specs.Queues.Relays.{Sending}
 use Rattle.lock_free_queues.specs.Queues.Rings.{QueueId, producer_queue, producer_view}
@@ -19,7 +19,7 @@ loop-count-preserved g c =
     let value = c.index-values-count.result in
     let below : l.count < length c.args.values.now = omega arith in
     record {
-      sent = sends_next g.E.BoundedKind.named c.args.values.now l.count value below c.args.producer.now l.producer c.push.new.producer
+      sent = sends_next g.E.BoundedKind.named c.args.values.now l.count value below
           l.invariant.sent c.index-values-count.is c.push.ensures.same (c.push.ensures.pushed c.if-not-push.false);
       pushed = pushed_next g.E.BoundedKind.named c.args.values.now l.count value below c.index-values-count.is
           (producer_view c.args.producer.now) (producer_view l.producer) (producer_view c.push.new.producer) l.invariant.pushed

@@ -15,7 +15,7 @@ loop-refused-preserved g c =
     let l = c.loop-refused in
     record {
       sent = sending_still l.invariant.sent c.push.ensures.same c.if-push.false c.push.ensures.full;
-      full = refused_more (producer_queue c.args.producer.now) (producer_queue l.producer) l.invariant.sent.queue
+      full = refused_more l.invariant.sent.queue
           (g.E.BoundedKind.named c.args.value.now) l._refused (producer_view c.args.producer.now) (producer_view l.producer)
           (producer_view c.push.new.producer) l.invariant.full (c.push.ensures.full c.if-push.false);
       steps = steps_more g.E.BoundedKind.most_steps l._refused (producer_view c.args.producer.now) (producer_view l.producer)
@@ -30,7 +30,7 @@ returns-then-push-clause-sent g c is =
 pub returns-then-push-clause-pushed : goal.returns-then-push-clause-pushed
 returns-then-push-clause-pushed g c is =
     let l = c.loop-refused in
-    pushed_within (producer_queue c.args.producer.now) (producer_queue l.producer) l.invariant.sent.queue
+    pushed_within l.invariant.sent.queue
     (g.E.BoundedKind.named c.args.value.now) l._refused (producer_view c.args.producer.now) (producer_view l.producer)
     (producer_view c.push.new.producer) l.invariant.full c.args.tries (omega arith) (c.push.ensures.pushed c.if-push.true)
 

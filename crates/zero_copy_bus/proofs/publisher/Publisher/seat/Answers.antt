@@ -11,7 +11,7 @@ returns-in_default-clause-none g c = all_stay (lanes_of c.args.self.now)
 
 pub returns-clause-leased : goal.returns-clause-leased
 returns-clause-leased g c =
-    moved _ _ _ _ _ _ _ _ c.of.ensures.place c.of.ensures.receives.0 c.of.ensures.receives.1 c.in_ok-inlet.ensures.leased
+    moved _ _ c.of.ensures.place c.of.ensures.receives.0 c.of.ensures.receives.1 c.in_ok-inlet.ensures.leased
 
 pub returns-clause-others : goal.returns-clause-others
 returns-clause-others g c =

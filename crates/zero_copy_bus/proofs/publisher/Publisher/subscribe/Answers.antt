@@ -33,9 +33,8 @@ returns-then-takes_part-clause-part g c =
 pub returns-then-takes_part-clause-leased : goal.returns-then-takes_part-clause-leased
 returns-then-takes_part-clause-leased g c =
     let seat = c.in-Some.seat in
-    moved _ (place_before seat) _ (receives_at seat) _ (receives_before seat) _ _ c.in-Ok.ensures.at c.in-Ok.ensures.receives.0
-    c.in-Ok.ensures.receives.1
-    (let_after (roll_of c.update.new.self) (table_of c.seat.new.self) (table_of c.update.new.self) (place_before seat)
+    moved _ _ c.in-Ok.ensures.at c.in-Ok.ensures.receives.0 c.in-Ok.ensures.receives.1
+    (let_after (place_before seat)
     (lanes_of c.args.self.now) (lanes_of c.seat.new.self) (lanes_of c.update.new.self) c.update.ensures.settled (receives_at seat)
     (receives_before seat) c.in-Some.ensures.leased
     (subst (λ k. slice_get (open_in (lanes_of c.update.new.self)) k ≡ Some true) (c.place.ensures ∙ c.in-Ok.ensures.at)
@@ -45,7 +44,7 @@ returns-then-takes_part-clause-leased g c =
 pub returns-then-takes_part-clause-others : goal.returns-then-takes_part-clause-others
 returns-then-takes_part-clause-others g c =
     subst (λ k. EachOther k OthersStay (lanes_of c.args.self.now) (lanes_of c.update.new.self)) (sym c.in-Ok.ensures.at)
-    (others_after (roll_of c.update.new.self) (table_of c.seat.new.self) (table_of c.update.new.self) (place_before c.in-Some.seat)
+    (others_after (place_before c.in-Some.seat)
     (lanes_of c.args.self.now) (lanes_of c.seat.new.self) (lanes_of c.update.new.self) c.update.ensures.settled c.in-Some.ensures.others)
 
 pub returns-in-Ok-leave-clause-all : goal.returns-in-Ok-leave-clause-all

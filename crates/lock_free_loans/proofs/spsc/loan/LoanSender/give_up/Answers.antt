@@ -1,7 +1,7 @@
 -- `LoanSender::give_up` (src/spsc/loan/calls.rt): its call of `release_raw_index` meets the requirement `held`, `self` meets the
 -- invariant `book`, and its return meets the clause `same`.
 use Rattle.lock_free_sets.proofs.Names.{ap, arith, rules, sym, ◌∙◌}
-use Rattle.lock_free_sets.specs.UniqueIndexSet.{SetId, view}
+use Rattle.lock_free_sets.specs.UniqueIndexSet.{SetId}
 use Rattle.lock_free_loans.specs.Loan.Places.{is_out}
 use Rattle.lock_free_loans.proofs.Loan.Books.{out_held, is_freed}
 use Rattle.lock_free_loans.proofs.Loan.Contracts.{begins_before, set_goes}
@@ -26,7 +26,7 @@ returns-clause-same c =
     let released = c.release_raw_index in
     record {
       goes = set_goes c.args.self.now.pass released.new.pass released.ensures.same
-          (begins_before _ _ _ _ (view c.args.self.now.pass) (view released.new.pass) released.ensures.given.given.called);
+          (begins_before released.ensures.given.given.called);
       queues = search rules;
       same = search rules;
       aside = search (rules, arith);

@@ -41,7 +41,7 @@ returns-clause-same g c =
     let acquired = c.acquire_raw_index in
     record {
       goes = set_goes c.args.self.now.pass acquired.new.pass acquired.ensures.same
-          (begins_before _ _ _ _ (view c.args.self.now.pass) (view acquired.new.pass) c.in_ok-index.ensures.acquired.acquired.taken.called);
+          (begins_before c.in_ok-index.ensures.acquired.acquired.taken.called);
       queues = search rules;
       same = search rules;
       aside = search (rules, arith);
@@ -54,7 +54,7 @@ returns-in_err-index-clause-same g c =
     let acquired = c.acquire_raw_index in
     record {
       goes = set_goes c.args.self.now.pass acquired.new.pass acquired.ensures.same
-          (begins_before _ _ _ _ (view c.args.self.now.pass) (view acquired.new.pass) c.in_err-index.ensures.refused.taken.called);
+          (begins_before c.in_err-index.ensures.refused.taken.called);
       queues = search rules;
       same = search rules;
       aside = search (rules, arith);

@@ -16,20 +16,16 @@ pub loop-preserved : goal.loop-preserved
 loop-preserved g c = record {
   queue = search rules;
   popping =
-      pops_on (consumer_view c.args.consumer.now) (consumer_view c.loop.consumer)
-      (consumer_view c.pop.new.self) c.loop.invariant.popping c.pop.ensures.same.goes c.pop.result c.is_none.result
-      c.is_none.ensures c.if-is_none.false (has_popped Index _ _ c.pop.result c.pop.ensures.popped c.pop.ensures.empty) c.pop.ensures.same.aside;
+      pops_on c.loop.invariant.popping c.pop.ensures.same.goes c.pop.result c.is_none.ensures c.if-is_none.false
+      (has_popped Index _ _ c.pop.result c.pop.ensures.popped c.pop.ensures.empty) c.pop.ensures.same.aside;
 }
 
 pub returns-then-is_none-clause-goes : goal.returns-then-is_none-clause-goes
-returns-then-is_none-clause-goes g c =
-    still_goes (consumer_view c.args.consumer.now) (consumer_view c.loop.consumer)
-    (consumer_view c.pop.new.self) c.loop.invariant.popping c.pop.ensures.same.goes
+returns-then-is_none-clause-goes g c = still_goes c.loop.invariant.popping c.pop.ensures.same.goes
 
 -- the pop that found none ends the pops: the queue is emptied
 pub returns-then-is_none-clause-emptied : goal.returns-then-is_none-clause-emptied
 returns-then-is_none-clause-emptied g c =
-    is_emptied (consumer_view c.args.consumer.now) (consumer_view c.loop.consumer) (consumer_view c.pop.new.self)
-    c.loop.invariant.popping c.pop.result c.is_none.result c.is_none.ensures c.if-is_none.true
+    is_emptied c.loop.invariant.popping c.pop.result c.is_none.ensures c.if-is_none.true
     (has_popped Index _ _ c.pop.result c.pop.ensures.popped c.pop.ensures.empty)
     (none_waited c.pop.result _ _ (was_empty _ _ c.pop.result c.pop.ensures.empty)) c.pop.ensures.same.aside

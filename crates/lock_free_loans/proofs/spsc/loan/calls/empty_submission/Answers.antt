@@ -22,9 +22,8 @@ loop-preserved g c =
     record {
       queue = c.pop.ensures.same.queue ∙ c.loop.invariant.queue;
       popping = λ wide. (let some : 0 < (consumer_queue c.loop.receiver).capacity = subst (λ n. 0 < n) (sym room) wide in
-          pops_on (consumer_view c.args.receiver.now) (consumer_view c.loop.receiver)
-          (consumer_view c.pop.new.self) (c.loop.invariant.popping wide) (c.pop.ensures.same.goes some) c.pop.result c.is_none.result
-          c.is_none.ensures c.if-is_none.false (oldest_popped Index _ _ c.pop.result c.pop.ensures.popped (c.pop.ensures.empty some)) c.pop.ensures.aside);
+          pops_on (c.loop.invariant.popping wide) (c.pop.ensures.same.goes some) c.pop.result c.is_none.ensures c.if-is_none.false
+          (oldest_popped Index _ _ c.pop.result c.pop.ensures.popped (c.pop.ensures.empty some)) c.pop.ensures.aside);
       none = λ none. c.pop.ensures.same.none (room ∙ none) ∙ c.loop.invariant.none none;
     }
 
@@ -35,8 +34,7 @@ returns-then-is_none-clause-same g c =
     record {
       queue = c.pop.ensures.same.queue ∙ c.loop.invariant.queue;
       goes = λ wide. (let some : 0 < (consumer_queue c.loop.receiver).capacity = subst (λ n. 0 < n) (sym room) wide in
-          (still_goes (consumer_view c.args.receiver.now) (consumer_view c.loop.receiver)
-          (consumer_view c.pop.new.self) (c.loop.invariant.popping wide) (c.pop.ensures.same.goes some)));
+          still_goes (c.loop.invariant.popping wide) (c.pop.ensures.same.goes some));
       none = λ none. c.pop.ensures.same.none (room ∙ none) ∙ c.loop.invariant.none none;
     }
 
@@ -46,6 +44,5 @@ returns-then-is_none-clause-emptied g c wide =
     let room = ap (λ (q : QueueId). q.capacity) c.loop.invariant.queue in
     let some : 0 < (consumer_queue c.loop.receiver).capacity = subst (λ n. 0 < n) (sym room) wide in
     let empty = c.pop.ensures.empty some in
-    is_emptied (consumer_view c.args.receiver.now) (consumer_view c.loop.receiver) (consumer_view c.pop.new.self)
-    (c.loop.invariant.popping wide) c.pop.result c.is_none.result c.is_none.ensures c.if-is_none.true
+    is_emptied (c.loop.invariant.popping wide) c.pop.result c.is_none.ensures c.if-is_none.true
     (oldest_popped Index _ _ c.pop.result c.pop.ensures.popped empty) (has_found_none _ _ c.pop.result empty) c.pop.ensures.aside

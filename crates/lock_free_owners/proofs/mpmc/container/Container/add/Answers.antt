@@ -5,10 +5,8 @@ use Rattle.lock_free_owners.proofs.Names.{Owned, Coding, IsCoding, coding_by, se
 use Rattle.steps.specs.declared.container.enums.ContainerAddFailure.TheVariants as failures
 use Rattle.lock_free_owners.specs.Container.Turns.{AddAt, AddEnds}
 use Rattle.lock_free_owners.proofs.ContainerSet.Begins.{add_keeps, add_begins}
-use Rattle.lock_free_owners.proofs.ContainerSet.Facts.{goes, few_aside, has_added, filled_so, granted_so, within_so, open_so, refused_so, shut}
+use Rattle.lock_free_owners.proofs.ContainerSet.Facts.{has_added, filled_so, granted_so, within_so, open_so, refused_so, shut}
 use Rattle.lock_free_owners.proofs.ContainerSet.States.{add_leaves}
-use Rattle.lock_free_owners.proofs.Names.{◌+◌}
-use Rattle.lock_free_owners.specs.Container.Steps.{ContainerTakes}
 use Rattle.lock_free_owners.proofs.ContainerSet.Steps.{add_takes}
 use Rattle.lock_free_owners.proofs.mpmc.container.Container.add.Goals as goal
 
@@ -35,32 +33,12 @@ drive_on-end-requires-clause-at g c =
 -- what the pass knows goes on, and the pass keeps what clause `same` says
 pub returns-in-Ok-clause-same : goal.returns-in-Ok-clause-same
 returns-in-Ok-clause-same g c =
-    let code : Coding g.row.T.Denot = coding_by g.T.Words in
-    let v = seen c.args.pass.now.token.seated in
-    let w = seen c.drive_on-end.new.self in
-    let given : Owned g.row.T.Denot = record { value = c.args.value; owner = c.args.owner } in
-    record {
-      container = search rules;
-      idle = c.drive_on-end.ensures.end.over.idle;
-      goes = (goes code c.drive_on-end.ensures.end);
-      aside = (few_aside code c.drive_on-end.ensures.end);
-      keeps = add_leaves code v w given c.drive_on-end.result c.drive_on-end.ensures.end;
-    }
+    add_leaves (search rules) (record { value = c.args.value; owner = c.args.owner }) c.drive_on-end.ensures.end
 
 -- what the pass knows goes on, and the pass keeps what clause `same` says
 pub returns-in-Err-clause-same : goal.returns-in-Err-clause-same
 returns-in-Err-clause-same g c =
-    let code : Coding g.row.T.Denot = coding_by g.T.Words in
-    let v = seen c.args.pass.now.token.seated in
-    let w = seen c.drive_on-end.new.self in
-    let given : Owned g.row.T.Denot = record { value = c.args.value; owner = c.args.owner } in
-    record {
-      container = search rules;
-      idle = c.drive_on-end.ensures.end.over.idle;
-      goes = (goes code c.drive_on-end.ensures.end);
-      aside = (few_aside code c.drive_on-end.ensures.end);
-      keeps = add_leaves code v w given c.drive_on-end.result c.drive_on-end.ensures.end;
-    }
+    add_leaves (search rules) (record { value = c.args.value; owner = c.args.owner }) c.drive_on-end.ensures.end
 
 -- an add that succeeds means what clause `added` says
 pub returns-in-Ok-clause-added : goal.returns-in-Ok-clause-added
@@ -117,17 +95,11 @@ returns-in-Err-clause-refused g c =
 -- the add took no more steps than clause `steps` says
 pub returns-in-Ok-clause-steps : goal.returns-in-Ok-clause-steps
 returns-in-Ok-clause-steps g c =
-    let code : Coding g.row.T.Denot = coding_by g.T.Words in
-    let v = seen c.args.pass.now.token.seated in
-    let w = seen c.drive_on-end.new.self in
-    subst (λ n. ContainerTakes (n + 7 + g.T.Words.WORDS) (n + 1) v w) (c.args.pass.now.token.known ∙ ap (λ (z : SetId). z.capacity) c.requires)
-    (add_takes code v w (record { value = c.args.value; owner = c.args.owner }) c.drive_on-end.result c.drive_on-end.ensures.end)
+    add_takes (coding_by g.T.Words) (c.args.pass.now.token.known ∙ ap (λ (z : SetId). z.capacity) c.requires)
+    (record { value = c.args.value; owner = c.args.owner }) c.drive_on-end.ensures.end
 
 -- the add took no more steps than clause `steps` says
 pub returns-in-Err-clause-steps : goal.returns-in-Err-clause-steps
 returns-in-Err-clause-steps g c =
-    let code : Coding g.row.T.Denot = coding_by g.T.Words in
-    let v = seen c.args.pass.now.token.seated in
-    let w = seen c.drive_on-end.new.self in
-    subst (λ n. ContainerTakes (n + 7 + g.T.Words.WORDS) (n + 1) v w) (c.args.pass.now.token.known ∙ ap (λ (z : SetId). z.capacity) c.requires)
-    (add_takes code v w (record { value = c.args.value; owner = c.args.owner }) c.drive_on-end.result c.drive_on-end.ensures.end)
+    add_takes (coding_by g.T.Words) (c.args.pass.now.token.known ∙ ap (λ (z : SetId). z.capacity) c.requires)
+    (record { value = c.args.value; owner = c.args.owner }) c.drive_on-end.ensures.end

@@ -5,8 +5,7 @@ use Rattle.lock_free_owners.proofs.Names.{shown_number, Coding, IsCoding, coding
 use Rattle.lock_free_owners.proofs.Names.{HasCopied, HasLookedAll}
 use Rattle.model.specs.declared.families.container.ContainerStart.TheVariants as starts
 use Rattle.lock_free_owners.specs.Container.LookTurns.{IsOnHistory, LookAt}
-use Rattle.lock_free_owners.proofs.ContainerSet.Looks.{look_begins, look_idle, look_goes, look_aside, look_made, made_as, some_copied, latest_so}
-use Rattle.lock_free_owners.specs.Container.Steps.{LookTakes}
+use Rattle.lock_free_owners.proofs.ContainerSet.Looks.{look_begins, look_same, look_made, made_as, some_copied, latest_so}
 use Rattle.lock_free_owners.proofs.ContainerSet.Steps.{look_takes}
 use Rattle.lock_free_owners.proofs.mpmc.container.Container.get_state.Goals as goal
 
@@ -52,12 +51,7 @@ returns-clause-got g c =
     -- So the look over all elements ends as a call of the history.
     let ends = c.bring_up.ensures.over.0 on in
     record {
-      same = record {
-        container = search rules;
-        idle = look_idle code GetState v w state.seen c.bring_up.result m ends;
-        goes = look_goes code GetState v w state.seen c.bring_up.result m ends;
-        aside = look_aside code GetState v w state.seen c.bring_up.result m ends;
-      };
+      same = look_same GetState state.seen c.bring_up.result m (search rules) ends;
       got = made_as starts.GetState (Number (shown_number m.elements)) (λ by es. HasLookedAll v.capacity by c.bring_up.result es)
           (λ by es. HasCopied by 0 v.capacity es) v w (λ by es h. some_copied g.row.T.Denot v.capacity by c.bring_up.result es h)
           (look_made code GetState v w state.seen c.bring_up.result m ends);
@@ -80,5 +74,4 @@ returns-clause-steps g c =
       subst (λ (n : ℕ). state.shown ≡ shows_nothing g.T.Words.value_of g.T.Words.WORDS n) (sym size) c.in_ok-state.ensures.shown,
     )
     in
-    subst (λ (n : ℕ). LookTakes code.size n v (seen c.bring_up.new.seat)) size
-    (look_takes code v (seen c.bring_up.new.seat) GetState state.seen c.bring_up.result c.bring_up.new.state.shown (c.bring_up.ensures.over.0 on))
+    look_takes code size GetState state.seen c.bring_up.result c.bring_up.new.state.shown (c.bring_up.ensures.over.0 on)

@@ -4,10 +4,9 @@ use Rattle.lock_free_owners.proofs.Names.{rules, subst, first_borrowed, Coding, 
 use Rattle.model.specs.declared.families.container.calls.CountOf.TheVariants as counts
 use Rattle.lock_free_owners.specs.Container.Turns.{CountAt}
 use Rattle.lock_free_owners.proofs.ContainerSet.Begins.{count_begins}
-use Rattle.lock_free_owners.proofs.ContainerSet.Facts.{goes, few_aside, tested, tested_answered, tested_none}
+use Rattle.lock_free_owners.proofs.ContainerSet.Facts.{tested, tested_answered, tested_none}
 use Rattle.lock_free_owners.proofs.ContainerSet.States.{count_leaves}
-use Rattle.lock_free_owners.proofs.Names.{ap, SetId, ◌∙◌, ◌+◌}
-use Rattle.lock_free_owners.specs.Container.Steps.{ContainerTakes}
+use Rattle.lock_free_owners.proofs.Names.{ap, SetId, ◌∙◌}
 use Rattle.lock_free_owners.proofs.ContainerSet.Steps.{count_takes}
 use Rattle.lock_free_owners.proofs.mpmc.container.Container.is_empty.Goals as goal
 
@@ -21,17 +20,7 @@ count_all-requires-clause-at g c =
 
 -- what the pass knows goes on, and the pass keeps what clause `same` says
 pub returns-clause-same : goal.returns-clause-same
-returns-clause-same g c =
-    let code : Coding g.row.T.Denot = coding_by g.T.Words in
-    let v = seen c.args.pass.now.token.seated in
-    let w = seen c.count_all.new.seat in
-    record {
-      container = search rules;
-      idle = c.count_all.ensures.ends.over.idle;
-      goes = (goes code c.count_all.ensures.ends);
-      aside = (few_aside code c.count_all.ensures.ends);
-      keeps = count_leaves code v w counts.IsEmpty c.count_all.result c.count_all.ensures.ends;
-    }
+returns-clause-same g c = count_leaves (search rules) counts.IsEmpty c.count_all.ensures.ends
 
 -- the answer means what clause `tested` says: the count is 0 or not
 pub returns-clause-tested : goal.returns-clause-tested
@@ -50,8 +39,4 @@ returns-clause-tested g c =
 -- the count took no more steps than clause `steps` says
 pub returns-clause-steps : goal.returns-clause-steps
 returns-clause-steps g c =
-    let code : Coding g.row.T.Denot = coding_by g.T.Words in
-    let v = seen c.args.pass.now.token.seated in
-    let w = seen c.count_all.new.seat in
-    subst (λ n. ContainerTakes (n + 2) (n + 2) v w) (c.args.pass.now.token.known ∙ ap (λ (z : SetId). z.capacity) c.requires)
-    (count_takes code v w counts.IsEmpty c.count_all.result c.count_all.ensures.ends)
+    count_takes (coding_by g.T.Words) (c.args.pass.now.token.known ∙ ap (λ (z : SetId). z.capacity) c.requires) counts.IsEmpty c.count_all.ensures.ends

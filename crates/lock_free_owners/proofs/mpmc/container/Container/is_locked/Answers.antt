@@ -2,7 +2,7 @@
 -- the clauses `same`, `looked` and `steps`.
 use Rattle.lock_free_owners.proofs.Names.{rules, Coding, coding_by, seen}
 use Rattle.lock_free_owners.proofs.ContainerSet.Begins.{lock_keeps, lock_begins}
-use Rattle.lock_free_owners.proofs.ContainerSet.Facts.{goes, few_aside, looked, looked_answered, looked_lock}
+use Rattle.lock_free_owners.proofs.ContainerSet.Facts.{looked, looked_answered, looked_lock}
 use Rattle.lock_free_owners.proofs.ContainerSet.States.{lock_leaves}
 use Rattle.lock_free_owners.proofs.ContainerSet.Steps.{lock_takes}
 use Rattle.lock_free_owners.proofs.mpmc.container.Container.is_locked.Goals as goal
@@ -19,17 +19,7 @@ drive-requires-clause-at g c =
 
 -- what the pass knows goes on, and the pass keeps what clause `same` says
 pub returns-clause-same : goal.returns-clause-same
-returns-clause-same g c =
-    let code : Coding g.row.T.Denot = coding_by g.T.Words in
-    let v = seen c.args.pass.now.token.seated in
-    let w = seen c.drive.new.self in
-    record {
-      container = search rules;
-      idle = c.drive.ensures.end.over.idle;
-      goes = (goes code c.drive.ensures.end);
-      aside = (few_aside code c.drive.ensures.end);
-      keeps = lock_leaves code v w c.drive.result c.drive.ensures.end;
-    }
+returns-clause-same g c = lock_leaves (search rules) c.drive.ensures.end
 
 -- the answer means what clause `looked` says
 pub returns-clause-looked : goal.returns-clause-looked
@@ -45,6 +35,4 @@ returns-clause-looked g c =
 
 -- the operations that the call has asked for are within clause `steps`
 pub returns-clause-steps : goal.returns-clause-steps
-returns-clause-steps g c =
-    let code : Coding g.row.T.Denot = coding_by g.T.Words in
-    lock_takes code (seen c.args.pass.now.token.seated) (seen c.drive.new.self) c.drive.result c.drive.ensures.end
+returns-clause-steps g c = lock_takes (coding_by g.T.Words) c.drive.ensures.end

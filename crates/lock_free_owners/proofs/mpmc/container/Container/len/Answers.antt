@@ -4,10 +4,8 @@ use Rattle.lock_free_owners.proofs.Names.{◌≤◌, rules, ap, subst, ◌∙◌
 use Rattle.model.specs.declared.families.container.calls.CountOf.TheVariants as counts
 use Rattle.lock_free_owners.specs.Container.Turns.{CountAt}
 use Rattle.lock_free_owners.proofs.ContainerSet.Begins.{count_begins}
-use Rattle.lock_free_owners.proofs.ContainerSet.Facts.{goes, few_aside, counted, counted_answered, counted_most, counted_none}
+use Rattle.lock_free_owners.proofs.ContainerSet.Facts.{counted, counted_answered, counted_most, counted_none}
 use Rattle.lock_free_owners.proofs.ContainerSet.States.{count_leaves}
-use Rattle.lock_free_owners.proofs.Names.{◌+◌}
-use Rattle.lock_free_owners.specs.Container.Steps.{ContainerTakes}
 use Rattle.lock_free_owners.proofs.ContainerSet.Steps.{count_takes}
 use Rattle.lock_free_owners.proofs.mpmc.container.Container.len.Goals as goal
 
@@ -21,17 +19,7 @@ count_all-requires-clause-at g c =
 
 -- what the pass knows goes on, and the pass keeps what clause `same` says
 pub returns-clause-same : goal.returns-clause-same
-returns-clause-same g c =
-    let code : Coding g.row.T.Denot = coding_by g.T.Words in
-    let v = seen c.args.pass.now.token.seated in
-    let w = seen c.count_all.new.seat in
-    record {
-      container = search rules;
-      idle = c.count_all.ensures.ends.over.idle;
-      goes = (goes code c.count_all.ensures.ends);
-      aside = (few_aside code c.count_all.ensures.ends);
-      keeps = count_leaves code v w counts.Len c.count_all.result c.count_all.ensures.ends;
-    }
+returns-clause-same g c = count_leaves (search rules) counts.Len c.count_all.ensures.ends
 
 -- the count means what clause `counted` says: it is right, and at most the capacity
 pub returns-clause-counted : goal.returns-clause-counted
@@ -52,8 +40,4 @@ returns-clause-counted g c =
 -- the count took no more steps than clause `steps` says
 pub returns-clause-steps : goal.returns-clause-steps
 returns-clause-steps g c =
-    let code : Coding g.row.T.Denot = coding_by g.T.Words in
-    let v = seen c.args.pass.now.token.seated in
-    let w = seen c.count_all.new.seat in
-    subst (λ n. ContainerTakes (n + 2) (n + 2) v w) (c.args.pass.now.token.known ∙ ap (λ (z : SetId). z.capacity) c.requires)
-    (count_takes code v w counts.Len c.count_all.result c.count_all.ensures.ends)
+    count_takes (coding_by g.T.Words) (c.args.pass.now.token.known ∙ ap (λ (z : SetId). z.capacity) c.requires) counts.Len c.count_all.ensures.ends

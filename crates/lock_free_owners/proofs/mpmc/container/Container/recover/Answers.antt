@@ -6,10 +6,9 @@ use Rattle.steps.specs.Container.Recover.{first_recover}
 use Rattle.lock_free_owners.specs.Container.Questions.{TakesValues}
 use Rattle.lock_free_owners.specs.Container.RecoverContract.{HasRecovered}
 use Rattle.lock_free_owners.specs.Container.RecoverTurns.{RecoverAt}
-use Rattle.lock_free_owners.proofs.ContainerSet.RecoverTurns.{recover_begins, recovered_goes, recovered_aside, recovered_answered, recovered_lock}
+use Rattle.lock_free_owners.proofs.ContainerSet.RecoverTurns.{recover_begins, recovered_answered, recovered_lock}
 use Rattle.lock_free_owners.proofs.ContainerSet.States.{recover_leaves}
 use Rattle.lock_free_owners.proofs.Names.{◌∙◌}
-use Rattle.lock_free_owners.specs.Container.Steps.{RecoverTakes}
 use Rattle.lock_free_owners.proofs.ContainerSet.Steps.{recover_takes}
 use Rattle.lock_free_owners.proofs.mpmc.container.Container.recover.Goals as goal
 use Rattle.lock_free_owners.proofs.mpmc.container.Container.recover.Given as given
@@ -34,20 +33,7 @@ free_all-requires-clause-questions g c free =
 -- what the pass knows goes on, and the pass keeps what clause `same` says
 pub returns-clause-same : goal.returns-clause-same
 returns-clause-same g c =
-    let met = g.met.T.Words in
-    let code : Coding g.row.T.Denot = coding_by g.T.Words in
-    let law : IsCoding code = record { some = met.some; few = met.few; sized = met.sized; given_back = met.given_back } in
-    let dead : DeadOwner = record { owner = c.args.owner; mode = c.args.mode } in
-    let v = seen c.args.pass.now.token.seated in
-    let w = seen c.free_all.new.seat in
-    let ends = c.free_all.ensures.recovered.ends in
-    record {
-      container = search rules;
-      idle = ends.1.over.idle;
-      goes = (recovered_goes code law dead ends.1);
-      aside = (recovered_aside code law dead ends.1);
-      keeps = recover_leaves code v w dead c.free_all.result ends.0 ends.1;
-    }
+    recover_leaves (search rules) (record { owner = c.args.owner; mode = c.args.mode }) c.free_all.ensures.recovered.ends.1
 
 -- the recovery has asked and freed what clause `recovered` says
 pub returns-clause-recovered : goal.returns-clause-recovered
@@ -70,8 +56,5 @@ returns-clause-recovered g c =
 -- the recovery took no more steps than clause `steps` says
 pub returns-clause-steps : goal.returns-clause-steps
 returns-clause-steps g c =
-    let code : Coding g.row.T.Denot = coding_by g.T.Words in
-    let v = seen c.args.pass.now.token.seated in
-    let w = seen c.free_all.new.seat in
-    subst (λ n. RecoverTakes code.size n c.args.mode v w) (c.args.pass.now.token.known ∙ ap (λ (z : SetId). z.capacity) c.requires.pass)
-    (recover_takes code v w c.args.owner c.args.mode c.free_all.result c.free_all.ensures.recovered.ends.0 c.free_all.ensures.recovered.ends.1)
+    recover_takes (coding_by g.T.Words) (c.args.pass.now.token.known ∙ ap (λ (z : SetId). z.capacity) c.requires.pass) c.args.owner c.args.mode
+    c.free_all.ensures.recovered.ends.1

@@ -4,10 +4,8 @@ use Rattle.lock_free_owners.proofs.Names.{◌<◌, rules, sym, ap, subst, ◌∙
 use Rattle.lock_free_owners.proofs.Names.{coding_by, seen, SetId}
 use Rattle.lock_free_owners.specs.Container.Turns.{RemoveAt}
 use Rattle.lock_free_owners.proofs.ContainerSet.Begins.{remove_keeps, remove_begins}
-use Rattle.lock_free_owners.proofs.ContainerSet.Facts.{goes, few_aside}
 use Rattle.lock_free_owners.proofs.ContainerSet.States.{remove_leaves}
 use Rattle.lock_free_owners.specs.Container.Names.{IsOwn}
-use Rattle.lock_free_owners.specs.Container.Steps.{RemoveTakes}
 use Rattle.lock_free_owners.proofs.ContainerSet.CallAnswers.{remove_done, remove_refused}
 use Rattle.lock_free_owners.proofs.ContainerSet.Steps.{remove_takes}
 use Rattle.lock_free_owners.proofs.mpmc.container.Container.remove.Goals as goal
@@ -34,20 +32,11 @@ drive_on-requires-clause-at g c =
 -- what the pass knows goes on, and the pass keeps what clause `same` says
 pub returns-clause-same : goal.returns-clause-same
 returns-clause-same g c =
-    let code : Coding g.row.T.Denot = coding_by g.T.Words in
-    let v = seen c.args.pass.now.token.seated in
-    let w = seen c.drive_on.new.self in
-    let given : GiveBack = record { index = c.args.handle.index; owner = c.args.handle.owner; mode = c.args.mode } in
     let own : IsOwn c.args.self.now c.args.handle = (search rules, omega arith) in
     record {
       container = search rules;
-      keeps = λ is_own. record {
-        container = search rules;
-        idle = c.drive_on.ensures.end.over.idle;
-        goes = goes code c.drive_on.ensures.end;
-        aside = few_aside code c.drive_on.ensures.end;
-        keeps = remove_leaves code v w given c.drive_on.result c.drive_on.ensures.end;
-      };
+      keeps = λ is_own. remove_leaves (search rules) (record { index = c.args.handle.index; owner = c.args.handle.owner; mode = c.args.mode })
+          c.drive_on.ensures.end;
       foreign = λ other. absurd (other own);
     }
 
@@ -68,8 +57,5 @@ returns-clause-refused g c =
 -- the remove took no more steps than clause `steps` says
 pub returns-clause-steps : goal.returns-clause-steps
 returns-clause-steps g c own =
-    let code : Coding g.row.T.Denot = coding_by g.T.Words in
-    let v = seen c.args.pass.now.token.seated in
-    let w = seen c.drive_on.new.self in
-    subst (λ n. RemoveTakes n c.args.mode v w) (c.args.pass.now.token.known ∙ ap (λ (z : SetId). z.capacity) c.requires)
-    (remove_takes code v w (record { index = c.args.handle.index; owner = c.args.handle.owner; mode = c.args.mode }) c.drive_on.result c.drive_on.ensures.end)
+    remove_takes (coding_by g.T.Words) (c.args.pass.now.token.known ∙ ap (λ (z : SetId). z.capacity) c.requires) c.args.handle.index c.args.handle.owner
+    c.args.mode c.drive_on.ensures.end

@@ -4,7 +4,6 @@ use Rattle.lock_free_owners.proofs.Names.{◌<◌, rules, sym, ap, subst, ◌∙
 use Rattle.lock_free_owners.proofs.Names.{IsCoding, coding_by, seen, SetId}
 use Rattle.lock_free_owners.specs.Container.Turns.{ReplaceAt}
 use Rattle.lock_free_owners.proofs.ContainerSet.Begins.{replace_keeps, replace_begins}
-use Rattle.lock_free_owners.proofs.ContainerSet.Facts.{goes, few_aside}
 use Rattle.lock_free_owners.proofs.ContainerSet.States.{replace_leaves}
 use Rattle.lock_free_owners.specs.Container.Names.{IsOwn}
 use Rattle.lock_free_owners.proofs.ContainerSet.CallAnswers.{replace_done, replace_refused}
@@ -37,20 +36,11 @@ drive-requires-clause-at g c =
 -- what the pass knows goes on, and the pass keeps what clause `same` says
 pub returns-clause-same : goal.returns-clause-same
 returns-clause-same g c =
-    let code : Coding g.row.T.Denot = coding_by g.T.Words in
-    let v = seen c.args.pass.now.token.seated in
-    let w = seen c.drive.new.self in
-    let given : Replacement g.row.T.Denot = record { index = c.args.handle.index; owner = c.args.handle.owner; value = c.args.value } in
     let own : IsOwn c.args.self.now c.args.handle = (search rules, omega arith) in
     record {
       container = search rules;
-      keeps = λ is_own. record {
-        container = search rules;
-        idle = c.drive.ensures.end.over.idle;
-        goes = goes code c.drive.ensures.end;
-        aside = few_aside code c.drive.ensures.end;
-        keeps = replace_leaves code v w given c.drive.result c.drive.ensures.end;
-      };
+      keeps = λ is_own. replace_leaves (search rules) (record { index = c.args.handle.index; owner = c.args.handle.owner; value = c.args.value })
+          c.drive.ensures.end;
       foreign = λ other. absurd (other own);
     }
 
@@ -71,6 +61,4 @@ returns-clause-refused g c =
 -- the operations that the call has asked for are within clause `steps`
 pub returns-clause-steps : goal.returns-clause-steps
 returns-clause-steps g c own =
-    let code : Coding g.row.T.Denot = coding_by g.T.Words in
-    replace_takes code (seen c.args.pass.now.token.seated) (seen c.drive.new.self)
-    (record { index = c.args.handle.index; owner = c.args.handle.owner; value = c.args.value }) c.drive.result c.drive.ensures.end
+    replace_takes (coding_by g.T.Words) (record { index = c.args.handle.index; owner = c.args.handle.owner; value = c.args.value }) c.drive.ensures.end

@@ -6,12 +6,11 @@ use Rattle.model.specs.declared.turn.Kind.TheVariants as kinds
 use Rattle.threaded.specs.declared.share.Share.{Share}
 use Rattle.history.specs.History.{Knows}
 use Rattle.lock_free_owners.specs.Container.LookTurns.{LookAt}
-use Rattle.lock_free_owners.proofs.ContainerSet.Looks.{look_answered, look_begins, look_idle, look_goes, look_aside, look_made}
+use Rattle.lock_free_owners.proofs.ContainerSet.Looks.{look_answered, look_begins, look_same, look_made}
 use Rattle.lock_free_owners.proofs.ContainerSet.Looks.{latest_so, on_history, of_history, left_so, knows_so, Left}
 use Rattle.lock_free_owners.proofs.ContainerSet.Began.{history_of}
 use Rattle.lock_free_owners.proofs.ContainerSet.UpdateAnswers.{has_met}
 use Rattle.lock_free_owners.proofs.ContainerSet.SameStates.{decide}
-use Rattle.lock_free_owners.specs.Container.Steps.{LookTakes}
 use Rattle.lock_free_owners.proofs.ContainerSet.Steps.{look_takes}
 use Rattle.lock_free_owners.proofs.mpmc.container.Container.update_state.Goals.{After-bring_up}
 use Rattle.lock_free_owners.proofs.mpmc.container.Container.update_state.Goals as goal
@@ -94,12 +93,7 @@ returns-clause-updated g c latest =
     -- The history has the state, so the look ends as a call of the history.
     let ends = c.bring_up.ensures.over.0 (on_history code v state e latest) in
     record {
-      same = record {
-        container = search rules;
-        idle = look_idle code UpdateState v w state.seen c.bring_up.result m ends;
-        goes = look_goes code UpdateState v w state.seen c.bring_up.result m ends;
-        aside = look_aside code UpdateState v w state.seen c.bring_up.result m ends;
-      };
+      same = look_same UpdateState state.seen c.bring_up.result m (search rules) ends;
       updated = look_made code UpdateState v w state.seen c.bring_up.result m ends;
       met = has_met code c.bring_up.result v w (look_answered code UpdateState v w state.seen c.bring_up.result m ends)
           (history_of ends.settled (looking code UpdateState v.capacity state.seen) ends.over.0);
@@ -126,6 +120,5 @@ returns-clause-steps g c latest =
     let w = seen c.bring_up.new.seat in
     let state = c.args.state.now in
     let size = mine.known ∙ ap (λ (z : SetId). z.capacity) c.requires.pass in
-    subst (λ n. LookTakes code.size n v w) size
-    (look_takes code v w UpdateState state.seen c.bring_up.result c.bring_up.new.state.shown
-    (c.bring_up.ensures.over.0 (on_history code v state (c.requires.state.1 ∙ sym size) latest)))
+    look_takes code size UpdateState state.seen c.bring_up.result c.bring_up.new.state.shown
+    (c.bring_up.ensures.over.0 (on_history code v state (c.requires.state.1 ∙ sym size) latest))

@@ -4,7 +4,7 @@
 use Rattle.lock_free_sets.proofs.Names.{refl, sym, subst, ◌∙◌, fresh, seen}
 use Rattle.lock_free_sets.specs.Sets.Kinds.{Flags}
 use Rattle.lock_free_sets.proofs.Sets.Emptying.{keeps}
-use Rattle.lock_free_sets.proofs.Sets.Emptied.{TookStep}
+use Rattle.lock_free_sets.proofs.Sets.Emptied.{took}
 use Rattle.lock_free_sets.proofs.Bits.Cleared.{SoFar, first_so_far, may_visit, so_far_on, cleared_all, cleared_steps}
 use Rattle.lock_free_sets.proofs.mpmc.bit_set.calls.clear_all.Goals as goal
 use Rattle.lock_free_sets.proofs.mpmc.bit_set.calls.clear_all.Given as given
@@ -20,10 +20,7 @@ step-after-requires-clause-at g c = (seen c.args.seated.now, c.loop-next.invaria
 -- the closure may be called with each of the 64 places whose flag was found
 pub visit_word-requires-clause-visits : goal.visit_word-requires-clause-visits
 visit_word-requires-clause-visits g c n now few stood visited =
-    let step : TookStep Flags (seen c.loop-next.seated) (seen c.step-after.new.self) c.loop-next.call c.loop-next.room c.step-after.new.room
-    c.step-after.result =
-    record { n = c.step-after.ensures.taken.0; goes_so = sym c.step-after.ensures.taken.1; told = c.step-after.ensures.told } in
-    may_visit c.loop-next.invariant.2 step c.requires.visits n now few stood visited
+    may_visit c.loop-next.invariant.2 (took Flags c.step-after.ensures.taken c.step-after.ensures.told) c.requires.visits n now few stood visited
 
 -- as the loop begins nothing is cleared, and the closure was not called
 pub loop-next-init : goal.loop-next-init
@@ -38,42 +35,29 @@ loop-next-init g c =
 
 -- after each step that goes on, the closure was called with what the call has cleared
 pub loop-next-preserved : goal.loop-next-preserved
-loop-next-preserved g c =
-    let step : TookStep Flags (seen c.loop-next.seated) (seen c.step-after.new.self) c.loop-next.call c.loop-next.room c.step-after.new.room
-    c.step-after.result =
-    record { n = c.step-after.ensures.taken.0; goes_so = sym c.step-after.ensures.taken.1; told = c.step-after.ensures.told } in (
-      (
-        c.step-after.ensures.same.0 ∙ c.loop-next.invariant.0.0,
-        c.step-after.ensures.same.1 ∙ c.loop-next.invariant.0.1,
-        c.step-after.ensures.same.2 ∙ c.loop-next.invariant.0.2,
-      ),
-      c.step-after.ensures.capacity ∙ c.loop-next.invariant.1,
-      so_far_on c.loop-next.invariant.2 step
-          c.visit_word.new.visit c.visit_word.ensures c.in-GoOn.is,
-    )
+loop-next-preserved g c = (
+  (
+    c.step-after.ensures.same.0 ∙ c.loop-next.invariant.0.0,
+    c.step-after.ensures.same.1 ∙ c.loop-next.invariant.0.1,
+    c.step-after.ensures.same.2 ∙ c.loop-next.invariant.0.2,
+  ),
+  c.step-after.ensures.capacity ∙ c.loop-next.invariant.1,
+  so_far_on c.loop-next.invariant.2 (took Flags c.step-after.ensures.taken c.step-after.ensures.told) c.visit_word.new.visit c.visit_word.ensures c.in-GoOn.is,
+)
 
 -- the call is over, and the pass is as a whole call on a set leaves it (clause `done`)
 pub returns-in-Done-clause-done : goal.returns-in-Done-clause-done
 returns-in-Done-clause-done g c =
-    let step : TookStep Flags (seen c.loop-next.seated) (seen c.step-after.new.self) c.loop-next.call c.loop-next.room c.step-after.new.room
-    c.step-after.result =
-    record { n = c.step-after.ensures.taken.0; goes_so = sym c.step-after.ensures.taken.1; told = c.step-after.ensures.told } in
-    (cleared_all c.loop-next.invariant.2 step
+    (cleared_all c.loop-next.invariant.2 (took Flags c.step-after.ensures.taken c.step-after.ensures.told)
     c.visit_word.new.visit c.visit_word.ensures c.in-Done.is).1
 
 -- the call cleared just the places that the closure was called with
 pub returns-in-Done-clause-cleared : goal.returns-in-Done-clause-cleared
 returns-in-Done-clause-cleared g c =
-    let step : TookStep Flags (seen c.loop-next.seated) (seen c.step-after.new.self) c.loop-next.call c.loop-next.room c.step-after.new.room
-    c.step-after.result =
-    record { n = c.step-after.ensures.taken.0; goes_so = sym c.step-after.ensures.taken.1; told = c.step-after.ensures.told } in
-    (cleared_all c.loop-next.invariant.2 step
+    (cleared_all c.loop-next.invariant.2 (took Flags c.step-after.ensures.taken c.step-after.ensures.told)
     c.visit_word.new.visit c.visit_word.ensures c.in-Done.is).0
 
 -- the call takes one step for each word of flags at most
 pub returns-in-Done-clause-steps : goal.returns-in-Done-clause-steps
 returns-in-Done-clause-steps g c =
-    let step : TookStep Flags (seen c.loop-next.seated) (seen c.step-after.new.self) c.loop-next.call c.loop-next.room c.step-after.new.room
-    c.step-after.result =
-    record { n = c.step-after.ensures.taken.0; goes_so = sym c.step-after.ensures.taken.1; told = c.step-after.ensures.told } in
-    cleared_steps c.loop-next.invariant.2 step c.in-Done.is
+    cleared_steps c.loop-next.invariant.2 (took Flags c.step-after.ensures.taken c.step-after.ensures.told) c.in-Done.is

@@ -16,8 +16,7 @@ call_where-requires g c stood =
 -- flags that are left are those of the places behind
 pub loop-bit-preserved : goal.loop-bit-preserved
 loop-bit-preserved g c = (
-  visited_more (λ p x q. given.F-step g p x tt q) c.args.found c.args.first c.loop-bit.bit c.args.visit.now
-      c.loop-bit.visit c.call_where.new.visit c.has_flag.result (sym c.has_flag.ensures)
+  visited_more (λ p x q. given.F-step g p x tt q) c.args.found c.args.first c.loop-bit.bit c.args.visit.now (sym c.has_flag.ensures)
       c.call_where.ensures.called c.call_where.ensures.passed c.loop-bit.invariant.0,
   (λ n low high.
       let few = c.loop-bit-test.true in

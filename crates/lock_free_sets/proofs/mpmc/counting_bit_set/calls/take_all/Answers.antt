@@ -4,7 +4,7 @@
 use Rattle.lock_free_sets.proofs.Names.{refl, sym, subst, ◌∙◌, fresh, seen}
 use Rattle.lock_free_sets.specs.Sets.Kinds.{Counts}
 use Rattle.lock_free_sets.proofs.Sets.Emptying.{keeps}
-use Rattle.lock_free_sets.proofs.Sets.Emptied.{TookStep}
+use Rattle.lock_free_sets.proofs.Sets.Emptied.{took}
 use Rattle.lock_free_sets.proofs.Counts.Taken.{SoFar, first_so_far, within, so_far_on, taken_all, taken_steps}
 use Rattle.lock_free_sets.proofs.mpmc.counting_bit_set.calls.take_all.Goals as goal
 use Rattle.lock_free_sets.proofs.mpmc.counting_bit_set.calls.take_all.Given as given
@@ -21,30 +21,24 @@ step-after-requires-clause-at g c = (seen c.args.seated.now, c.loop-next.invaria
 -- 0
 pub call_where-requires : goal.call_where-requires
 call_where-requires g c some small =
-    let step : TookStep Counts (seen c.loop-next.seated) (seen c.step-after.new.self) c.loop-next.call c.loop-next.room c.step-after.new.room
-    c.step-after.result =
-    record { n = c.step-after.ensures.taken.0; goes_so = sym c.step-after.ensures.taken.1; told = c.step-after.ensures.told } in
     let h = c.loop-next.invariant.2 in
     c.requires.states.at h.handed.states c.loop-next.visit
     (record { bit = c.loop-next.call.word; count = c.step-after.new.room.0 }) h.handed.folds h.handed.ascend h.handed.below
-    (within c.loop-next.invariant.2 step)
+    (within c.loop-next.invariant.2 (took Counts c.step-after.ensures.taken c.step-after.ensures.told))
     some small
 
 -- after each step that goes on, the closure was called with what the call has taken out
 pub loop-next-preserved : goal.loop-next-preserved
-loop-next-preserved g c =
-    let step : TookStep Counts (seen c.loop-next.seated) (seen c.step-after.new.self) c.loop-next.call c.loop-next.room c.step-after.new.room
-    c.step-after.result =
-    record { n = c.step-after.ensures.taken.0; goes_so = sym c.step-after.ensures.taken.1; told = c.step-after.ensures.told } in (
-      (
-        c.step-after.ensures.same.0 ∙ c.loop-next.invariant.0.0,
-        c.step-after.ensures.same.1 ∙ c.loop-next.invariant.0.1,
-        c.step-after.ensures.same.2 ∙ c.loop-next.invariant.0.2,
-      ),
-      c.step-after.ensures.capacity ∙ c.loop-next.invariant.1,
-      so_far_on c.loop-next.invariant.2 step
-          c.call_where.ensures.small c.call_where.new.visit c.call_where.ensures.called c.call_where.ensures.passed c.in-GoOn.is,
-    )
+loop-next-preserved g c = (
+  (
+    c.step-after.ensures.same.0 ∙ c.loop-next.invariant.0.0,
+    c.step-after.ensures.same.1 ∙ c.loop-next.invariant.0.1,
+    c.step-after.ensures.same.2 ∙ c.loop-next.invariant.0.2,
+  ),
+  c.step-after.ensures.capacity ∙ c.loop-next.invariant.1,
+  so_far_on c.loop-next.invariant.2 (took Counts c.step-after.ensures.taken c.step-after.ensures.told)
+      c.call_where.ensures.small c.call_where.ensures.called c.call_where.ensures.passed c.in-GoOn.is,
+)
 
 -- as the loop begins nothing is taken out, and the closure was not called
 pub loop-next-init : goal.loop-next-init
@@ -60,25 +54,16 @@ loop-next-init g c =
 -- the call is over, and the pass is as a whole call on a set leaves it (clause `done`)
 pub returns-in-Done-clause-done : goal.returns-in-Done-clause-done
 returns-in-Done-clause-done g c =
-    let step : TookStep Counts (seen c.loop-next.seated) (seen c.step-after.new.self) c.loop-next.call c.loop-next.room c.step-after.new.room
-    c.step-after.result =
-    record { n = c.step-after.ensures.taken.0; goes_so = sym c.step-after.ensures.taken.1; told = c.step-after.ensures.told } in
-    (taken_all c.loop-next.invariant.2 step
-    c.call_where.ensures.small c.call_where.new.visit c.call_where.ensures.called c.call_where.ensures.passed c.in-Done.is).1
+    (taken_all c.loop-next.invariant.2 (took Counts c.step-after.ensures.taken c.step-after.ensures.told)
+    c.call_where.ensures.small c.call_where.ensures.called c.call_where.ensures.passed c.in-Done.is).1
 
 -- the call took out just the counts that the closure was called with
 pub returns-in-Done-clause-taken : goal.returns-in-Done-clause-taken
 returns-in-Done-clause-taken g c =
-    let step : TookStep Counts (seen c.loop-next.seated) (seen c.step-after.new.self) c.loop-next.call c.loop-next.room c.step-after.new.room
-    c.step-after.result =
-    record { n = c.step-after.ensures.taken.0; goes_so = sym c.step-after.ensures.taken.1; told = c.step-after.ensures.told } in
-    (taken_all c.loop-next.invariant.2 step
-    c.call_where.ensures.small c.call_where.new.visit c.call_where.ensures.called c.call_where.ensures.passed c.in-Done.is).0
+    (taken_all c.loop-next.invariant.2 (took Counts c.step-after.ensures.taken c.step-after.ensures.told)
+    c.call_where.ensures.small c.call_where.ensures.called c.call_where.ensures.passed c.in-Done.is).0
 
 -- the call takes one step for each place at most
 pub returns-in-Done-clause-steps : goal.returns-in-Done-clause-steps
 returns-in-Done-clause-steps g c =
-    let step : TookStep Counts (seen c.loop-next.seated) (seen c.step-after.new.self) c.loop-next.call c.loop-next.room c.step-after.new.room
-    c.step-after.result =
-    record { n = c.step-after.ensures.taken.0; goes_so = sym c.step-after.ensures.taken.1; told = c.step-after.ensures.told } in
-    taken_steps c.loop-next.invariant.2 step c.in-Done.is
+    taken_steps c.loop-next.invariant.2 (took Counts c.step-after.ensures.taken c.step-after.ensures.told) c.in-Done.is

@@ -32,9 +32,7 @@ look-requires-clause-owes g c =
 
 -- The call has ended, as one that empties a set without places (clause `done`).
 pub returns-clause-done : goal.returns-clause-done
-returns-clause-done g c =
-    done (machine_kind g.E.Kind.KIND) (empties_none g.E.Kind.KIND) (λ o p h. h) (seen c.args.seated.now) c.look.new.self.seat.me.0 tt
-    (record { 0 = 0 }) c.look.ensures.told
+returns-clause-done g c = done c.look.ensures.told (λ o p h. h)
 
 -- It is a call of the history that wrote no event of its own (clause `called`).
 pub returns-clause-called : goal.returns-clause-called

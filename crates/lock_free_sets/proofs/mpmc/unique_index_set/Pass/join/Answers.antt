@@ -12,6 +12,11 @@ use Rattle.lock_free_sets.proofs.Unique.Facts.{apart, sound}
 use Rattle.lock_free_sets.proofs.Whole.Alone.{joined_done}
 use Rattle.lock_free_sets.proofs.mpmc.unique_index_set.Pass.join.Goals as goal
 
+-- a look of a view that is the join of two is a look of the join
+looks_joined : {u w : View ℕ} (v other : View ℕ) → u ≡ joined_view v other → Looks one_word kinds.Indices u.capacity u w
+    → Looks one_word kinds.Indices (joined_view v other).capacity (joined_view v other) w
+looks_joined {w = w} v other is looks = subst (λ (z : View ℕ). Looks one_word kinds.Indices z.capacity z w) is looks
+
 -- Two seats with shares and no call under way may be joined: the rule of the table holds of the joined view.
 pub join-requires-clause-joins : goal.join-requires-clause-joins
 join-requires-clause-joins c =
@@ -44,9 +49,7 @@ returns-clause-apart c i mine theirs =
     let v = c.args.self.now.seated.seat.me.0 in
     let other = c.args.other.seated.seat.me.0 in
     let w = c.look.new.self.seat.me.0 in
-    let is : c.join.new.self.seat.me.0 ≡ joined_view v other = c.join.ensures.joined in
-    let looks : Looks one_word kinds.Indices (joined_view v other).capacity (joined_view v other) w =
-    subst (λ (z : View ℕ). Looks one_word kinds.Indices z.capacity z w) is c.look.ensures.told.0 in
+    let looks = looks_joined v other c.join.ensures.joined c.look.ensures.told.0 in
     apart v other w i looks mine theirs
 
 -- the pass has what both had: what they saw, what they made, their shares and their runs
@@ -56,9 +59,7 @@ returns-clause-same c =
     let v = mine.seated.seat.me.0 in
     let other = c.args.other.seated.seat.me.0 in
     let w = c.look.new.self.seat.me.0 in
-    let is : c.join.new.self.seat.me.0 ≡ joined_view v other = c.join.ensures.joined in
-    let looks : Looks one_word kinds.Indices (joined_view v other).capacity (joined_view v other) w =
-    subst (λ (z : View ℕ). Looks one_word kinds.Indices z.capacity z w) is c.look.ensures.told.0 in
+    let looks = looks_joined v other c.join.ensures.joined c.look.ensures.told.0 in
     record {
       set = search rules;
       joined = record {
@@ -92,7 +93,5 @@ invariant_of-self-clause-knows c =
     let v = mine.seated.seat.me.0 in
     let other = c.args.other.seated.seat.me.0 in
     let w = c.look.new.self.seat.me.0 in
-    let is : c.join.new.self.seat.me.0 ≡ joined_view v other = c.join.ensures.joined in
-    let looks : Looks one_word kinds.Indices (joined_view v other).capacity (joined_view v other) w =
-    subst (λ (z : View ℕ). Looks one_word kinds.Indices z.capacity z w) is c.look.ensures.told.0 in
+    let looks = looks_joined v other c.join.ensures.joined c.look.ensures.told.0 in
     subst (λ n. Knows one_word kinds.Indices n w) mine.known looks.ran.knows

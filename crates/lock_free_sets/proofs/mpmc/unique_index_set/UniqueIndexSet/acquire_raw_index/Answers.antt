@@ -32,8 +32,7 @@ invariant_of-pass-clause-sound g c = sound_after c.drive_on.ensures.end
 pub invariant_of-pass-clause-done : goal.invariant_of-pass-clause-done
 invariant_of-pass-clause-done g c =
     let mine = c.args.pass.now in
-    taken_done (seen mine.seated) (seen c.drive_on.new.self) c.drive_on.result
-    (taken (seen mine.seated) (seen c.drive_on.new.self) tt mine.idle c.drive_on.result c.drive_on.ensures.end) mine.done
+    taken_done c.drive_on.result (taken mine.idle c.drive_on.ensures.end) mine.done
 
 -- the returned pass keeps its invariant `knows`: it knows a run that gives all that it has seen
 pub invariant_of-pass-clause-knows : goal.invariant_of-pass-clause-knows
@@ -47,14 +46,13 @@ returns-clause-same g c = same_pass (search rules) c.drive_on.ensures.end
 pub returns-clause-acquired : goal.returns-clause-acquired
 returns-clause-acquired g c =
     let mine = c.args.pass.now in
-    acquired_if (seen mine.seated) (seen c.drive_on.new.self) tt mine.idle c.drive_on.result c.drive_on.ensures.end
-    mine.sound _ (same_size c.args.self.now mine c.requires)
+    acquired_if mine.idle c.drive_on.ensures.end mine.sound _ (same_size c.args.self.now mine c.requires)
 
 -- a refused acquire is a call of the history, which claims nothing (clause `refused`)
 pub returns-clause-refused : goal.returns-clause-refused
 returns-clause-refused g c =
     let mine = c.args.pass.now in
-    refused_if (seen mine.seated) (seen c.drive_on.new.self) tt mine.idle c.drive_on.result c.drive_on.ensures.end mine.done
+    refused_if mine.idle c.drive_on.ensures.end mine.done
 
 -- the operations that the call has asked for are within clause `steps`
 pub returns-clause-steps : goal.returns-clause-steps

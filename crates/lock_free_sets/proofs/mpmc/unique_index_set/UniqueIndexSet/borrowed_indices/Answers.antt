@@ -23,8 +23,7 @@ invariant_of-pass-clause-sound c = sound_after c.drive.ensures.end
 pub invariant_of-pass-clause-done : goal.invariant_of-pass-clause-done
 invariant_of-pass-clause-done c =
     let mine = c.args.pass.now in
-    counted_done (seen mine.seated) (seen c.drive.new.self) c.drive.result
-    (counted (seen mine.seated) (seen c.drive.new.self) tt mine.idle c.drive.result c.drive.ensures.end) mine.done
+    counted_done (counted mine.idle c.drive.ensures.end) mine.done
 
 -- the returned pass keeps its invariant `knows`: it knows a run that gives all that it has seen
 pub invariant_of-pass-clause-knows : goal.invariant_of-pass-clause-knows
@@ -37,8 +36,7 @@ returns-clause-same c = same_pass (search rules) c.drive.ensures.end
 pub returns-clause-counted : goal.returns-clause-counted
 returns-clause-counted c =
     let mine = c.args.pass.now in
-    borrowed_done (seen mine.seated) (seen c.drive.new.self) tt mine.idle c.drive.result c.drive.ensures.end
-    mine.done _ (same_size c.args.self.now mine c.requires)
+    borrowed_done mine.idle c.drive.ensures.end mine.done _ (same_size c.args.self.now mine c.requires)
 
 -- the operations that the call has asked for are within clause `steps`
 pub returns-clause-steps : goal.returns-clause-steps

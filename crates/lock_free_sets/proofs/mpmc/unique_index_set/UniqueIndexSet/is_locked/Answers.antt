@@ -23,8 +23,7 @@ invariant_of-pass-clause-sound c = sound_after c.drive.ensures.end
 pub invariant_of-pass-clause-done : goal.invariant_of-pass-clause-done
 invariant_of-pass-clause-done c =
     let mine = c.args.pass.now in
-    looked_done (seen mine.seated) (seen c.drive.new.self) c.drive.result
-    (looked (seen mine.seated) (seen c.drive.new.self) tt mine.idle c.drive.result c.drive.ensures.end) mine.done
+    looked_done (looked mine.idle c.drive.ensures.end) mine.done
 
 -- the returned pass keeps its invariant `knows`: it knows a run that gives all that it has seen
 pub invariant_of-pass-clause-knows : goal.invariant_of-pass-clause-knows
@@ -37,7 +36,7 @@ returns-clause-same c = same_pass (search rules) c.drive.ensures.end
 pub returns-clause-looked : goal.returns-clause-looked
 returns-clause-looked c =
     let mine = c.args.pass.now in
-    is_locked_done (seen mine.seated) (seen c.drive.new.self) tt mine.idle c.drive.result c.drive.ensures.end
+    is_locked_done mine.idle c.drive.ensures.end
 
 -- the operations that the call has asked for are within clause `steps`
 pub returns-clause-steps : goal.returns-clause-steps

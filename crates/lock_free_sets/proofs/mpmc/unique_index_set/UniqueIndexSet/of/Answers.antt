@@ -1,21 +1,15 @@
 -- `UniqueIndexSet::of` (src/mpmc/unique_index_set/make.rt): its call of `open` meets what that requires, and each iteration keeps the
 -- invariant of its loop.
-use Rattle.lock_free_sets.proofs.Names.{◌≡◌, ℕ, zero, suc, ◌+◌, ◌-◌, [], ◌∷◌, ◌++◌, length, take, sym, ap, ◌∙◌, append_assoc}
+use Rattle.lock_free_sets.proofs.Names.{◌≡◌, suc, ◌+◌, ◌-◌, [], ◌∷◌, ◌++◌, length, take, sym, ap, ◌∙◌, append_assoc}
 use Rattle.lock_free_sets.proofs.Names.{arith, range_with_len}
 use Rattle.std.proofs.Common.{◌/◌}
 use Rattle.std.proofs.lemmas.List.{take_all}
 use Rattle.std.proofs.lemmas.List.FromFn.{length-range_with_len}
 use Rattle.std.specs.Prelude.{vec_len, replicate}
 use Rattle.history.proofs.Passes.{one_more}
+use Rattle.lock_free_sets.proofs.Bits.Cleared.{range_more}
 use Rattle.lock_free_sets.proofs.Unique.Opens.{indices_open}
 use Rattle.lock_free_sets.proofs.mpmc.unique_index_set.UniqueIndexSet.of.Goals as goal
-
--- A range with one number more is the range and that number at its end.
-longer : (n a : ℕ) → range_with_len a (suc n) ≡ range_with_len a n ++ (a + n) ∷ []
-longer zero a = let e : a ≡ a + 0 = omega arith in ap (λ x. x ∷ []) e
-longer (suc n) a =
-    let e : a + 1 + n ≡ a + suc n = omega arith in
-    ap (λ l. a ∷ l) (longer n (a + 1) ∙ ap (λ x. range_with_len (a + 1) n ++ x ∷ []) e)
 
 -- with each word more, behind the head stand the numbers from 1 on
 pub loop-index-preserved : goal.loop-index-preserved
@@ -27,10 +21,7 @@ loop-index-preserved c =
     c.push_reserved-in-loop-index.ensures.items
     ∙ (ap (λ ws. ws ++ (c.loop-index.index + 1) ∷ []) c.loop-index.invariant.0
     ∙ ap (λ n. (0 ∷ range_with_len 1 c.loop-index.index) ++ n ∷ []) next) in
-    let suc_is : suc c.loop-index.index ≡ c.loop-index.index + 1 = omega arith in
-    let grown : range_with_len 1 (c.loop-index.index + 1) ≡ range_with_len 1 c.loop-index.index ++ (1 + c.loop-index.index) ∷ [] =
-    ap (range_with_len 1) (sym suc_is) ∙ longer c.loop-index.index 1 in
-    (here ∙ ap (λ ws. 0 ∷ ws) (sym grown), omega arith, omega arith)
+    (here ∙ ap (λ ws. 0 ∷ ws) (sym (range_more 1 c.loop-index.index)), omega arith, omega arith)
 
 -- the words open as the machine of a set of this capacity, with the view of the first pass
 pub open-requires : goal.open-requires

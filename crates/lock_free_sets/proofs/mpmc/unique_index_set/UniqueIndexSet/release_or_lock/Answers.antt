@@ -31,8 +31,7 @@ invariant_of-pass-clause-sound g c = sound_after c.drive_on.ensures.end
 pub invariant_of-pass-clause-done : goal.invariant_of-pass-clause-done
 invariant_of-pass-clause-done g c =
     let mine = c.args.pass.now in
-    locked_done (seen mine.seated) (seen c.drive_on.new.self) c.args.index c.drive_on.result
-    (given_or_locked (seen mine.seated) (seen c.drive_on.new.self) tt mine.idle c.args.index c.drive_on.result c.drive_on.ensures.end) mine.done
+    locked_done (given_or_locked mine.idle c.drive_on.ensures.end) mine.done
 
 -- the returned pass keeps its invariant `knows`: it knows a run that gives all that it has seen
 pub invariant_of-pass-clause-knows : goal.invariant_of-pass-clause-knows
@@ -46,7 +45,7 @@ returns-clause-same g c = same_pass (search rules) c.drive_on.ensures.end
 pub returns-clause-given : goal.returns-clause-given
 returns-clause-given g c =
     let mine = c.args.pass.now in
-    release_or_lock_done (seen mine.seated) (seen c.drive_on.new.self) tt mine.idle c.args.index c.drive_on.result c.drive_on.ensures.end mine.done
+    release_or_lock_done mine.idle c.drive_on.ensures.end mine.done
 
 -- the operations that the call has asked for are within clause `steps`
 pub returns-clause-steps : goal.returns-clause-steps

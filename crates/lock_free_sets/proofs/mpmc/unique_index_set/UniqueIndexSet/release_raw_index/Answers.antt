@@ -31,8 +31,7 @@ invariant_of-pass-clause-sound c = sound_after c.drive.ensures.end
 pub invariant_of-pass-clause-done : goal.invariant_of-pass-clause-done
 invariant_of-pass-clause-done c =
     let mine = c.args.pass.now in
-    given_done (seen mine.seated) (seen c.drive.new.self) c.args.index c.drive.result
-    (given (seen mine.seated) (seen c.drive.new.self) tt mine.idle c.args.index c.drive.result c.drive.ensures.end) mine.done
+    given_done (given mine.idle c.drive.ensures.end) mine.done
 
 -- the returned pass keeps its invariant `knows`: it knows a run that gives all that it has seen
 pub invariant_of-pass-clause-knows : goal.invariant_of-pass-clause-knows
@@ -46,7 +45,7 @@ returns-clause-same c = same_pass (search rules) c.drive.ensures.end
 pub returns-clause-given : goal.returns-clause-given
 returns-clause-given c =
     let mine = c.args.pass.now in
-    release_done (seen mine.seated) (seen c.drive.new.self) tt mine.idle c.args.index c.drive.result c.drive.ensures.end
+    release_done mine.idle c.drive.ensures.end
 
 -- the operations that the call has asked for are within clause `steps`
 pub returns-clause-steps : goal.returns-clause-steps

@@ -6,9 +6,9 @@ use Rattle.turns.proofs.families.container.effects.perform.Goals as goal
 use Rattle.turns.proofs.families.container.effects.perform.Goals.{in-Some, in_default, in-Some-question, in_default-question}
 
 -- of a list to which one list and then another was added: it is longer by both
-both : {E : Type 0} (old between new xs ys told asked : List E) → told ≡ xs → asked ≡ ys → between ≡ old ++ told → new ≡ between ++ asked
+both : {E : Type 0} (old : List E) {between new xs ys told asked : List E} → told ≡ xs → asked ≡ ys → between ≡ old ++ told → new ≡ between ++ asked
     → new ≡ old ++ (xs ++ ys)
-both old between new xs ys told asked is_told is_asked first second =
+both old {xs = xs} {told = told} {asked = asked} is_told is_asked first second =
     second
     ∙ ap (λ l. l ++ asked) first
     ∙ append_assoc old told asked
@@ -36,4 +36,4 @@ returns-clause-wrote g c =
       | in-Some-question w ↦ rw (w.events-is, w.in-Some-question.is) w.push_reserved-in-Some-question.ensures.items
       | in_default-question w ↦ rw (w.events-is, w.in_default-question.is) (sym (append-nil c.match-effect.events.items))
     ] in
-    both _ _ _ _ _ told asked c.effect.ensures c.question.ensures first second
+    both c.args.events.now.items c.effect.ensures c.question.ensures first second

@@ -31,7 +31,7 @@ returns-clause-peeked c =
     let x = seen mine.seated in
     let w = seen c.drive-end.new.self in
     subst (λ z. HasPeeked (option_map index_of z) x w) (sym c.answer.ensures)
-    (has_peeked one_word IndexQueue x w mine.idle tt index_peek c.drive-end.ensures.end)
+    (has_peeked IndexQueue mine.idle tt index_peek c.drive-end.ensures.end)
 
 -- the call moves no role (clause `roles`)
 pub returns-clause-roles : goal.returns-clause-roles
@@ -40,6 +40,4 @@ returns-clause-roles c r =
 
 -- the operations that the call has asked for are within clause `steps`
 pub returns-clause-steps : goal.returns-clause-steps
-returns-clause-steps c =
-    let mine = c.args.self.now in
-    peek_takes one_word (seen mine.seated) (seen c.drive-end.new.self) mine.idle c.drive-end.result c.drive-end.new.room c.drive-end.ensures.end
+returns-clause-steps c = peek_takes c.args.self.now.idle c.drive-end.ensures.end

@@ -58,6 +58,4 @@ returns-clause-taken c =
 
 -- the operations that the call has asked for are within clause `steps`
 pub returns-clause-steps : goal.returns-clause-steps
-returns-clause-steps c =
-    let mine = c.args.self.now in
-    pop_takes one_word (seen mine.seated) (seen c.drive-end.new.self) mine.idle c.drive-end.result c.drive-end.new.room c.drive-end.ensures.end
+returns-clause-steps c = pop_takes c.args.self.now.idle c.drive-end.ensures.end

@@ -62,19 +62,8 @@ returns-clause-pushed c =
 -- the seat is of the same queue, its view goes on, and at most one operation was no step of a call
 pub returns-clause-same : goal.returns-clause-same
 returns-clause-same c =
-    let mine = c.args.self.now in
-    let v = seen mine.seated in
-    let w = seen c.drive-end.new.self in
-    record {
-      queue = search rules;
-      goes =
-          goes_over one_word kinds.IndexQueue (pushes_index c.args.value) v w c.drive-end.result tt c.drive-end.ensures.end;
-      aside =
-          aside_over one_word kinds.IndexQueue (pushes_index c.args.value) v w c.drive-end.result tt c.drive-end.ensures.end;
-    }
+    record { queue = search rules; goes = goes_over c.drive-end.ensures.end; aside = aside_over c.drive-end.ensures.end }
 
 -- the operations that the call has asked for are within clause `steps`
 pub returns-clause-steps : goal.returns-clause-steps
-returns-clause-steps c =
-    let mine = c.args.self.now in
-    push_takes one_word (seen mine.seated) (seen c.drive-end.new.self) mine.idle c.args.value c.drive-end.result tt c.drive-end.ensures.end
+returns-clause-steps c = push_takes c.args.self.now.idle c.drive-end.ensures.end

@@ -74,21 +74,8 @@ returns-clause-pushed g c =
 -- the seat is of the same queue, its view goes on, and at most one operation was no step of a call
 pub returns-clause-same : goal.returns-clause-same
 returns-clause-same g c =
-    let mine = c.args.self.now in
-    let code : Coding g.row.T.Denot = coding_by g.T.Words in
-    let v = token_view mine in
-    let w = c.drive-end.new.self.seat.me.0 in
-    record {
-      queue = search rules;
-      goes =
-          goes_over code kinds.Queue (pushes_value code c.args.value.now) v w c.drive-end.result tt c.drive-end.ensures.end;
-      aside =
-          aside_over code kinds.Queue (pushes_value code c.args.value.now) v w c.drive-end.result tt c.drive-end.ensures.end;
-    }
+    record { queue = search rules; goes = goes_over c.drive-end.ensures.end; aside = aside_over c.drive-end.ensures.end }
 
 -- the operations that the call has asked for are within clause `steps`
 pub returns-clause-steps : goal.returns-clause-steps
-returns-clause-steps g c =
-    let mine = c.args.self.now in
-    value_push_takes (coding_by g.T.Words) (token_view mine)
-    c.drive-end.new.self.seat.me.0 mine.idle c.args.value.now c.drive-end.result tt c.drive-end.ensures.end
+returns-clause-steps g c = value_push_takes c.args.self.now.idle c.drive-end.ensures.end

@@ -46,7 +46,7 @@ returns-clause-peeked g c =
     let x = token_view mine in
     let w = c.drive-end.new.self.seat.me.0 in
     subst (λ z. HasPeeked (option_map (value_of code) z) x w) (sym c.answer.ensures)
-    (has_peeked code Queue x w mine.idle tt (value_peek code g.R.Room.words_in) c.drive-end.ensures.end)
+    (has_peeked Queue mine.idle tt (value_peek code g.R.Room.words_in) c.drive-end.ensures.end)
 
 -- the call moves no role (clause `roles`)
 pub returns-clause-roles : goal.returns-clause-roles
@@ -57,7 +57,4 @@ returns-clause-roles g c r =
 
 -- the operations that the call has asked for are within clause `steps`
 pub returns-clause-steps : goal.returns-clause-steps
-returns-clause-steps g c =
-    let mine = c.args.self.now in
-    value_peek_takes (coding_by g.T.Words) (token_view mine)
-    c.drive-end.new.self.seat.me.0 mine.idle g.R.Room.words_in c.drive-end.result c.drive-end.new.room c.drive-end.ensures.end
+returns-clause-steps g c = value_peek_takes c.args.self.now.idle g.R.Room.words_in c.drive-end.ensures.end

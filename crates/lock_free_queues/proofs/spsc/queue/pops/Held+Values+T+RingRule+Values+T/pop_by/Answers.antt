@@ -75,7 +75,4 @@ returns-clause-taken g c =
 
 -- the operations that the call has asked for are within clause `steps`
 pub returns-clause-steps : goal.returns-clause-steps
-returns-clause-steps g c =
-    let mine = c.args.self.now in
-    value_pop_takes (coding_by g.T.Words) (token_view mine)
-    c.drive-end.new.self.seat.me.0 mine.idle g.R.Room.words_in c.drive-end.result c.drive-end.new.room c.drive-end.ensures.end
+returns-clause-steps g c = value_pop_takes c.args.self.now.idle g.R.Room.words_in c.drive-end.ensures.end

@@ -30,10 +30,7 @@ drive-requires-clause-at g c =
 
 -- the answer is right by what came before the end of the call (clause `answer`)
 pub returns-clause-answer : goal.returns-clause-answer
-returns-clause-answer g c =
-    let mine = c.args.self.now in
-    seen_role (coding_by g.T.Words) g.E.Kind.KIND (token_view mine)
-    c.drive.new.self.seat.me.0 mine.idle g.R.Side.ROLE c.drive.result tt c.drive.ensures.end
+returns-clause-answer g c = seen_role g.E.Kind.KIND c.args.self.now.idle g.R.Side.ROLE c.drive.ensures.end
 
 -- the call moves no role (clause `roles`)
 pub returns-clause-roles : goal.returns-clause-roles
@@ -42,7 +39,4 @@ returns-clause-roles g c r =
 
 -- the operations that the call has asked for are within clause `steps`
 pub returns-clause-steps : goal.returns-clause-steps
-returns-clause-steps g c =
-    let mine = c.args.self.now in
-    look_takes (coding_by g.T.Words) (token_view mine)
-    c.drive.new.self.seat.me.0 mine.idle g.E.Kind.KIND g.R.Side.ROLE c.drive.result tt c.drive.ensures.end
+returns-clause-steps g c = look_takes c.args.self.now.idle g.E.Kind.KIND g.R.Side.ROLE c.drive.ensures.end

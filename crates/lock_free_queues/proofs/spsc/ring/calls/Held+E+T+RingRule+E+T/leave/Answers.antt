@@ -30,17 +30,11 @@ drive-requires-clause-at g c =
 
 -- a release of the role is a call of the history (clause `left`)
 pub returns-clause-left : goal.returns-clause-left
-returns-clause-left g c =
-    let mine = c.args.self.now in
-    released (coding_by g.T.Words) g.E.Kind.KIND (token_view mine)
-    c.drive.new.self.seat.me.0 mine.idle g.R.Side.ROLE c.drive.result tt c.drive.ensures.end
+returns-clause-left g c = released g.E.Kind.KIND c.args.self.now.idle g.R.Side.ROLE c.drive.ensures.end
 
 -- the release publishes and takes out nothing (clause `list`)
 pub returns-clause-list : goal.returns-clause-list
-returns-clause-list g c =
-    let mine = c.args.self.now in
-    left_marked (coding_by g.T.Words) (token_view mine)
-    c.drive.new.self.seat.me.0 mine.idle c.drive.result tt g.E.Kind.KIND g.R.Side.ROLE c.drive.ensures.end
+returns-clause-list g c = left_marked c.args.self.now.idle g.E.Kind.KIND g.R.Side.ROLE c.drive.ensures.end
 
 -- the role is given back once (clause `mine`)
 pub returns-clause-mine : goal.returns-clause-mine
@@ -52,7 +46,4 @@ returns-clause-other g c = (released_moves (token_view c.args.self.now) c.drive.
 
 -- the operations that the call has asked for are within clause `steps`
 pub returns-clause-steps : goal.returns-clause-steps
-returns-clause-steps g c =
-    let mine = c.args.self.now in
-    release_takes (coding_by g.T.Words) (token_view mine)
-    c.drive.new.self.seat.me.0 mine.idle g.E.Kind.KIND g.R.Side.ROLE c.drive.result tt c.drive.ensures.end
+returns-clause-steps g c = release_takes c.args.self.now.idle g.E.Kind.KIND g.R.Side.ROLE c.drive.ensures.end

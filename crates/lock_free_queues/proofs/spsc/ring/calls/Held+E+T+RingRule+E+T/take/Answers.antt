@@ -30,10 +30,7 @@ drive-requires-clause-at g c =
 
 -- the acquire of the role is a call of the history (clause `acquired`)
 pub returns-clause-acquired : goal.returns-clause-acquired
-returns-clause-acquired g c =
-    let mine = c.args.self.now in
-    acquired (coding_by g.T.Words) g.E.Kind.KIND (token_view mine)
-    c.drive.new.self.seat.me.0 mine.idle g.R.Side.ROLE c.drive.result tt c.drive.ensures.end
+returns-clause-acquired g c = acquired g.E.Kind.KIND c.args.self.now.idle g.R.Side.ROLE c.drive.ensures.end
 
 -- a taken role is one that the pass has once more (clause `taken`)
 pub returns-clause-taken : goal.returns-clause-taken
@@ -51,7 +48,4 @@ returns-clause-other g c = (acquired_moves (token_view c.args.self.now) c.drive.
 
 -- the operations that the call has asked for are within clause `steps`
 pub returns-clause-steps : goal.returns-clause-steps
-returns-clause-steps g c =
-    let mine = c.args.self.now in
-    acquire_takes (coding_by g.T.Words) (token_view mine)
-    c.drive.new.self.seat.me.0 mine.idle g.E.Kind.KIND g.R.Side.ROLE c.drive.result tt c.drive.ensures.end
+returns-clause-steps g c = acquire_takes c.args.self.now.idle g.E.Kind.KIND g.R.Side.ROLE c.drive.ensures.end

@@ -28,22 +28,15 @@ returns-clause-measured g c =
     let w = c.count_all.new.seat.seat.me.0 in
     subst (λ n. HasMeasured g.W.Measure.WHICH n (length_answer g.W.Measure.WHICH n c.count_all.result) v w)
     mine.known
-    (measured (coding_by g.T.Words) g.E.Kind.KIND v w mine.idle
-    g.W.Measure.WHICH c.count_all.result tt c.count_all.ensures.ends)
+    (measured g.E.Kind.KIND mine.idle g.W.Measure.WHICH c.count_all.ensures.ends)
 
 -- its return meets the clause `few`
 pub returns-clause-few : goal.returns-clause-few
 returns-clause-few g c is =
     let mine = c.args.self.now in
     subst (λ n. c.count_all.result ≤ most_waiting g.E.Kind.KIND n) mine.known
-    (few (coding_by g.T.Words) g.E.Kind.KIND (token_view mine)
-    c.count_all.new.seat.seat.me.0 mine.idle g.W.Measure.WHICH is c.count_all.result tt c.count_all.ensures.ends)
+    (few g.E.Kind.KIND mine.idle g.W.Measure.WHICH is c.count_all.ensures.ends)
 
 -- its return meets the clause `steps`
 pub returns-clause-steps : goal.returns-clause-steps
-returns-clause-steps g c =
-    let mine = c.args.self.now in
-    let code : Coding g.row.T.Denot = coding_by g.T.Words in
-    let v = token_view mine in
-    let w = c.count_all.new.seat.seat.me.0 in
-    length_takes code v w mine.idle g.E.Kind.KIND g.W.Measure.WHICH c.count_all.result tt c.count_all.ensures.ends
+returns-clause-steps g c = length_takes c.args.self.now.idle g.E.Kind.KIND g.W.Measure.WHICH c.count_all.ensures.ends

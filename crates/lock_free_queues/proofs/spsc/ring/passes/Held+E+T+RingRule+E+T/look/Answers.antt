@@ -21,5 +21,4 @@ returns-clause-looked g c =
     let l : LooksAt (coding_by g.T.Words) (machine_kind g.E.Kind.KIND)
     mine.seated.seat.me.0.capacity 0 mine.seated.seat.me.0 c.look.result c.look.new.self.seat.me.0 =
     c.look.ensures.told in
-    has_looked (coding_by g.T.Words) (machine_kind g.E.Kind.KIND)
-    mine.seated.seat.me.0 c.look.new.self.seat.me.0 mine.alone l.looks
+    has_looked mine.alone l.looks

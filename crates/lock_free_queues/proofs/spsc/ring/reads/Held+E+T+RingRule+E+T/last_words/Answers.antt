@@ -17,7 +17,6 @@ returns-then-again-write g c =
     let code : Coding g.row.T.Denot = coding_by g.T.Words in
     let mine = c.args.self.now in
     let size = mine.capacity in
-    let v = token_view mine in
     let w = token_view c.loop-write.self in
     let r = token_view c.read_cells.new.self in
     let x = token_view c.read-read.new.self in
@@ -32,10 +31,10 @@ returns-then-again-write g c =
     subst (λ n. CellsRead code (machine_kind g.E.Kind.KIND) n w r words) one c.read_cells.ensures.cells in
     -- The facts of the loop and of the four reads are those of `last_words`.
     let last =
-    last_words code (machine_kind g.E.Kind.KIND) size (words_in_cells g.T.Words.WORDS g.E.Kind.KIND size) v w x y words
-    c.loop-write.write c.read-read.result mine.small (c.read_cells.ensures.long ∙ (inv.long ∙ c.requires)) inv.few inv.read
-    (then_read w r x c.read_cells.ensures.read c.read-read.ensures.read) c.read-again.ensures.read inv.found
-    (λ word high low. read_until code (machine_kind g.E.Kind.KIND) size word _ w r x (cells word high low) c.read-read.ensures.read)
+    last_words (words_in_cells g.T.Words.WORDS g.E.Kind.KIND size) words
+    mine.small (c.read_cells.ensures.long ∙ (inv.long ∙ c.requires)) inv.few inv.read
+    (then_read c.read_cells.ensures.read c.read-read.ensures.read) c.read-again.ensures.read inv.found
+    (λ word high low. read_until (cells word high low) c.read-read.ensures.read)
     (subst (λ n. WasRead code (machine_kind g.E.Kind.KIND) n x x 1 c.read-read.result) two c.read-read.ensures.last)
     (subst (WasRead code (machine_kind g.E.Kind.KIND) size y y 0) same
     (subst (λ n. WasRead code (machine_kind g.E.Kind.KIND) n y y 0 c.read-again.result) three c.read-again.ensures.last)) in
@@ -53,18 +52,16 @@ loop-write-smaller g c =
     let code : Coding g.row.T.Denot = coding_by g.T.Words in
     let size = c.args.self.now.capacity in
     let w = token_view c.loop-write.self in
-    let r = token_view c.read_cells.new.self in
-    let x = token_view c.read-read.new.self in
     let y = token_view c.read-again.new.self in
     -- Each read leaves the capacity, so all of them are of one queue.
     let one : c.loop-write.self.capacity ≡ size = ap (λ (q : QueueId). q.capacity) inv.queue in
     let two : c.read_cells.new.self.capacity ≡ size = ap (λ (q : QueueId). q.capacity) c.read_cells.ensures.queue ∙ one in
     let three : c.read-read.new.self.capacity ≡ size = ap (λ (q : QueueId). q.capacity) c.read-read.ensures.queue ∙ two in
     let more : HasRead w y =
-    then_read w x y (then_read w r x c.read_cells.ensures.read c.read-read.ensures.read) c.read-again.ensures.read in
+    then_read (then_read c.read_cells.ensures.read c.read-read.ensures.read) c.read-again.ensures.read in
     -- A write position that was read later is no lower, and this one differs.
     let rise =
-    writes_rise code g.E.Kind.KIND size c.loop-write.write c.read-again.result w y more inv.found
+    writes_rise g.E.Kind.KIND more inv.found
     (subst (λ n. WasRead code (machine_kind g.E.Kind.KIND) n y y 0 c.read-again.result) three c.read-again.ensures.last) in
     let differ : c.read-again.result ≢ c.loop-write.write = c.if-again-write.false in
     let high = c.read-again.ensures.fits in

@@ -16,22 +16,12 @@ look-requires-clause-owes g c =
 
 -- the load leaves the share and what the pass has made, and with the whole share it sees nothing more
 pub returns-clause-read : goal.returns-clause-read
-returns-clause-read g c =
-    let mine = c.args.self.now in
-    has_read (coding_by g.T.Words) g.E.Kind.KIND mine.capacity
-    c.args.word c.look.result mine.seated.seat.me.0 c.look.new.self.seat.me.0 mine.known c.requires c.look.ensures.told
-    mine.alone
+returns-clause-read g c = has_read g.E.Kind.KIND c.args.self.now.known c.look.ensures.told c.requires c.args.self.now.alone
 
 -- the word had the number that was read, at the moment of the load (clause `found`)
 pub returns-clause-found : goal.returns-clause-found
-returns-clause-found g c =
-    let mine = c.args.self.now in
-    was_read (coding_by g.T.Words) g.E.Kind.KIND mine.capacity
-    c.args.word c.look.result mine.seated.seat.me.0 c.look.new.self.seat.me.0 mine.known c.requires c.look.ensures.told
+returns-clause-found g c = was_read g.E.Kind.KIND c.args.self.now.known c.look.ensures.told c.requires
 
 -- the word has this number as the pass stands now (clause `last`)
 pub returns-clause-last : goal.returns-clause-last
-returns-clause-last g c =
-    let mine = c.args.self.now in
-    was_read_last (coding_by g.T.Words) g.E.Kind.KIND mine.capacity
-    c.args.word c.look.result mine.seated.seat.me.0 c.look.new.self.seat.me.0 mine.known c.requires c.look.ensures.told
+returns-clause-last g c = was_read_last g.E.Kind.KIND c.args.self.now.known c.look.ensures.told c.requires

@@ -41,7 +41,6 @@ loop-at-preserved g c =
     let inv = c.loop-at.invariant in
     let code : Coding g.row.T.Denot = coding_by g.T.Words in
     let mine = c.args.self.now in
-    let v = token_view mine in
     let w = token_view c.loop-at.self in
     let x = token_view c.read-word.new.self in
     let at = c.loop-at.at in
@@ -57,8 +56,8 @@ loop-at-preserved g c =
     -- The read of the word adds it to the words below the next place.
     record {
       queue = c.read-word.ensures.queue ∙ inv.queue;
-      read = then_read v w x inv.read r;
-      cells = one_read code (machine_kind g.E.Kind.KIND) mine.capacity v w x at found words (omega arith) inv.read r inv.cells here;
+      read = then_read inv.read r;
+      cells = one_read words (omega arith) inv.read r inv.cells here;
       long = length-set words at found ∙ inv.long;
       past = omega arith;
       within = omega arith;

@@ -49,8 +49,4 @@ returns-clause-empty g c =
 
 -- the pop takes at most four operations, and two more for each change of a word that others make meanwhile
 pub returns-clause-steps : goal.returns-clause-steps
-returns-clause-steps g c =
-    let mine = c.args.self.now in
-    let v = token_view mine in
-    let w = c.drive_on-end.new.self.seat.me.0 in
-    over_pop_takes one_word v w mine.idle c.drive_on-end.result c.drive_on-end.new.room c.drive_on-end.ensures.end
+returns-clause-steps g c = over_pop_takes c.args.self.now.idle c.drive_on-end.ensures.end

@@ -31,18 +31,7 @@ drive-end-requires-clause-at c =
 -- the seat is of the same queue, its view goes on, and at most one operation was no step of a call
 pub returns-clause-same : goal.returns-clause-same
 returns-clause-same c =
-    let mine = c.args.self.now in
-    let v = token_view mine in
-    let w = c.drive-end.new.self.seat.me.0 in
-    record {
-      queue = search rules;
-      goes =
-          goes_over one_word kinds.Overflow (pushes_over c.args.value) v w c.drive-end.result c.drive-end.new.room
-          c.drive-end.ensures.end;
-      aside =
-          aside_over one_word kinds.Overflow (pushes_over c.args.value) v w c.drive-end.result c.drive-end.new.room
-          c.drive-end.ensures.end;
-    }
+    record { queue = search rules; goes = goes_over c.drive-end.ensures.end; aside = aside_over c.drive-end.ensures.end }
 
 -- a push that hands nothing back published its number right after all that was seen to be published
 pub returns-clause-added : goal.returns-clause-added
@@ -52,9 +41,8 @@ returns-clause-added c =
     let x = token_view mine in
     let w = c.drive-end.new.self.seat.me.0 in
     let o = push_answer v c.drive-end.new.room.0 c.drive-end.result in
-    let history = seen_over one_word kinds.Overflow (pushes_over v) x w c.drive-end.result c.drive-end.new.room c.drive-end.ensures.end in
     subst (λ z. IfNone z (PushAdded v x w)) (sym c.answer.ensures)
-    (over_none one_word x w mine.idle v history o
+    (over_none one_word x w mine.idle v (seen_over c.drive-end.ensures.end) o
     (over_pushed one_word x w mine.idle v mine.alone mine.some.0 c.requires.role c.drive-end.ensures.end))
 
 -- a push that hands a number back took it out as the oldest, or handed back its own and was a look
@@ -66,17 +54,13 @@ returns-clause-handed_back c =
     let x = token_view mine in
     let w = c.drive-end.new.self.seat.me.0 in
     let o = push_answer v c.drive-end.new.room.0 c.drive-end.result in
-    let history = seen_over one_word kinds.Overflow (pushes_over v) x w c.drive-end.result c.drive-end.new.room c.drive-end.ensures.end in
     subst (λ z. IfSome z (λ y. PushReplaced v y x w ⊎ (y ≡ v) × WasAtEnd x w)) (sym c.answer.ensures)
-    (over_some one_word x w mine.idle v history o
+    (over_some one_word x w mine.idle v (seen_over c.drive-end.ensures.end) o
     (over_pushed one_word x w mine.idle v mine.alone mine.some.0 c.requires.role c.drive-end.ensures.end))
 
 -- the operations that the call has asked for are within clause `steps`
 pub returns-clause-steps : goal.returns-clause-steps
-returns-clause-steps c =
-    let mine = c.args.self.now in
-    over_push_takes one_word (token_view mine) c.drive-end.new.self.seat.me.0 mine.idle c.args.value c.drive-end.result
-    c.drive-end.new.room c.drive-end.ensures.end
+returns-clause-steps c = over_push_takes c.args.self.now.idle c.drive-end.ensures.end
 
 -- the push takes no role, and gives none back
 pub returns-clause-roles : goal.returns-clause-roles

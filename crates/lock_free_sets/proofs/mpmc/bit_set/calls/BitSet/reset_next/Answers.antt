@@ -1,11 +1,11 @@
 -- `BitSet::reset_next` (src/mpmc/bit_set/calls.rt): its call of `reset_all` meets the requirement `at`, and its return meets
 -- the clauses `cleared`, `clear` and `steps`.
-use Rattle.lock_free_sets.proofs.Names.{refl, sym, subst, ap, ◌∙◌, one_word, seen, At, arith}
+use Rattle.lock_free_sets.proofs.Names.{sym, subst, ap, ◌∙◌, one_word, seen, At, arith}
 use Rattle.steps.specs.Bits.BitSet.{first_reset}
 use Rattle.model.specs.declared.turn.Kind.TheVariants as kinds
 use Rattle.lock_free_sets.specs.Bits.Stages.{resets_next}
 use Rattle.lock_free_sets.proofs.Bits.Resetting.{next_first, found_nothing, found_place}
-use Rattle.lock_free_sets.proofs.Sets.Passes.{same_size}
+use Rattle.lock_free_sets.proofs.Sets.Passes.{is_idle, same_size}
 use Rattle.lock_free_sets.proofs.Steps.{bits_take}
 use Rattle.lock_free_sets.proofs.mpmc.bit_set.calls.BitSet.reset_next.Goals as goal
 
@@ -15,23 +15,21 @@ reset_all-end-requires-clause-at g c =
     let mine = c.args.pass.now in
     let v = seen mine.seated in
     subst (λ call. At one_word kinds.Bits resets_next v v call _) (ap first_reset mine.known ∙ sym c.new-call.ensures)
-    (next_first v _ (record { known = refl; idle = mine.idle; alone = mine.alone; some = mine.some.0 }))
+    (next_first v _ (is_idle mine))
 
 -- a reset that answers a place has cleared it, it lies below the capacity, and the call came to it
 -- from the reset position
 pub returns-in-Some-clause-cleared : goal.returns-in-Some-clause-cleared
 returns-in-Some-clause-cleared g c =
     let mine = c.args.pass.now in
-    let end = c.reset_all-end in
-    found_place (seen mine.seated) (seen end.new.seat) end.result tt mine.idle end.ensures.ends _
+    found_place mine.idle c.reset_all-end.ensures.ends
     (same_size c.args.self.now mine c.requires) c.in-Some.place (sym c.answer.ensures ∙ c.in-Some.is)
 
 -- where a reset answers None, each place was clear at some moment of the call
 pub returns-in-None-clause-clear : goal.returns-in-None-clause-clear
 returns-in-None-clause-clear g c =
     let mine = c.args.pass.now in
-    let end = c.reset_all-end in
-    found_nothing (seen mine.seated) (seen end.new.seat) end.result tt mine.idle end.ensures.ends _
+    found_nothing mine.idle c.reset_all-end.ensures.ends
     (same_size c.args.self.now mine c.requires) (sym c.answer.ensures ∙ c.in-None.is)
 
 -- where a place was found, the operations of the reset are within clause `steps`

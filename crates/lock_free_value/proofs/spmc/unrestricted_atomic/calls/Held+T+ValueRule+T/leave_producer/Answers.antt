@@ -2,7 +2,6 @@
 -- return meets the clauses `left` and `steps`.
 use Rattle.std.proofs.Common.{arith}
 use Rattle.lock_free_value.proofs.Names.{coding_by}
-use Rattle.history.specs.Value.{releases_producer}
 use Rattle.lock_free_value.specs.Calls.{seen}
 use Rattle.history.proofs.ValueCalls.{release_keeps, release_first}
 use Rattle.lock_free_value.proofs.Facts.{released, takes_here}
@@ -20,14 +19,8 @@ drive-requires-clause-at g c =
 
 -- a release of the role is a call of the history (clause `left`)
 pub returns-clause-left : goal.returns-clause-left
-returns-clause-left g c =
-    let mine = c.args.self.now in
-    released (coding_by g.T.Words) (seen mine)
-    c.drive.new.self.seat.me.0 mine.idle mine.known c.drive.result tt c.drive.ensures.end
+returns-clause-left g c = released c.args.self.now.idle c.args.self.now.known c.drive.ensures.end
 
 -- the operations that the call has asked for are within clause `steps`
 pub returns-clause-steps : goal.returns-clause-steps
-returns-clause-steps g c =
-    let mine = c.args.self.now in
-    takes_here (coding_by g.T.Words) (seen mine)
-    c.drive.new.self.seat.me.0 mine.idle mine.known releases_producer c.drive.result tt (omega arith) c.drive.ensures.end
+returns-clause-steps g c = takes_here c.args.self.now.idle c.args.self.now.known c.drive.ensures.end (omega arith)

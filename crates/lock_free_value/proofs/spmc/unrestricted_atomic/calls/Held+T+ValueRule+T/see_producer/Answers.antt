@@ -2,7 +2,6 @@
 -- return meets the clauses `answer`, `role` and `steps`.
 use Rattle.std.proofs.Common.{arith}
 use Rattle.lock_free_value.proofs.Names.{coding_by}
-use Rattle.history.specs.Value.{looks_at_producer}
 use Rattle.lock_free_value.specs.Calls.{seen}
 use Rattle.history.proofs.ValueCalls.{look_keeps, look_first}
 use Rattle.lock_free_value.proofs.Facts.{seen_producer, seen_producer_moves, takes_here}
@@ -20,21 +19,12 @@ drive-requires-clause-at g c =
 
 -- the answer is right by what came before the end of the call (clause `answer`)
 pub returns-clause-answer : goal.returns-clause-answer
-returns-clause-answer g c =
-    let mine = c.args.self.now in
-    seen_producer (coding_by g.T.Words) (seen mine)
-    c.drive.new.self.seat.me.0 mine.idle mine.known c.drive.result tt c.drive.ensures.end
+returns-clause-answer g c = seen_producer c.args.self.now.idle c.args.self.now.known c.drive.ensures.end
 
 -- the call moves no role (clause `role`)
 pub returns-clause-role : goal.returns-clause-role
-returns-clause-role g c =
-    let mine = c.args.self.now in
-    seen_producer_moves (coding_by g.T.Words) (seen mine)
-    c.drive.new.self.seat.me.0 mine.idle mine.known c.drive.result tt c.drive.ensures.end
+returns-clause-role g c = seen_producer_moves c.args.self.now.idle c.args.self.now.known c.drive.ensures.end
 
 -- the operations that the call has asked for are within clause `steps`
 pub returns-clause-steps : goal.returns-clause-steps
-returns-clause-steps g c =
-    let mine = c.args.self.now in
-    takes_here (coding_by g.T.Words) (seen mine)
-    c.drive.new.self.seat.me.0 mine.idle mine.known looks_at_producer c.drive.result tt (omega arith) c.drive.ensures.end
+returns-clause-steps g c = takes_here c.args.self.now.idle c.args.self.now.known c.drive.ensures.end (omega arith)

@@ -13,9 +13,9 @@ use Rattle.lock_free_value.proofs.spmc.unrestricted_atomic.calls.Held+T+ValueRul
 pub drive-end-requires-clause-rule : goal.drive-end-requires-clause-rule
 drive-end-requires-clause-rule g c base v call m key =
     let met = g.met.T.Words in
-    let law : IsCoding (coding_by g.T.Words) =
-    record { some = met.some; few = met.few; sized = met.sized; given_back = met.given_back } in
-    store_keeps (coding_by g.T.Words) law c.args.value.now base v call m 1
+    let code : Coding g.row.T.Denot = coding_by g.T.Words in
+    let law : IsCoding code = record { some = met.some; few = met.few; sized = met.sized; given_back = met.given_back } in
+    store_keeps code law c.args.value.now base v call m 1
 
 -- the store is about to begin, as a call that its value does not refuse to the producer
 pub drive-end-requires-clause-at : goal.drive-end-requires-clause-at
@@ -32,36 +32,21 @@ drive-end-requires-clause-at g c =
 pub returns-clause-stored : goal.returns-clause-stored
 returns-clause-stored g c is =
     let mine = c.args.self.now in
-    stored_if (coding_by g.T.Words) (seen mine)
-    c.drive-end.new.self.seat.me.0 mine.idle mine.known c.args.value.now c.drive-end.result tt
-    c.drive-end.ensures.end (sym c.answer.ensures ∙ is)
+    stored_if mine.idle mine.known c.args.value.now c.drive-end.ensures.end (sym c.answer.ensures ∙ is)
 
 -- a store that answers false was a look at a value whose version is the last
 pub returns-clause-end : goal.returns-clause-end
 returns-clause-end g c is =
     let mine = c.args.self.now in
-    at_end_if (coding_by g.T.Words) (seen mine)
-    c.drive-end.new.self.seat.me.0 mine.idle mine.known c.args.value.now mine.alone mine.some.0 c.requires
-    c.drive-end.result tt c.drive-end.ensures.end (sym c.answer.ensures ∙ is)
+    at_end_if mine.idle mine.known c.args.value.now mine.alone mine.some.0 c.requires c.drive-end.ensures.end (sym c.answer.ensures ∙ is)
 
 -- the seat is of the same value, its view goes on, and at most one operation was no step of a call
 pub returns-clause-same : goal.returns-clause-same
 returns-clause-same g c =
     let mine = c.args.self.now in
-    let code : Coding g.row.T.Denot = coding_by g.T.Words in
-    record {
-      table = search rules;
-      goes =
-          (leaves code (seen mine) c.drive-end.new.self.seat.me.0 mine.idle mine.known
-          (stores_value code c.args.value.now) c.drive-end.result tt c.drive-end.ensures.end).goes;
-      aside =
-          (leaves code (seen mine) c.drive-end.new.self.seat.me.0 mine.idle mine.known
-          (stores_value code c.args.value.now) c.drive-end.result tt c.drive-end.ensures.end).aside;
-    }
+    let left = leaves c.drive-end.ensures.end in
+    record { table = search rules; goes = left.goes; aside = left.aside }
 
 -- the operations that the call has asked for are within clause `steps`
 pub returns-clause-steps : goal.returns-clause-steps
-returns-clause-steps g c =
-    let mine = c.args.self.now in
-    store_takes (coding_by g.T.Words) (seen mine)
-    c.drive-end.new.self.seat.me.0 mine.idle mine.known c.args.value.now c.drive-end.result tt c.drive-end.ensures.end
+returns-clause-steps g c = store_takes c.args.self.now.idle c.args.self.now.known c.drive-end.ensures.end

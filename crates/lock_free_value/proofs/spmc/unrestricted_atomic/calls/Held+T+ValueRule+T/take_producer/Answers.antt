@@ -2,7 +2,6 @@
 -- return meets the clause `steps`.
 use Rattle.std.proofs.Common.{arith}
 use Rattle.lock_free_value.proofs.Names.{coding_by}
-use Rattle.history.specs.Value.{acquires_producer}
 use Rattle.lock_free_value.specs.Calls.{seen}
 use Rattle.history.proofs.ValueCalls.{acquire_keeps, acquire_first}
 use Rattle.lock_free_value.proofs.Facts.{takes_here}
@@ -20,7 +19,4 @@ drive-requires-clause-at g c =
 
 -- the operations that the call has asked for are within clause `steps`
 pub returns-clause-steps : goal.returns-clause-steps
-returns-clause-steps g c =
-    let mine = c.args.self.now in
-    takes_here (coding_by g.T.Words) (seen mine)
-    c.drive.new.self.seat.me.0 mine.idle mine.known acquires_producer c.drive.result tt (omega arith) c.drive.ensures.end
+returns-clause-steps g c = takes_here c.args.self.now.idle c.args.self.now.known c.drive.ensures.end (omega arith)

@@ -3,7 +3,6 @@
 use Rattle.std.proofs.Common.{ap, sym, subst, ◌∙◌, arith}
 use Rattle.lock_free_value.proofs.Names.{Coding, IsCoding, coding_by}
 use Rattle.history.specs.Rooms.{room_of}
-use Rattle.history.specs.Value.{loads_value}
 use Rattle.history.proofs.Rooms.{room_fresh}
 use Rattle.history.proofs.ValueCalls.{load_first}
 use Rattle.lock_free_value.specs.Calls.{seen}
@@ -26,17 +25,10 @@ load_all-end-requires-clause-at g c =
 pub returns-clause-loaded : goal.returns-clause-loaded
 returns-clause-loaded g c =
     let mine = c.args.self.now in
-    let code : Coding g.row.T.Denot = coding_by g.T.Words in
-    let w = c.load_all-end.new.seat.seat.me.0 in
-    subst (λ x. HasLoaded x (seen mine) w) (sym c.answer.ensures)
-    (has_loaded code (seen mine) w mine.idle mine.known g.R.Room.words_in mine.begun c.load_all-end.result
-    c.load_all-end.new.room c.load_all-end.ensures.ends)
+    subst (λ x. HasLoaded x (seen mine) c.load_all-end.new.seat.seat.me.0) (sym c.answer.ensures)
+    (has_loaded mine.idle mine.known g.R.Room.words_in mine.begun c.load_all-end.ensures.ends)
 
 -- the load takes 2 operations and one for each word of the value, and for each change of a word
 -- that others make meanwhile 1 more and one for each word
 pub returns-clause-steps : goal.returns-clause-steps
-returns-clause-steps g c =
-    let mine = c.args.self.now in
-    let code : Coding g.row.T.Denot = coding_by g.T.Words in
-    takes_here code (seen mine) c.load_all-end.new.seat.seat.me.0 mine.idle mine.known (loads_value code g.R.Room.words_in)
-    c.load_all-end.result c.load_all-end.new.room (omega arith) c.load_all-end.ensures.ends
+returns-clause-steps g c = takes_here c.args.self.now.idle c.args.self.now.known c.load_all-end.ensures.ends (omega arith)
