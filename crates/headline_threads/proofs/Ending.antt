@@ -1,4 +1,4 @@
--- Which kinds end so between threads.
+-- Of which kinds calls, and finite loads, end between threads.
 use Rattle.std.specs.Prelude.{IfSome}
 use Rattle.std.proofs.Common.{arith}
 use Rattle.model.specs.declared.event.Start.{Start}
@@ -84,7 +84,7 @@ pub record EndsSuch (T : Type 0) (kind : Kind) (Such : Start T → Type 0) (boun
   pub asks : KnownAsksLoadOf T kind Such bound
   pub rest : PassesRestOf T kind Such bound
 
--- a kind that keeps ending such calls does all of this
+-- of a kind that keeps ending the calls for which `Such` holds, all follows that `EndsSuch` says
 such_end : {T : Type 0} (kind : Kind) (Such : Start T → Type 0) (bound : Bound) → Runs kind Such bound → EndsSuch T kind Such bound
 such_end kind Such bound R =
     record {
@@ -99,7 +99,7 @@ such_end kind Such bound R =
       rest = rests_between kind Such bound R;
     }
 
--- where any call may begin, a kind that keeps ending calls does all of this of any calls
+-- of a kind that keeps ending calls, whichever begin, all follows that `EndsAll` says
 all_end : {T : Type 0} (kind : Kind) (bound : Bound) → RunsOfAny T kind bound → EndsAll T kind bound
 all_end kind bound R =
     let such = such_end kind (λ start. Unit {0}) bound R in
@@ -113,28 +113,28 @@ all_end kind bound R =
       rest = λ code capacity old new knows later n below. such.rest code capacity old new knows later n below (any_such new.seen);
     }
 
--- what follows, of each kind that has a bound
+-- of each kind that has a bound, all follows that `EndsAll` says
 pub bounded_ends : (T : Type 0) (kind : Kind) → IfSome (lock_free_bound kind) (EndsAll T kind)
 bounded_ends T kind = if_some (RunsOfAny T kind) (EndsAll T kind) (lock_free_bound kind) (all_end kind) (runs_of T kind)
 
--- a part of what follows, of each kind that has a bound
+-- what follows from `EndsAll` holds of each kind that has a bound
 pub part_ends : (T : Type 0) (kind : Kind) (Part : Bound → Type 0) → ((bound : Bound) → EndsAll T kind bound → Part bound) → IfSome (lock_free_bound kind) Part
 part_ends T kind Part part = if_some (EndsAll T kind) Part (lock_free_bound kind) part (bounded_ends T kind)
 
 -- ---- robust sets and containers
 
--- what follows of robust index sets, whichever calls begin
+-- of robust index sets all follows that `EndsAll` says, whichever calls begin
 pub robust_ends : (T : Type 0) → EndsAll T Robust room_bound
 robust_ends T = all_end Robust room_bound (robust_room T)
 
--- what follows of containers, whichever calls begin
+-- of containers all follows that `EndsAll` says, whichever calls begin
 pub container_ends : (T : Type 0) → EndsAll T Container room_container_bound
 container_ends T = all_end Container room_container_bound (container_room T)
 
--- what follows of robust index sets where none may lock
+-- of robust index sets all follows that `EndsSuch` says, where none may lock
 pub robust_by_default : (T : Type 0) → EndsSuch T Robust IsDefault default_bound
 robust_by_default T = such_end Robust IsDefault default_bound (robust_default T)
 
--- what follows of containers where none may lock
+-- of containers all follows that `EndsSuch` says, where none may lock
 pub container_by_default : (T : Type 0) → EndsSuch T Container IsDefault default_container_bound
 container_by_default T = such_end Container IsDefault default_container_bound (container_default T)

@@ -409,7 +409,7 @@ pub record OfFamily {T : Type 0} (code : Coding T) (C G E R : Type 0) : Type 1 w
 module _ {T : Type 0} (code : Coding T) {C G E R : Type 0} (of_family : OfFamily code C G E R) where
   open of_family use {want, after, given, outer, wrap, answer, wants as wants_so, goes as goes_so}
 
-  -- each step of such a call is a step of the machine's call
+  -- each step of the family's call is a step of the machine's call
   abbrev pub family_flight : AsFlight code C G (Unit {0}) E
   family_flight =
       record {
@@ -425,7 +425,7 @@ module _ {T : Type 0} (code : Coding T) {C G E R : Type 0} (of_family : OfFamily
         stays = λ c old low. any_low (after c given old);
       }
 
-  -- where such a call runs alone to an end, the machine's call does too
+  -- where the family's call, run alone, ends so that Q holds, and P follows from Q, the machine's call ends so that P holds
   pub family_runs : {Q : E → Unit {0} → List ℕ → Type 0} {P : Answer T → List ℕ → Type 0} {c : C} {words : List ℕ}
       → Runs want after (λ c (room : Unit {0}) old. room) given Q c tt words
       → ((e : E) (room : Unit {0}) (last : List ℕ) → Q e room last → P (answer e) last)

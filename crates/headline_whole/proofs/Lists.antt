@@ -228,7 +228,7 @@ module _ {T : Type 0} (kind : QueueKind) (t : Trace T) (kept : IsKeptBy (of_queu
     abbrev told : List (Event T)
     told = whole_call p (starts.Queues start) since answer
 
-    -- the call answers as the object does, which leaves this list
+    -- if the call is one that the list answers, it answers as the object does
     abbrev SaysAsList : Type 0
     SaysAsList = is_list_call (starts.Queues start) ≡ true → answer ≡ spec.object.answer (list begun) (starts.Queues start)
 
@@ -250,7 +250,7 @@ module _ {T : Type 0} (kind : QueueKind) (t : Trace T) (kept : IsKeptBy (of_queu
           none = λ z. list_is ∙ empty_without_capacity z;
         }
 
-    -- a push or a pop
+    -- after a whole push or pop, which answers as it acts, the values of the list wait
     acts_so : (after : List (Event T)) → t.events ≡ (begun ++ Begun p (starts.Queues start) ∷ since) ++ Finished p (starts.Queues start) answer ∷ after
         → is_push_or_pop (starts.Queues start) ≡ true → is_list_call (starts.Queues start) ≡ true → moments_of start answer ≡ (starts.Queues start, answer) ∷ []
         → spec.object.answer (list begun) (starts.Queues start) ≡ acting.answer (list begun) (starts.Queues start) → ListAfterWhole (begun ++ told)
@@ -261,7 +261,7 @@ module _ {T : Type 0} (kind : QueueKind) (t : Trace T) (kept : IsKeptBy (of_queu
         leaves (λ is. done.0 ∙ sym same) new done.1 (sym (ap (λ (b : Bool). if b then new else list begun) is_call))
         (subst (λ (a : Answer T). list begun ++ put_by start a ≡ out_by start a ++ new) (sym done.0) moves.0) moves.1
 
-    -- a call that moves no value
+    -- after a whole call that moves no value, and says what the object says, the values of the list wait
     moves_none : moments_of start answer ≡ [] → put_by start answer ≡ [] → out_by start answer ≡ []
         → SaysAsList → LeavesList (list begun) → ListAfterWhole (begun ++ told)
     moves_none acts_not puts_none takes_none said so =

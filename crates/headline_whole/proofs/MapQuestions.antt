@@ -262,7 +262,7 @@ module _ {T : Type 0} (code : Coding T) (capacity : ℕ) where
       in_place [] a rest = refl
       in_place (b ∷ before) a rest = in_place before a rest
 
-      -- The question after those that were put is about the index of the next owner's entry.
+      -- The question after those that were put is about the index of `o`, the first that is still to be asked about.
       placed : (before : List Asked) (o : Owned) (rest : List Owned)
           → slice_index (map (λ (o : Owned). o.index) (asked_questions before ++ o ∷ rest)) (length before) ≡ o.index
       placed [] o rest = refl

@@ -63,7 +63,7 @@ module _ {T : Type 0} (C : Course T) where
 
     module _ (s : C.State) (turns p : ℕ) (start : Start T) (flight : Flight T) (words next_words : List ℕ) (kept : Registry T)
         (beside : Option (ℕ × ℕ)) (old : ℕ) (agrees : Agree start flight kept) where
-      -- After its step the call goes on with fewer questions to ask, or it has ended as the object says.
+      -- After its step the call goes on and asks fewer than n questions, or it has ended as the object says.
       came : (n : ℕ) (told : List (Decision T)) (a : After (Flight T) (Answer T)) → after_of code flight old ≡ a
           → Turns code (EndsAsObject s turns p start) (λ told f ws. Talks code (EndsAsObject s turns p start) n told f ws) told a next_words
           → IsAfterStep C talking s turns p start told a next_words (step_of code words beside p start flight old kept).kept

@@ -1,4 +1,4 @@
--- A call of the crate `steps` that puts one question after another, as a call of a machine that talks to its end.
+-- A call of the crate `steps` that puts one question after another is a call of a machine that talks to its end.
 use Rattle.std.proofs.Common.{◌≡◌, ℕ, zero, suc, ◌+◌, ◌-◌, ◌^◌, ◌<◌, Bool, Some, List, ◌++◌, sym, subst, arith}
 use Rattle.steps.specs.declared.ask.After.{After}
 use Rattle.steps.specs.declared.ask.After.TheVariants.{GoOn, Done}
@@ -29,7 +29,7 @@ module _ {T C G M E : Type 0} (code : Coding T) (as_flight : AsFlight code C G M
   LeadsTo Under (GoOn d) room told words = Under (record { call = d; room = room; told = told; words = words })
   LeadsTo Under (Done e) room told words = P told (answer e room) words
 
-  -- the machine's call after such a step: `rest` holds of it, or it has ended and P holds
+  -- where `rest` follows from `Under`, after a step with `LeadsTo` `rest` holds of the machine's call, or it has ended and P holds
   leads : (Under : Standing T C M → Type 0) (rest : List (Decision T) → Flight T → List ℕ → Type 0)
       → ((z : Standing T C M) → Under z → rest z.told (flight z.call z.room) z.words)
       → (a : After C E) (room : M) (told : List (Decision T)) (words : List ℕ) → LeadsTo Under a room told words

@@ -23,7 +23,7 @@ module _ {T State : Type 0} (spec : Specification T State) where
     pub legal : AnswersAs spec events
     pub stands : standing spec.object (answered spec.is_call events) ≡ object
 
-  -- more events, of which none ends a call
+  -- more events, of which none ends a call, add no answer
   more_answered : (events es : List (Event T)) → NoneEnds es → answered spec.is_call (events ++ es) ≡ answered spec.is_call events
   more_answered events es none =
       flat_map-append (whole.answer_in spec.is_call) events es
@@ -39,7 +39,8 @@ module _ {T State : Type 0} (spec : Specification T State) where
         stands = ap (λ (xs : List (Start T × Answer T)). standing spec.object xs) same ∙ has_answered.stands;
       }
 
-  -- a call ends
+  -- where a call ends, with the object's answer if the call is one of the object's, the answers are still those of the
+  -- object, which is then as it is after this call
   pub once_more : (object : State) (events wrote : List (Event T)) (p : ℕ) (start : Start T) (answer : Answer T) → NoneEnds wrote
       → (spec.is_call start ≡ true → answer ≡ spec.object.answer object start) → HasAnswered object events
       → HasAnswered (if spec.is_call start then spec.object.after object start else object) (events ++ (wrote ++ Finished p start answer ∷ []))

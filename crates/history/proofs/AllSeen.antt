@@ -254,7 +254,7 @@ module _ {T : Type 0} where
       early : events ≡ [] → v.seen ≡ events
       early events_are_empty = none_left v.seen mine_seen.rest (sym events_are_empty ∙ mine_seen.is) ∙ sym events_are_empty
 
-      -- where the joined view knows all events, all is known
+      -- if the joined view has seen all events, all is known after the join (`Known`)
       joined : HasSeen (joined_view v w) events → Known both events
       joined all =
           record { shares = shares; by = id; last = joined_view v w; at = there; any = more part; all = all; someone = known.someone; spent = spent }

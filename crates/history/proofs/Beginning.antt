@@ -6,8 +6,8 @@ use Rattle.history.specs.History.{IsRun}
 use Rattle.history.specs.Known.{owned}
 use Rattle.history.specs.Stages.{Calling, At, Starts}
 
--- A call is about to begin on a pass that has no call under way, knows one history alone and has a share: what holds
--- of the call holds of this stage, the model has the call at this stage, a party of the pass may begin it on each
+-- On a pass that has no call under way, knows one history alone and has a share, a call is about to begin (`At`), if its
+-- stage is one at which such a call stands, the model begins it at this stage, a party of the pass may begin it on each
 -- machine that fits what the pass made, and it may have written nothing yet.
 pub at_begin : {T C M E : Type 0} {code : Coding T} {kind : Kind} {call : Calling T C M E} {x : View T} {c : C} {m : M}
     → x.going ≡ None → x.other ≡ [] → 0 < x.share.part → call.stands x.capacity c

@@ -104,7 +104,7 @@ module _ {T C M E : Type 0} (machines : Machines T) (call : Calling T C M E) whe
     pub as_party : v.going ≡ Some (call.start, call.flight c m) → v.party ≡ Some p
     -- a call that is no look of a state finds the state that the view has
     pub state : LeavesState call → v.party ≡ Some p → state_in u.world.kept p ≡ v.state
-    -- no step has been taken since
+    -- what all seats have asked for, and what this one has, is counted right by the steps of the run
     pub have : HaveAsked s.views (steps_of_run code kind key between.one.turns)
     pub has : HasAsked v (steps_of_run code kind key between.one.turns)
 
@@ -146,7 +146,7 @@ module _ {T C M E : Type 0} (machines : Machines T) (call : Calling T C M E) whe
         (λ (e : v.other ≡ r.trace.events). none_after v.seen here.seen.rest (sym (sym here.seen.is ∙ (sym e ∙ alone))))
         (known_whole id at all r.known)
 
-    -- a pass with a share has seen all events of its parties, but for what is late
+    -- if what the seat has seen of a party and what is late are all of its events, what the seat has still to see of it is late
     not_seen : (p : ℕ) → events_by p v.seen ++ events_by p here.late ≡ events_by p r.trace.events → events_by p here.seen.rest ≡ events_by p here.late
     not_seen = grind (arith, same_rest, by_more)
 

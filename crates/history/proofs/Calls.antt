@@ -59,17 +59,17 @@ module _ {T : Type 0} where
   answer_other w p q ne x ask n (Over others) = refl
   answer_other w p q ne x ask n (Going flight since) = party_put_other q p _ w.latest ne
 
-  -- so does a step of another party
+  -- a step of another party leaves this party's latest call
   latest_next : (w : World T) (p q : ℕ) → q ≢ p → (o : Option (Party T)) → party_of q (after_next w p o).latest ≡ party_of q w.latest
   latest_next = grind (arith, answer_other)
 
-  -- so does a begin of another party
+  -- a begin of another party leaves this party's latest call
   latest_begin : (w : World T) (p q : ℕ) (start : Start T) → q ≢ p → (o : Option (Flight T))
       → party_of q (after_begin w p start o).latest ≡ party_of q w.latest
   latest_begin w p q start ne None = refl
   latest_begin w p q start ne (Some flight) = party_put_other q p _ w.latest ne
 
-  -- so does an answer to a question of another party's call
+  -- an answer to a question of another party's call leaves this party's latest call
   latest_decision : (w : World T) (p q : ℕ) (said : Bool) → q ≢ p → (o : Option (Party T))
       → party_of q (after_decision w p said o).latest ≡ party_of q w.latest
   latest_decision w p q said ne None = refl

@@ -87,6 +87,7 @@ module _ {T C M E Asks : Type 0} (machines : Machines T) (driven : Driven T C M 
           past = λ k. is_call.past base.capacity c d n k standing leads;
           tells = is_call.tells (writing machines call step stage) d leads;
           steps = steps_so base stage;
+          -- the step asked for a word, so no operation is aside
           word = refl;
         }))
     known_then base stage (Done end) leads =

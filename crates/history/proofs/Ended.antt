@@ -58,7 +58,7 @@ module _ {T : Type 0} where
   one_ending p start None = omega arith
   one_ending p start (Some answer) = omega arith
 
-  -- of the end of a call with this answer, and events ys behind it
+  -- the events of a turn have the end of a call with this answer, and `ys` stand behind it
   module _ (p : ℕ) (start : Start T) (answer : Answer T) (ys : List (Event T)) where
     -- an end of a call among the events of a turn is the last of them, where the turn's effects end no call
     last_of : (wrote tail xs : List (Event T)) → ends wrote ≡ 0 → length tail ≤ 1 → wrote ++ tail ≡ xs ++ Finished p start answer ∷ ys → ys ≡ []

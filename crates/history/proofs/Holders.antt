@@ -253,8 +253,8 @@ module _ {T : Type 0} (c : ℕ) where
     -- at most the capacity waits
     pub few : length (waiting events) ≤ c
 
-  -- with one event more, which publishes or takes out rightly, what was published is still what was taken out
-  -- and what waits
+  -- with one event more, which publishes or takes out rightly, what was published is still what was taken out and what
+  -- waits, and at most the capacity waits
   one_more : (before : List (Event T)) (e : Event T) → KeepsList c before e → IsListed before → IsListed (before ++ e ∷ [])
   -- a value is published: it comes behind those that wait, of which there were fewer than the capacity
   one_more before (Published p x) room listed =

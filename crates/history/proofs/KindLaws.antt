@@ -34,7 +34,8 @@ module _ {T : Type 0} where
       pub goes : (x : Party T) (n : ℕ) → party_of p t.world.latest ≡ Some x
           → (step_in t.world p x flight n).after ≡ goes_of t.world.coding p flight n t.world.kept
 
-    -- the laws of a kind whose calls may go on by what the machine keeps
+    -- the laws of a kind whose calls may go on by what the machine keeps: its machines have so many words, each call under
+    -- way goes on, and only a look of a party's state changes that state
     pub record KeptLaws : Type 0 where
       pub size : (t : Trace T) → IsRun code kind capacity t → length t.world.words ≡ words
       pub steps_on : (t : Trace T) → IsRun code kind capacity t → (p : ℕ) (start : Start T) (flight : Flight T)
@@ -44,7 +45,8 @@ module _ {T : Type 0} where
           → refusal_as kind t.world turn ≡ None → (q : ℕ) → is_look_of t.world q turn ≡ false
           → state_in (after_turn t turn).world.kept q ≡ state_in t.world.kept q
 
-    -- the laws of a kind whose calls go on by their stage alone
+    -- the laws of a kind whose calls go on by their stage alone: its machines have so many words, each call under way goes
+    -- on, and what a machine keeps changes no call
     pub record MachineLaws : Type 0 where
       pub size : (t : Trace T) → IsRun code kind capacity t → length t.world.words ≡ words
       pub steps_on : (t : Trace T) → IsRun code kind capacity t → (p : ℕ) (start : Start T) (flight : Flight T)
@@ -140,7 +142,7 @@ SteadyMachines T = MachinesOf {T = T} MachineLaws
 abbrev pub LoneMachines : Type 0 → Type 0
 LoneMachines T = MachinesOf {T = T} KindLaws
 
--- machines whose calls go on by their stage alone are such machines too
+-- machines whose calls go on by their stage alone are also machines whose calls may go on by what the machine keeps
 abbrev pub kept_machines : {T : Type 0} → SteadyMachines T → Machines T
 kept_machines m =
     record {

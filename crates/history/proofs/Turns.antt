@@ -65,7 +65,7 @@ module _ {T : Type 0} where
       pub idle : (q : ℕ) → owner q ≡ id → q ≢ p → call_in u.world q ≡ None
       -- what the seat made, with what it gained, are the events of its parties
       pub made_own : (v : View T) → get_elem? s.views id ≡ some v → (f : Event T → ℕ) → sum_by f v.made + sum_by f gained ≡ sum_by (owned owner id f) u.events
-      -- a party with the number of a seat belongs to a seat; one without a seat has done nothing, but for p
+      -- a party with the number of a seat belongs to a seat, and any other is its own owner and, but for p, has done nothing
       pub inside : (q : ℕ) → q < length s.views → owner q < length s.views
       pub fresh : (q : ℕ) → length s.views ≤ q → owner q ≡ q
       pub further : (j : ℕ) → j ≢ p → length s.views ≤ j → call_in u.world j ≡ None

@@ -1,5 +1,5 @@
--- A history of the single value is linearizable as one value, and a load's value is that of the last store before it; one
--- of a queue of values is linearizable as the bounded list.
+-- A history of the single value is linearizable as one value, a load's value is that of the last store before it, and the
+-- version is one more than the number of stores.
 use Rattle.history.proofs.Names.{◌≡◌, ℕ, ◌+◌, ◌<◌, List, [], ◌∷◌, ◌++◌, fold, length, map, replicate, slice_index}
 use Rattle.history.proofs.Names.{refl, sym, ap, subst, ◌∙◌, arith, Loaded, Event, Acted, Coding, AnswersRight}
 use Rattle.history.proofs.Names.{IsLinearizable, as_value, IsLinearized, Each, moments, Trace}

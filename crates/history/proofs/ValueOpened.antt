@@ -1,5 +1,5 @@
--- A table of a single value opens with a history in which party 0 has stored the value as often as its
--- version says (`value_opens`).
+-- A table of a single value opens with a history in which party 0 has stored the value one time less than its version
+-- says, and once at least (`value_opens`).
 use Rattle.history.proofs.Names.{◌≡◌, ℕ, zero, suc, ◌+◌, ◌-◌, ◌*◌, ◌%◌, ◌^◌, ◌<◌, ◌≤◌, ◌==◌, nat_lt, true, false}
 use Rattle.history.proofs.Names.{Option, Some, None, List, [], ◌∷◌, ◌++◌, length, drop, set, get_or, replicate}
 use Rattle.history.proofs.Names.{slice_set, refl, sym, ap, subst, ◌∙◌, append_assoc, arith, nat_tests}

@@ -86,7 +86,8 @@ module _ {T : Type 0} (adding : Adding T) (stage : AcquireStage)
     still : (y : Party T) → OwesStill scene y
     still y = owes_none scene y here refl
 
-    -- a step that leaves the words ends an add with this failure, where that answer is right and as the add has done
+    -- a step that leaves the words ends an add with this failure, if the answer is right and as the add has done, and the step is
+    -- paid for and within the bound of steps
     fails_with : (failure : ContainerAddFailure) (ask : Option Ask) (back : Bool) → words_after ws ask ≡ ws
         → AnswersBy scene.terms.by (set_invariant.IsWorn scene.terms.by (words_after ws ask)) c events (Finished p (Container start) (NoPlace failure))
         → HasDone start (NoPlace failure) (all scene) (done scene) → set_knows.IsPaid (set_stages.sees (of_set scene) ask back)

@@ -95,7 +95,7 @@ module _ {T : Type 0} where
 
 -- ---- a step of a party's call
 
--- the run up to this turn is sound; `x` is the call of party `q`
+-- the run up to this turn is sound and may go on; `x` is the call of party `q`
 module _ {T : Type 0} (run : SoundRun T) (q : ℕ) (x : Party T) (since : ℕ) (found : party_of q run.trace.world.latest ≡ Some x) where
   open run use {shown, terms, code, trace as t, sound}
 
@@ -123,7 +123,7 @@ module _ {T : Type 0} (run : SoundRun T) (q : ℕ) (x : Party T) (since : ℕ) (
 
 -- ---- any turn
 
--- the run up to this turn is sound
+-- the run up to this turn is sound and may go on
 module _ {T : Type 0} (run : SoundRun T) where
   open run use {trace as t}
 

@@ -72,7 +72,7 @@ module _ {T : Type 0} (run : SoundRun T) (q : ℕ) (x : Party T) (since : ℕ) (
 
 -- ---- any turn
 
--- a turn from a sound machine
+-- the run up to this turn is sound and may go on
 module _ {T : Type 0} (run : SoundRun T) (turn : Turn T) where
   open run use {trace as t}
 

@@ -1,4 +1,4 @@
--- No owner dies in an open run, so none of the container's calls is refused for a dead owner.
+-- No owner dies in an open run, so no step of a call of the container is refused for a dead owner.
 use Rattle.laws_container.proofs.Names.{◌≡◌, ℕ, false, Some, None, List, ◌++◌, refl, sym, subst, ◌∙◌, arith}
 use Rattle.laws_container.proofs.Names.{AllByRecursion, Event, Died, Start, Container, Flight, Registry}
 use Rattle.laws_container.proofs.Names.{ContainerFlight, Next, Coding, beside_of, step_of, going_rows, after}

@@ -348,7 +348,7 @@ module _ {T : Type 0} (scene : Scene T) (inv : Inv scene) where
             (backs_then scene false))
         paid_then = grind (arith, inl, count_at, inr)
 
-        -- after the load of a word the look has copied one word more
+        -- after the load of a word the look has copied one word more, and a failed check is still paid for
         knows_then : (k : ℕ) → at + 1 ≡ k
             → (words' : List ℕ) (states' : List (ℕ × ContainerState T)) (latest' : List (ℕ × Party T)) (es' : List (Event T))
             → IsAfterLookStep (record { terms = scene.terms; words = words'; latest = latest'; events = es' }) None → state_of p states' ≡ Some with_it

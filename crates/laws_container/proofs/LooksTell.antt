@@ -114,7 +114,7 @@ look_counts size c stage = grind arith
 
 -- ---- a step in which a look ends
 
--- a run that is sound, and a look that its next turn ends
+-- a run that is sound and may go on, and a look that its next turn ends
 pub record EndingLook (T : Type 0) : Type 0 where
   pub run : SoundRun T
   -- party `party` ends the look of the name `start` with `answer`, and before that writes the events `wrote` in the turn

@@ -241,7 +241,7 @@ module _ {T : Type 0} where
   abbrev pub measure : ℕ → ℕ → WordMeasure T
   measure size c = record { left = left size c; pays = pays c; alone = c * (size + 7) + max 2 size; changes = max 2 c }
 
-  -- the begin and the call are of a container, and the call stands so
+  -- the begin and the call are of a container, and `Stands` holds of the call
   abbrev pub AreOfContainer : (ContainerFlight T → Type 0) → Start T → Flight T → Type 0
   AreOfContainer Stands (starts.Container start) (flights.Container flight) = Stands flight
   AreOfContainer Stands start flight = ⊥

@@ -220,7 +220,7 @@ module _ {T : Type 0} (code : Coding T) (c : ℕ) (words : List ℕ) where
   recover_falls owner room (recovers.Locks index lock) stands = absurd stands
   recover_falls owner room recovers.LoadsCounterAgain stands = go (now == locked)
     where
-      -- the cases are whether the counter is locked
+      -- the measure falls alike whether the counter is locked or not
       go : (t : Bool) → StepFalls (recovering owner room recovers.LoadsCounterAgain)
       go t = inl (load_leaves words 0, omega arith, omega arith)
   recover_falls owner room (recovers.AddsChange end) stands = tt

@@ -86,7 +86,7 @@ module _ {T : Type 0} (code : Coding T) (c : ℕ) (words : List ℕ) where
     given = record { index = index; owner = owner; mode = mode }
 
     -- where a step leaves the release of a remove fewer steps or the counter less room, it leaves the remove
-    -- fewer steps or the counter less room
+    -- fewer steps or the counter less room (`went_on ..` is how the remove goes on, or its answer, where its release came to a)
     released : (n' was count : ℕ) (a : After releasing.Release Released) → ReleaseTo c n n' was a → StaysOrMoves c n n'
         → (new : List ℕ) → get_or new 0 0 ≡ n' → (stage : ReleaseStage) → release_left c n stage ≡ was
         → CallTo code.size c words new 1 (remove (removes.Releases count stage))

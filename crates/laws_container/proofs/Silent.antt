@@ -1,5 +1,5 @@
 -- Steps that change no word, and write events that change nothing of the set nor of what stands: copies, what is shown, questions,
--- and the end of any call but of an add or a replace that has placed its value.
+-- and the end of any call except an add or a replace that has placed its value.
 use Rattle.laws_container.proofs.Names.{◌≡◌, ℕ, Bool, Option, List, [], ◌∷◌, ◌++◌, length, get_or, fold, refl, ap}
 use Rattle.laws_container.proofs.Names.{◌∙◌, arith, AllByRecursion, Event, Asked, Told, Copied, Shown, Finished}
 use Rattle.laws_container.proofs.Names.{Container, ContainerStart, Party, contents_after, announced_after}
@@ -16,7 +16,7 @@ use Rattle.laws_container.proofs.Turns.{WellFormed}
 use Rattle.model.specs.declared.event.Answer.TheVariants.{NoPlace, NotRemoved}
 
 module _ {T : Type 0} where
-  -- the end of any call but of an add or a replace that has placed its value
+  -- the answer ends a call that is no add and no replace, or it says that the add or the replace has failed
   abbrev pub EndsSilently : ContainerStart T → Answer T → Type 0
   EndsSilently (Add value owner) (NoPlace failure) = Unit {0}
   EndsSilently (Add value owner) answer = ⊥

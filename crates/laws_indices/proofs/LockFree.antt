@@ -141,7 +141,7 @@ module _ (c : ℕ) (old new : List ℕ) (same : head_of new ≡ head_of old) (fe
 
 -- ---- the measure falls with each step
 
--- where each of two numbers is less than another, the one that a test chooses is
+-- where each of two numbers is less than its bound, the number that a test chooses is less than the bound that the test chooses
 one_less : (t : Bool) (a b more_a more_b : ℕ) → a + 1 ≤ more_a → b + 1 ≤ more_b → cond t a b + 1 ≤ cond t more_a more_b
 one_less true a b more_a more_b first second = first
 one_less false a b more_a more_b first second = second

@@ -61,7 +61,7 @@ module _ {T : Type 0} {slots queue : ℕ} {s : Channel T} {busy : ℕ} (holds : 
   submission_old want on =
       rw (← set_long) (shifted_old s.set submission completion few_before want on)
 
-  -- an operation on a word of the submission queue changes of the whole only the queue, whose words are then these
+  -- an operation on a word of the submission queue after which the words of the queue are `ws` changes nothing else of the whole
   pub submission_words : (want : Want (Unit {0})) → IsOn submission want → {ws : List ℕ} → words_after submission (ask_of want) ≡ ws
       → words_after (words_in s) (ask_of (shifted (submission_word slots) want)) ≡ s.set ++ (ws ++ completion)
   submission_words want on words =
@@ -86,7 +86,7 @@ module _ {T : Type 0} {slots queue : ℕ} {s : Channel T} {busy : ℕ} (holds : 
       ap (λ ws. old_of ws (ask_of (shifted (completion_word slots queue) want))) (last completion)
       ∙ rw (← both_long) (shifted_old (s.set ++ submission) completion [] few_in_all want on)
 
-  -- an operation on a word of the completion queue changes of the whole only the queue, whose words are then these
+  -- an operation on a word of the completion queue after which the words of the queue are `ws` changes nothing else of the whole
   pub completion_words : (want : Want (Unit {0})) → IsOn completion want → {ws : List ℕ} → words_after completion (ask_of want) ≡ ws
       → words_after (words_in s) (ask_of (shifted (completion_word slots queue) want)) ≡ s.set ++ (submission ++ ws)
   completion_words want on words =

@@ -52,7 +52,7 @@ pub record SetStep (T : Type 0) : Type 0 where
   pub ask : Option Ask
   pub set_then : List ℕ
 
--- the step with this operation of the sender's call, which has this span, where it leaves these words of the indices
+-- the step of the sender's call with this span that takes the operation `ask`, after which the words of the indices are `set_then`
 abbrev pub set_step : {T : Type 0} → (scene : Scene T) → HoldsIn scene → scene.caller.backs ≡ 0 → {start : LoanStart} {wrote : List (Event T)}
     → span_of 0 scene.state.events ≡ Open (starts.Loan start) wrote → Option Ask → List ℕ → SetStep T
 set_step scene holds straight {start} {wrote} from ask set_then =

@@ -78,7 +78,7 @@ module _ {T : Type 0} (scene : Scene T) (index : ℕ) where
     pub channel_then : Channel T
     pub step : StepTo channel_then (push_wrote queue s.submission index stage) stage (goes stage (old stage)) (effect_at stage (old stage))
 
-  -- the step is the one with this result, as the call computes it
+  -- the step is the one with this result, as the call computes it: what it wrote, how the send goes on, and its effect
   pub does_by : {s' : Channel T} {stage : PushStage} {wrote : List (Event T)} {after : After LoanFlight (Answer T)} (effect : Effect)
       → StepTo s' wrote stage after effect
       → push_wrote queue s.submission index stage ≡ wrote → goes stage (old stage) ≡ after → effect_at stage (old stage) ≡ effect → StageKeeps stage
@@ -124,7 +124,7 @@ module _ {T : Type 0} (scene : Scene T) (index : ℕ) where
       abbrev set_step : PushStage → rests.SetStep T
       set_step now = rests.set_step scene holds straight from (asked now) s.set
 
-      -- a load that changes nothing leads the send on from the stage `now`
+      -- a load that changes nothing leads the send on from the stage `now` to the stage `after_it`
       abbrev LeadsTo : PushStage → PushStage → Type 0
       LeadsTo now after_it = StepTo (record s { events = s.events ++ [] }) [] now (GoOn (pushes_at slots queue after_it index)) effects.Quiet
 
@@ -192,11 +192,11 @@ module _ {T : Type 0} (scene : Scene T) (index : ℕ) where
         as_was : span_of 0 (s.events ++ []) ≡ Open start []
         as_was = ap (span_of 0) (append-nil s.events) ∙ from
 
-        -- at most the capacity waits
+        -- no more indices wait in the submission queue than its capacity
         few_wait : length s.submission.waiting ≤ queue
         few_wait = subst (Hangs queue s.submission) (ap (hung s.submission.read) here) holds.hangs
 
-        -- so there is a cell for the index
+        -- the submission queue has a cell for the index
         below : length s.submission.waiting < queue + 1
         below = omega (arith, few_wait)
 
@@ -221,6 +221,6 @@ module _ {T : Type 0} (scene : Scene T) (index : ℕ) where
             (λ q ne i e. ap (spot_of i) (append-nil s.events) ∙ e) in
             grind (arith, shows_on, as_was)
 
-        -- so the step of the send at its store into the cell keeps the invariant
+        -- the step of the send at its store into the cell keeps the invariant
         pub stores_cell : StageKeeps store
         stores_cell = record { channel_then = s_on; step = leads_on }

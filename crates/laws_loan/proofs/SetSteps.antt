@@ -39,7 +39,8 @@ claims_then index releases.Subtracts hs = hs
 pub claims_for : (index : ℕ) (claims : List (Option ℕ)) (stage : ReleaseStage) → release_counts stage ≡ 1 → claims_then index stage claims ≡ claims
 claims_for = grind arith
 
--- a release that goes on is counted in the head, and one that has ended is not
+-- A release that goes on is counted in the head, and its stage is a step further. One that has ended is not counted, and
+-- has taken 5 steps at most.
 abbrev pub ReleaseLeads : ℕ → ReleaseStage → List ℕ → List (Option ℕ) → After (Release DefaultMode) ReleaseState → Type 0
 ReleaseLeads c stage ws hs (GoOn release) =
     Good c ws hs 1 × (release_counts release.stage ≡ 1) × (release_number stage 0 + 1 ≤ release_number release.stage 0)
@@ -70,7 +71,7 @@ module _ (c index : ℕ) (below : index < c) (ws : List ℕ) (hs : List (Option 
 
   -- while the release is counted in the head, the set is not locked
   module _ (set_good : Good c ws hs 1) where
-    -- the head counts the acquire, and at most the capacity
+    -- the head counts the release, so at least 1, and at most the capacity
     counted : (1 ≤ counted_in ws) × (counted_in ws ≤ c)
     counted = let one_counted = some_counted c ws hs 0 set_good in (one_counted.0, one_counted.2)
 

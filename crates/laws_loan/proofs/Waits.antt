@@ -22,7 +22,7 @@ use Rattle.laws_loan.proofs.Parts.{set_long, both_long}
 pub cell_place : (c position : ℕ) → 0 < c → cell_word c 1 position ≡ 4 + 1 * (position % c)
 cell_place = grind arith
 
--- the words of an index are of a coding
+-- an index is coded in one word, from which it is read back
 index_words : IsCoding one_word
 index_words = record { some = omega arith; few = omega arith; sized = λ v. refl; given_back = λ v. refl }
 

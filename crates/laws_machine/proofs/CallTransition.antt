@@ -65,7 +65,7 @@ module _ {T : Type 0} (F : Family T) (t : Trace T) (sound : Sound F t) (p : ℕ)
 
   -- what a turn of a call under way writes is what its step writes
   module _ {flight : Flight T} (call : IsUnderWay flight) where
-    -- the step of the call that is handed the old value of its word
+    -- the turn `Next` of the party writes the events of the step that is handed the old value of the call's word
     pub next_wrote : events_of t.world (Next p)
         ≡ events_of_step p call.party.start
         (step_in t.world p call.party flight (old_of t.world.words (ask_of (want_of t.world.coding flight))))
@@ -73,7 +73,7 @@ module _ {T : Type 0} (F : Family T) (t : Trace T) (sound : Sound F t) (p : ℕ)
         ap (events_of_next t.world p) call.found
         ∙ ap (λ d. events_of_answer t.world p call.party (old_of t.world.words (ask_of_doing t.world.coding d)) d) call.doing
 
-    -- the step of the call that is handed the decision
+    -- an answer to the call's question writes the events of the step that is handed the decision
     pub decision_wrote : (said : Bool)
         → events_of t.world (Decide p said) ≡ events_of_step p call.party.start (step_in t.world p call.party flight (number_of said))
     decision_wrote said =

@@ -51,7 +51,7 @@ module _ {T : Type 0} (code : Coding T) (c : ℕ) (ws : List ℕ) (state : Optio
   abbrev IsRaised : Type 0
   IsRaised = change_at c (words_after ws (Some (adds_one (change_word c)))) ≡ change_at c ws + 1
 
-  -- where that is so, each step of this call counts as `StepCounts` says
+  -- where adding 1 raises the number of changes (`IsRaised`), each step of this call counts as `StepCounts` says
   abbrev pub CountsSo : ContainerStart T → ContainerFlight T → Type 0
   CountsSo start flight = IsRaised → (old : ℕ) → StepCounts start flight old
 

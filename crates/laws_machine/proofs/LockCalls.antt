@@ -60,7 +60,7 @@ module _ {T : Type 0} where
   all_own p (e ∷ es) start outcome all_of_party = (all_of_party.0, all_own p es start outcome all_of_party.1)
 
 module _ (T : Type 0) where
-  -- `LocksRight` holds of each event that is no end, whatever stands before it
+  -- `LocksRight` holds of each event that a step of a call writes, the end of the call aside, whatever stands before it
   pub effects_free : (p : ℕ) (call : RobustFlight) (old : ℕ) → AllByRecursion (IsFree {T = T}) (effects {T = T} p call old)
   effects_free = grind (arith, effects_hold)
 
@@ -99,7 +99,7 @@ module _ {T : Type 0} (c p : ℕ) (events : List (Event T)) where
               (ends (answer_in (any_call (after {T = T} call answer))));
         }
       where
-        -- the end of the call locks nothing, so it is right
+        -- if the step ends the call, this end is right, since it is so whatever stands before it
         ends : (o : Option (Answer T)) → AreRight LocksRight (events ++ effects p call answer) (ending_of p (Robust start) o)
         ends None = tt
         ends (Some a) = (free a (events ++ effects p call answer), tt)
@@ -125,7 +125,7 @@ module _ {T : Type 0} (c p : ℕ) (events : List (Event T)) where
     knows : (a : After recover_calls.Recover ReleaseState) → Tells c mode p (events ++ did) a → FlightKnows c p (left_by (as_any a)) (events ++ (did ++ ends a))
     knows = grind (arith, append-nil)
 
-    -- the end of a recovery is right
+    -- if the step ends a recovery, and tells what `Tells` asks, the end is right
     ends_right : (m : ReleaseMode) (a : After recover_calls.Recover ReleaseState) → Tells c m p (events ++ did) a
         → AreRight LocksRight (events ++ did)
         (ending_of p (Robust (starts.Recover m))

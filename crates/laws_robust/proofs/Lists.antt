@@ -15,7 +15,7 @@ module _ {A : Type 0} where
   all_either P true xs ys left right = left
   all_either P false xs ys left right = right
 
-  -- what follows from `P` holds of all elements of which `P` holds
+  -- if `P` holds of all elements of a list, and `Q` follows from `P`, then `Q` holds of all of them
   pub all_so : (P Q : A → Type 0) (xs : List A) → ((x : A) → P x → Q x) → AllByRecursion P xs → AllByRecursion Q xs
   all_so P Q [] follows all_hold = tt
   all_so P Q (x ∷ xs) follows all_hold = (follows x all_hold.0, all_so P Q xs follows all_hold.1)

@@ -162,11 +162,12 @@ module _ {T : Type 0} where
   abbrev pub measure : ℕ → WordMeasure T
   measure c = record { left = λ words flight. left_at c (get_or words 0 0) flight; pays = pays c; alone = 4 * c + 1; changes = c }
 
-  -- the begin and the call are of a robust index set, and the call stands so
+  -- the begin and the call are of a robust index set, and `Stands` holds of the call
   abbrev pub AreOfSet : (RobustFlight → Type 0) → Start T → Flight T → Type 0
   AreOfSet Stands (starts.Robust start) (flights.Robust flight) = Stands flight
   AreOfSet Stands start flight = ⊥
 
+  -- the call is one of a robust index set, at a stage where the measure needs it
   abbrev pub At : Coding T → ℕ → Start T → Flight T → Type 0
   At code c start flight = AreOfSet (CallStands c) start flight
 

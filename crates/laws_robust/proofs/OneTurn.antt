@@ -1,5 +1,5 @@
--- A step or a decision of a party. Where the party has no call under way, the machine stays as it is and the turn writes nothing. So what is to
--- be shown of the machine after the turn and of what the turn writes is shown in that case, and of the turn of a call under way.
+-- A step or a decision of a party. Where the party has no call under way, the machine stays as it is and the turn writes nothing. So a
+-- property of the machine after the turn and of the events of the turn has to be shown in that case, and for the turn of a call under way.
 use Rattle.laws_robust.proofs.Names.{◌≡◌, ℕ, Bool, Option, Some, None, List, [], refl, ap, ◌∙◌, Ask, Event, Flight}
 use Rattle.laws_robust.proofs.Names.{Doing, Going, Over, Party, want_of, ask_of, party_of, doing_of, flight_of}
 use Rattle.laws_robust.proofs.Names.{old_of, number_of, ask_of_doing, events_of_answer, events_of_next}

@@ -17,7 +17,7 @@ all_the_same x (suc n) (suc i) below = all_the_same x n i (omega arith)
 pub opening_cell : (c i : ℕ) → i < c → cell (opening_words c) i ≡ empty
 opening_cell = grind (arith, suc, opening_words, all_the_same, empty)
 
--- words whose counter is 0 and whose cells are empty are those of a set in which no index is filled and nobody has died
+-- before any event the invariant (`Good`) holds of words whose counter is 0 and whose cells, at least one and fewer than 2^32, are empty
 pub unfilled_good : {T : Type 0} {by : GoneBy} {c : ℕ} {words : List ℕ} → 1 ≤ c → c < 2 ^ 32 → c + 1 ≤ length words → counter_of words ≡ 0
     → ((i : ℕ) → i < c → cell words i ≡ empty) → Good {T = T} by c words [] [] 0
 unfilled_good some few wide at_zero cells =

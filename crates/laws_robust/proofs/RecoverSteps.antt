@@ -93,7 +93,7 @@ module _ {T : Type 0} (scene : Scene T) (inv : Inv scene) (mode : ReleaseMode) (
       abbrev telling : List (Event T)
       telling = Told p index owner ∷ []
 
-      -- the step that gets a yes writes no word and one event
+      -- the step that gets a yes changes no word, and does what a turn may do
       tells_does : Does scene ws telling
       tells_does = quietly scene inv ws telling (stays_same scene inv ws refl).leaves (quiet_told) (refl, tt) (tt, tt) (tt, tt)
 

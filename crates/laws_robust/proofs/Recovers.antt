@@ -283,7 +283,7 @@ module _ {T : Type 0} (scene : Scene T) (inv : Inv scene) (mode : ReleaseMode) (
     abbrev load : Option Ask
     load = Some (loads (cell_word index))
 
-    -- the indices asked about are below the next one
+    -- the recovery is in its course also as it comes past this index: the indices asked about are below the next one
     course_next : IsInCourse c index (index + 1) done
     course_next =
         record {
@@ -322,7 +322,7 @@ module _ {T : Type 0} (scene : Scene T) (inv : Inv scene) (mode : ReleaseMode) (
       is_filled : (cell ws index < empty) × (filled_of index events ≡ Some (cell ws index))
       is_filled = filled_some scene inv index course.within other
 
-      -- the step that asks writes no word and one event
+      -- the step that asks changes no word, and does what a turn may do
       asks_does : Does scene (words_after ws load) asking
       asks_does =
           quietly scene inv (words_after ws load) asking

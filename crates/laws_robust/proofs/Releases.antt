@@ -89,7 +89,8 @@ module _ {T : Type 0} {scene : Scene T} (inv : Inv scene) {index owner : ℕ} (f
     abbrev EndShows : List ℕ → ReleaseMode → ReleaseState → Type 0
     EndShows words' m state = Ends releasing words' m state
 
-    -- a step that ends the release with this state keeps the invariant (`Shows`), where that answer is right and as the release has done
+    -- a step that ends the release with this state keeps the invariant (`Shows`), if the answer is right and as the release has done, and
+    -- the step leaves all words but the counter, is paid for and is within the bound of steps
     ends_rightly : (m : ReleaseMode) → IsHere scene (Release index owner m)
         → (state : ReleaseState) (ask : Option Ask) (back : Bool) → Stays scene (words_after ws ask)
         → AnswersBy by (IsWorn by (words_after ws ask)) c events (Finished p (Robust (Release index owner m)) (State state))

@@ -10,8 +10,8 @@ pub aside_most : {n m : ℕ} → (m ≡ n) ⊎ (m ≡ n + 1) → m ≤ n + 1
 aside_most (inl same) = omega arith
 aside_most (inr more) = omega arith
 
--- A call that has ended leaves of its pass what each whole call on a set leaves. By `own`, a pass that was a party makes the call
--- as this party.
+-- A call that has ended leaves of its pass what each whole call on a set leaves, if a pass that was a party makes the call as this
+-- party (`own`).
 pub done : {C M E : Type 0} {kind : Kind} {call : Calling ℕ C M E} {base w : View ℕ} {e : E} {m : M} → Ends one_word kind call base e m w
     → ((o : Option ℕ) (p : ℕ) → call.by o p → IfSome o (λ q. q ≡ p)) → HasDone kind base w
 done {base = base} {w = w} ends own =

@@ -86,7 +86,7 @@ module _ {T C M E : Type 0} {code : Coding T} {call : Calling T C M E} {base w :
 -- ---- what a history says of itself
 
 module _ {T : Type 0} {code : Coding T} {capacity : ℕ} {seen : List (Event T)} (history : IsHistory code kinds.Atomic capacity seen) where
-  -- the promise of the machine, of what was seen
+  -- in a history each acquire, release and look of the role has ended as the machine promises (`GrantsRight`)
   grants : Each GrantsRight seen
   grants = subst (Each GrantsRight) (sym history.is) (value_goes_on code capacity history.trace history.run).roles
 
@@ -105,7 +105,7 @@ module _ {T : Type 0} {base w : View T} {p : ℕ} {start : Start T} {answer : An
   to_end : w.seen ≡ before_end ++ Finished p start answer ∷ []
   to_end = c.is ∙ sym (append_assoc (base.seen ++ c.others) (Begun p start ∷ c.during) (Finished p start answer ∷ []))
 
-  -- If neither its begin nor its end moves the role, it has moved no role.
+  -- A call of which neither the begin nor the end moves the role has not moved the role.
   none_moved : sum_by takes_producer (Begun p start ∷ Finished p start answer ∷ []) ≡ 0
       → sum_by gives_producer (Begun p start ∷ Finished p start answer ∷ []) ≡ 0 → Moved 0 0 base.made w.made
   none_moved none_taken none_given =
@@ -124,7 +124,7 @@ module _ {T : Type 0} (x : T) where
 module _ {T : Type 0} {code : Coding T} {base w : View T} (idle : base.going ≡ None) (one : base.capacity ≡ 1) where
   -- ---- the role
 
-  -- the events of a call whose end alone is its own
+  -- a release of the role that has ended is a call of the history, and nothing was stored from `base` on
   pub released : {e m : Unit {0}} → Ends code kinds.Atomic releases_producer base e m w → HasReleased base w
   released {e} {m} ends =
       let party_now = ends.party in

@@ -20,7 +20,7 @@ use Rattle.model.proofs.Scenes.{StandsThere, stands_there, answered_from, step_f
 use Rattle.model.proofs.Scenes.{in_order_from, decided_in_order_from}
 use Rattle.model.proofs.Small.{reached_small}
 
--- no call answers a question that it does not ask
+-- a call cannot both put a question and put none
 pub asks_none : {A : Type 0} → (b : Bool) → b ≡ false → b ≡ true → A
 asks_none b never asks = absurd (cc)
 
@@ -114,7 +114,7 @@ module _ {T : Type 0} (K : Outline T) where
         → Staying scene s' was y es changes'
     pub knows : (scene : Scene T K.State) (s' : K.State) (was : Option (Flight T)) (y : Party T) (es : List (Event T)) (changes' : ℕ)
         → Knowing scene s' was y es changes'
-    -- what is owed of a call that begins, and of a step of one that goes on
+    -- A begin that is admitted leads to a state of the family, and keeps the invariant (`Begins`).
     pub begin : (t : Trace T) (s : Sound (family K code c) t) (p : ℕ) (start : Start T) (flight : Flight T) → MayBegin t.world p start
         → first_of K.kind c start (K.kept s.state) ≡ Some flight → first_row ((begin_of K.kind c start).rows (K.kept s.state) p) ≡ None
         → Begins K (scene_of K code c t s p 0 0 t.world.changes) start flight
@@ -133,7 +133,7 @@ module _ {T : Type 0} (K : Outline T) where
 
   module _ (code : Coding T) (c : ℕ) (May : Trace T → Turn T → Type 0) (A : Alone code c May) where
     module _ {t : Trace T} (s : Sound (family K code c) t) (p : ℕ) where
-      -- what was shown comes to the next machine
+      -- a turn of which `ShowsFrom` was shown comes to a machine that keeps the invariant, with the state s'
       shown : (steps backs since : ℕ) (s' : K.State) (was : Option (Flight T)) (from : Span T) {y : Party T} {es : List (Event T)} {changes' : ℕ}
           → flight_in t.world p ≡ was → span_of p t.events ≡ from
           → ShowsFrom K (scene_of K code c t s p steps backs since) was s' from y es changes'

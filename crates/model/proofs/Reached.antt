@@ -146,7 +146,8 @@ module _ {T : Type 0} where
   allowed_by_more refuses t [] turn all not_refused = (not_refused, tt)
   allowed_by_more refuses t (x ∷ xs) turn all not_refused = (all.0, allowed_by_more refuses (after_turn t x) xs turn all.1 not_refused)
 
-  -- the same of turns that a machine as it runs does not refuse
+  -- Turns that a machine as it runs does not refuse, and one more after them that it does not refuse, are turns that it does not
+  -- refuse.
   pub AreAllowed-more : (t : Trace T) (turns : List (Turn T)) (turn : Turn T) → AreAllowed t turns
       → refusal_of (after_turns t turns).world turn ≡ None → AreAllowed t (turns ++ turn ∷ [])
   AreAllowed-more = allowed_by_more refusal_of

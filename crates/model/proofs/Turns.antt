@@ -163,7 +163,7 @@ module _ {T : Type 0} where
       go None none = tt
       go (Some flight) some = each flight (under_way w p flight some)
 
-  -- after a step its call goes on as the table of its steps says
+  -- after a step the party's call goes on as the table of its steps says
   next_goes : (w : World T) (p : ℕ) → GoesAsTold w → GoesOn w (Next p) (world_after w (Next p))
   next_goes w p tells =
       by_call w p _ (λ flight u.
@@ -171,7 +171,7 @@ module _ {T : Type 0} where
       rw (u.found, u.doing)
       (goes w p u.party flight u.since ask (old_of w.words ask) (tells p u.party flight u.since (old_of w.words ask) u.found u.doing))))
 
-  -- after an answer its call goes on as the table says
+  -- after an answer to its question the party's call goes on as the table of its steps says
   decision_goes : (w : World T) (p : ℕ) (said : Bool) → GoesAsTold w → GoesOn w (Decide p said) (world_after w (Decide p said))
   decision_goes w p said tells =
       by_call w p _ (λ flight u.

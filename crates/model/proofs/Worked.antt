@@ -243,7 +243,7 @@ one = Number 1
 abbrev IsOne : List (Event ℕ) → Type 0
 IsOne part = one ≡ Number (length (waiting part))
 
--- At the one moment of the call, its begin, no value waits.
+-- This length may not answer that one value waits: at the one moment of the call, its begin, none waits.
 pub no_length_from_before : TellsLength 1 earlier (Finished 1 (Queues Len) (Number 1)) → ⊥
 no_length_from_before = so_since 1 (Queues Len) IsOne (Published 0 (Index 5) ∷ HandedOut 0 (Index 5) ∷ []) [] (λ is. cc)
 

@@ -42,7 +42,7 @@ update_state = Container UpdateState
 abbrev is_locked : Start ℕ
 is_locked = Container IsLocked
 
--- The events of a whole add by the party of this value, which takes this index, for this owner.
+-- The events of a whole add by party `p`, which takes the index, of the value, for the owner.
 abbrev added : ℕ → ℕ → ℕ → ℕ → List (Event ℕ)
 added p index value owner =
     Begun p (add value owner)
@@ -52,7 +52,7 @@ added p index value owner =
     ∷ Finished p (add value owner) (Index index)
     ∷ []
 
--- The events of a whole new state of the party that copies this value at index 0, and no other.
+-- The events of a whole call by which party `p` makes a new state: it copies this value at index 0, and no other.
 abbrev copied : ℕ → ℕ → List (Event ℕ)
 copied p value = Begun p get_state ∷ Copied p 0 value ∷ Finished p get_state (Number 1) ∷ []
 
@@ -218,7 +218,7 @@ looked_shows = (refl, refl)
 abbrev looked_again : List (Turn ℕ)
 looked_again = looked ++ (begins 0 (remove 0 8192 Default) 6 ++ begins 0 update_state 3)
 
--- the update after the remove finds one
+-- the update after the remove finds a change
 pub looked_again_events : (ran_on 2 looked_again).events
     ≡ looked_told
     ++ Begun 0 (remove 0 8192 Default)

@@ -73,8 +73,8 @@ all_below n (turn ∷ turns) are_below_true =
 abbrev pub from : Kind → ℕ → ℕ → List (Turn ℕ) → Trace ℕ
 from kind capacity parties before = run_on before (opening one_word kind capacity parties)
 
--- A machine of values of one word that opens with this kind, capacity and number of parties and takes the turns `before`, and
--- turns of parties below `n` that it then takes, which are this number of steps. `ended` calls have ended before these turns.
+-- What a run is to be, as `IsEndless` checks: a machine of values of one word with this kind, capacity and number of parties takes
+-- the turns `before`, by which `ended` calls end, and then `turns`, of parties below `n`, which are this number of steps.
 record Run : Type 0 where
   pub kind : Kind
   pub capacity : ℕ

@@ -299,7 +299,7 @@ freed_all = grind (arith, false, ne_eqb)
 unfreed : IsOneOf (Frees 0 7) [] → ⊥
 unfreed one = no_set_act (Frees 0 7) one.before one.after one.is
 
--- at no moment after the release freed its index was another one filled
+-- the release may not answer Unlocked: at no moment after it freed its index was another one filled
 never_locks : AnswersRight 1 last_one (Finished 1 (release 0 7 LockIfLastIndex) (State states.Unlocked)) → ⊥
 never_locks right =
     so_by_events 1 (λ part. IsOneOf (Frees 0 7) (set_acts_of 1 part) × IsFilled right.1.other part) last_one

@@ -161,7 +161,8 @@ module _ (c b : ℕ) (below : b < c) where
   same_length : (words : List ℕ) (word new : ℕ) → Good words → Good (slice_set words word new)
   same_length words word new good = length-set words word new ∙ good
 
-  -- an exchange that finds the element as it had been loaded puts the new one in, and one that does not leaves the words
+  -- an exchange keeps the number of words, and what `GoesThen` says holds after it, if it does where the exchange finds the element as
+  -- it had been loaded, and where it does not
   exchanges : (words : List ℕ) (stage : page.Stage) (word new : ℕ) {element : ℕ} (done other : After page.Stage page.Answer) → Good words
       → (slice_index words word ≡ element → GoesThen stage done (value words) (value (slice_set words word new)))
       → GoesThen stage other (value words) (value words)

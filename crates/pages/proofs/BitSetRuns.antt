@@ -207,11 +207,13 @@ module _ (c : ℕ) (some : 0 < c) where
         along = λ events k w related known. subst (λ k. GoesAlong bits_pairing one_word kinds.Bits c events k w) (sym related.0) (along events w related.1);
       }
     where
+      -- the first stage of a call is one of that call
       first_at : (call : bits.Call) → bits_law.call_at (bits.first call) ≡ call
       first_at (bits.Set place) = refl
       first_at bits.ResetNext = refl
       first_at bits.ResetAll = refl
 
+      -- the first stage of a call fits a set of c places
       first_fits : (call : bits.Call) → bits_bridge.Fits c (bits.first call)
       first_fits (bits.Set place) = tt
       first_fits bits.ResetNext = tt

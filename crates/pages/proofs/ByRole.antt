@@ -72,9 +72,8 @@ module _ {T Call Stage Answer Room : Type 0} {of : machine.Structure Call Stage 
             let held_there = inv.held n stage e in
             not_two here held_there.who_is (is_idle p n stage held_there free)
 
-    -- A call has begun on the model. The two machines are the same if the page has come to `now`, of the same words: its history is
-    -- told by the events, the call of the party stands where it may, so does each other party's, and each stage of the page is of some
-    -- party's call.
+    -- Once a call has begun on the model the two machines are the same, if the page has come to `now` with the same words, the events
+    -- tell the history of `now`, each party's call stands where it may, and each stage of `now` is of some party's call.
     begun_same : {p : ℕ} {start : Start T} {flight : Flight T} {now : machine.World Call Stage Answer}
         → first_of kind capacity start (hands.registry k) ≡ Some flight
         → fold (machine.turned of) w (turn_taken by world (Begin p start)) ≡ now → now.words ≡ w.words

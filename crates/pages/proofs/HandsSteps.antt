@@ -150,8 +150,8 @@ module _ {T Call Stage Answer Room : Type 0} {of : machine.Structure Call Stage 
       stands_apart : (o : Option Stage) (q : ℕ) → q ≢ p → Stands hands k (machine.put n o w.pending) q (party_of q latest)
       stands_apart o q ne = still hands (leaves_others hands k w.pending n o who_is ne) (party_of q latest) (inv.stands q)
 
-      -- The machine's trace after a step runs the page's world of this history, in which the page's party of the call has the stage
-      -- `o`, if the party's call is then `x_now`, and stands where it may.
+      -- The machine's trace after a step that writes `more` runs the page's world in which the page's party of the call has the stage
+      -- `o`, if the events tell its history, the party's call is then `x_now` and stands where it may, and the stage is of that call.
       step_same : (o : Option Stage) (x_now : Party T) (more : List (Event T)) {history : List (machine.Event Call Answer)}
           → all_told by (events ++ more) ≡ history → Stands hands k (machine.put n o w.pending) p (Some x_now)
           → ((m : ℕ) (other : Stage) → machine.put n o w.pending m ≡ Some other → m ≡ n → Held hands k m other (put p x_now latest))

@@ -228,6 +228,8 @@ module _ {Call Answer : Type 0} where
     all_respond [] sequential c h = absurd (none_there c h)
     all_respond (d ∷ cs) sequential c h = ⊎_elim (λ e. subst Responds e sequential.0) (λ more. all_respond cs sequential.1.1 c more) (split d c cs h)
 
+    -- if the calls of a history run one after another, the first finds 0 at the place, each other one what the one before it left, and
+    -- the last leaves `now`
     pub in_sequence : {history : List (Event Call Answer)} {now : ℕ} → ActsAt at history now → Sequential (calls_from history 0)
         → IsChain 0 (map (λ (x : Entry Call Answer). x.1) (acted (calls_from history 0))) now
     in_sequence {history} {now} h sequential =

@@ -267,7 +267,7 @@ same_turn c some (machine.Next p) = refl
 abbrev world_of : ℕ → List (machine.Turn page.Call) → (machine.World page.Call page.Stage (Option ℕ))
 world_of c turns = fold (machine.turned (page.overflowing_queue c)) (machine.opening (page.overflowing_queue c)) turns
 
--- after a list of turns the two machines meet
+-- after fewer than 2^63 turns the two machines meet
 met : (c : ℕ) (turns : List (machine.Turn page.Call)) (some : (c == 0) ≡ false) → c < 2 ^ 32 → length turns < 2 ^ 63
     → Meets (relation (tie c some) roles_told) 2 (world_of c turns) (0 + length turns) (run (map as_turn turns) (acquired c))
 met c turns some few small =

@@ -275,7 +275,7 @@ same_turn c few (machine.Next p) = refl
 abbrev world_of : ℕ → List (machine.Turn page.Call) → (machine.World page.Call page.Stage page.Answer)
 world_of c turns = fold (machine.turned (page.index_queue c)) (machine.opening (page.index_queue c)) turns
 
--- after a list of turns the two machines meet
+-- after fewer than 2^63 turns the two machines meet
 met : (c : ℕ) (turns : List (machine.Turn page.Call)) (few : c < 2 ^ 32) → length turns < 2 ^ 63
     → Meets (relation (tie c few) roles_told) 2 (world_of c turns) (0 + length turns) (run (map as_turn turns) (acquired c))
 met c turns few small =

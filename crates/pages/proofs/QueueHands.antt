@@ -253,7 +253,7 @@ module _ {T : Type 0} where
       abbrev both : Option ℕ → Option ℕ → Roles
       both producer consumer = record { producer = producer; consumer = consumer }
 
-      -- a step that leaves the roles
+      -- a call takes a step while `pr` has the producer's role and `co` the consumer's
       module _ (start : Start T) (flight : Flight T) (pr co : Option ℕ) where
         abbrev loading : Step (Flight T) (Registry T) T
         loading =

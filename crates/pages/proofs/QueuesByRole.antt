@@ -65,6 +65,7 @@ module _ {T Call Stage Answer Room : Type 0} {of : machine.Structure Call Stage 
       pub leaves : (k : Roles) (words : List ℕ) (stage : Stage) → Tells k words → Leaves blank (Tells k) words (of.does stage).0
 
     module _ (queue : QueueHands) where
+      -- what is to be shown of a queue where its roles change hands
       abbrev pub handed : Hands naming tie Roles
       handed =
           record {
@@ -84,7 +85,7 @@ module _ {T Call Stage Answer Room : Type 0} {of : machine.Structure Call Stage 
             no_owners = λ k. refl;
           }
 
-      -- from a machine with these cells, both positions at 0 and both roles free, the model's machine runs the page
+      -- the model's machine that opens with the page's cells, both positions at 0 and both roles free runs the page
       pub queue_runs : {opened : Trace T} (cells : List ℕ) → of.words ≡ 0 ∷ 0 ∷ 0 ∷ 0 ∷ cells
           → opened ≡ trace handed (registries.Queues (record { producer = None; consumer = None })) (0 ∷ 0 ∷ 1 ∷ 1 ∷ cells) [] 0 0 []
           → RunsByRole naming of opened

@@ -25,17 +25,17 @@ use Rattle.pages.proofs.Seen.{IsOwn}
 
 -- ---- tests
 
--- what holds of both holds of either
+-- what holds of both of two things holds of the one that the test chooses
 pub either : {A : Type 0} (P : A → Type 0) (b : Bool) (x y : A) → P x → P y → P (cond b x y)
 either P true x y one two = one
 either P false x y one two = two
 
--- what holds of the one where the test says so, and of the other where it does not, holds of either
+-- what holds of the first thing if the test is true, and of the second if it is false, holds of the one that the test chooses
 pub either_so : {A : Type 0} (P : A → Type 0) (b : Bool) (x y : A) → (b ≡ true → P x) → (b ≡ false → P y) → P (cond b x y)
 either_so P true x y one two = one refl
 either_so P false x y one two = two refl
 
--- where neither is so the first is not
+-- where neither of two tests is true the first is false
 pub neither : (a b : Bool) → (a || b) ≡ false → a ≡ false
 neither true b e = absurd (cc)
 neither false b e = refl

@@ -301,7 +301,7 @@ same_turn n (machine.Next p) = refl
 abbrev world_of : List (machine.Turn page.Call) → (machine.World page.Call page.Stage page.Answer)
 world_of turns = fold (machine.turned page.value) (machine.opening page.value) turns
 
--- after a list of turns the two machines meet
+-- after fewer than 2^63 turns of the model's parties the two machines meet
 met : (n : ℕ) (turns : List (machine.Turn page.Call)) → parties_of turns ≤ n → length turns < 2 ^ 63
     → Meets law n (world_of turns) (0 + length turns) (run (map as_turn turns) (acquired n))
 met n turns le small =

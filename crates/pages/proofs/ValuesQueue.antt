@@ -417,7 +417,7 @@ module _ {T : Type 0} (how : page.Written T) where
   abbrev world_of : ℕ → List (machine.Turn (page.Call T)) → machine.World (page.Call T) (page.Stage T) (page.Answer T)
   world_of c turns = fold (machine.turned (page.queue how c)) (machine.opening (page.queue how c)) turns
 
-  -- after a list of turns the two machines meet
+  -- after fewer than 2^63 turns the two machines meet
   met : (c : ℕ) (turns : List (machine.Turn (page.Call T))) (few : c < 2 ^ 32) → length turns < 2 ^ 63
       → Meets (relation (tie c few) roles_told) 2 (world_of c turns) (0 + length turns) (run (map as_turn turns) (acquired how c))
   met c turns few small =

@@ -1,4 +1,4 @@
--- A closure that a find calls with the indices of a list, one after another, for as long as it says Continue.
+-- A find calls its closure with the indices of a list, one after another, for as long as that says Continue.
 use Rattle.std.proofs.Common.{◌≡◌, ℕ, ◌+◌, ◌≤◌, inl, inr, List, [], ◌∷◌, ◌++◌, length, refl, sym, ap, subst, ◌∙◌}
 use Rattle.plain.proofs.Names.{FoldsTo, append_assoc, append-nil, length-append}
 use Rattle.steps.specs.declared.enums.CallbackProgression.{CallbackProgression}

@@ -64,7 +64,7 @@ apart code words beside p (starts.Container x) (flights.Container run) old (regi
 apart code words beside p (starts.Loan x) (flights.Loan run) old (registries.Loan y) other = absurd (other x y refl refl)
 apart code words beside p start flight old kept other = refl
 
--- Such a step is told as one that leaves its call, what is kept and the events.
+-- A step whose name, call and kept things are not of one family is told as one that leaves its call, what is kept and the events.
 pub rests : {T : Type 0} (code : Coding T) (words : List ℕ) (beside : Option (ℕ × ℕ)) (p old : ℕ) (kept : Registry T) (events : List (Event T))
     (start : Start T) (flight : Flight T) → AreApart start flight kept
     → IsOfStep (step_of code words beside p start flight old kept) (record { back = false; done = None }) flight kept events events

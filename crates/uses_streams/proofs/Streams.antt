@@ -150,7 +150,7 @@ module _ {T : Type 0} where
             last_same (sum_by f v.made) (sum_by f w.made) (listed v.seen) (listed w.seen) (omega arith) list,
           )
 
-      -- A fresh half has done nothing yet.
+      -- A half that has done nothing has still done nothing after a call that does nothing.
       none_yet : HasHalf v → sum_by f v.made ≡ 0 → sum_by g v.made ≡ 0 → sum_by f w.made ≡ sum_by f v.made + 0 → sum_by g w.made ≡ sum_by g v.made + 0
           → Only f g listed w × (last_ones (sum_by f w.made) (listed w.seen) ≡ [])
       none_yet half none_by_f none_by_g same none =

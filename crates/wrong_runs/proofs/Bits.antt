@@ -1,4 +1,4 @@
--- For each field of what the bit sets promise a run that this field alone refuses here.
+-- For each field of what the bit sets promise a run that is refused here by this field.
 use Rattle.std.proofs.Common.{◌≡◌, ℕ, Bool, true, false, List, [], ◌∷◌, ◌++◌, refl, arith}
 use Rattle.model.specs.declared.event.Answer.TheVariants.{Truth, Number}
 use Rattle.model.specs.declared.event.Event.{Event}
@@ -16,11 +16,11 @@ use Rattle.wrong_runs.proofs.Machines.{machine, at_no_moment}
 abbrev pub bits : List ℕ → List (Event ℕ) → Trace ℕ
 bits words events = machine kinds.Bits words registries.Nothing events
 
--- a bit stands that nobody has set
+-- A bit set refuses a bit that stands and that nobody has set.
 stands_unset : IsBitSet (bits (0 ∷ 1 ∷ []) []) → ⊥
 stands_unset bit_set = cc (bit_set.conserved 0)
 
--- a bit past the capacity is set
+-- A bit set refuses the set of a bit past the capacity.
 past_the_capacity : IsBitSet (bits (0 ∷ 4 ∷ []) (events.Set 0 2 ∷ [])) → ⊥
 past_the_capacity bit_set = cc (bit_set.within 2 (omega arith))
 
@@ -51,11 +51,11 @@ seen_past_the_capacity bit_set =
 abbrev pub counts : List ℕ → List (Event ℕ) → Trace ℕ
 counts words events = machine kinds.Counts words registries.Nothing events
 
--- a place counts that nobody has counted
+-- A counting bit set refuses a place that counts what nobody has counted.
 counts_uncounted : IsCountingSet (counts (1 ∷ 0 ∷ []) []) → ⊥
 counts_uncounted counting_set = cc (counting_set.conserved 0)
 
--- a place past the capacity is counted
+-- A counting bit set refuses the count of a place past the capacity.
 counts_past_the_capacity : IsCountingSet (counts (0 ∷ 0 ∷ []) (Counted 0 2 ∷ [])) → ⊥
 counts_past_the_capacity counting_set = cc (counting_set.within 2 (omega arith))
 

@@ -90,7 +90,7 @@ replace_writes_under_an_odd_count is_container =
 
 -- ---- recovery
 
--- an owner has died within an add, before its value stood
+-- owner 7 has died within an add, before its value stood, and a recovery that found no value at index 0 has freed it
 abbrev unplaced : List (Event ℕ)
 unplaced = Begun 0 add ∷ Filled 0 0 7 ∷ Granted 0 0 7 ∷ Died 7 ∷ Begun 1 recover ∷ Shown 1 0 ∷ FreedOf 1 0 7 ∷ []
 

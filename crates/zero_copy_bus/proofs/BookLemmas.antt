@@ -1,5 +1,5 @@
--- The table of holders and the pass of the set of free slots agree (`IsBookOf`): what takes, returns, keeps
--- and counts of slots do to them. Then what one change of the table leaves as it was (`ChangesAt` and the
+-- The table of holders and the pass of the set of free slots agree (`IsBookOf`): acquires and counts of slots, and
+-- a holder who takes a slot, keep that. Then what one change of the table leaves as it was (`ChangesAt` and the
 -- predicates of `specs/Books.antt`).
 use Rattle.std.proofs.Common.{◌≡◌, ◌≢◌, inl, inr, lit<, Result, Ok, Err, IfErr, ℕ, zero, suc, ◌+◌, ◌<◌, ◌==◌, Bool, true, false, nat_lt}
 use Rattle.std.proofs.Common.{true≢false, if◌then◌else◌, ◌⊎◌, List, [], ◌∷◌, ◌++◌, length, length-append, set, replicate, ◌≤◌}

@@ -16,7 +16,7 @@ use Rattle.zero_copy_bus.specs.declared.publisher.Publisher.{Publisher}
 use Rattle.zero_copy_bus.specs.Books.{holders_at, CanSend, ChangesAt, HasSlot, IsLoaned}
 use Rattle.zero_copy_bus.specs.Ends.{lanes_of, layout_of, next_of, room_of, shape_of, slots_of, table_of, CanSendToAll, HasNumber, HasTried}
 use Rattle.zero_copy_bus.specs.Holders.{bit_of, is_held, publisher}
-use Rattle.zero_copy_bus.specs.Outlets.{holder_of, is_open, open_in, sends_view, waits_queue, EachLane, HasPushed, IsSent, IsServed, SamePasses}
+use Rattle.zero_copy_bus.specs.Outlets.{holder_of, is_open, open_in, sends_view, waits_queue, EachLane, HasPushed, IsSent, IsServed, IsTakenBack, SamePasses}
 use Rattle.zero_copy_bus.specs.Relays.{AreAmong, HasGoneOut, HasPublished}
 use Rattle.zero_copy_bus.specs.Sequences.{AreAll}
 use Rattle.zero_copy_bus.proofs.BookLemmas.{free_is}
@@ -48,7 +48,8 @@ among_then a b c xs ys h k =
 
 -- ---- one lane
 
--- a call that leaves the lane's passes, and the next number where its subscriber takes part, sends nothing by the lane
+-- a call that leaves the lane's passes and whether its subscriber takes part, and leaves the next number if he does, sends nothing by
+-- the lane
 nothing_out : (layout : Layout) (from to : ℕ) (old new : Outlet) → from ≤ to → (is_open old ≡ true → to ≡ from) → is_open new ≡ is_open old
     → SamePasses old new → HasGoneOut layout from to old new
 nothing_out layout from to old new low all taking same =
@@ -227,6 +228,14 @@ module _ {X K : Type 0} {rule : Ghosts K X} where
   published_none old new layout next same =
       published_by old new layout (ap open_in same) next
       (λ place lane is. (lane, subst (λ lanes. slice_get lanes place ≡ Some lane) (sym same) is, record { sends = refl; waits = refl }))
+
+  -- `collect` publishes nothing
+  pub published_back : (old new : Publisher X K rule) → layout_of new ≡ layout_of old → next_of new ≡ next_of old
+      → open_in (lanes_of new) ≡ open_in (lanes_of old)
+      → EachLane (IsTakenBack (slots_of old) (table_of old) (table_of new)) (lanes_of old) (lanes_of new)
+      → HasPublished old new
+  published_back old new layout next taking taken =
+      published_by old new layout taking next (λ place lane is. (let it = taken place lane is in (it.0, it.1, it.2.passes)))
 
   -- tries to loan publish nothing
   pub published_tried : (old new : Publisher X K rule) → HasTried old new → HasPublished old new

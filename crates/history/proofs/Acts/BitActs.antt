@@ -213,7 +213,7 @@ module _ {T : Type 0} (c : ℕ) (events : List (Event T)) (spans : Each (StandsR
           elsewhere : (b : ℕ) → k ≢ b → Ends c (Sure b) b (set_call k) (Truth false) (way q b)
           elsewhere b k_is_not_b = grind (arith, false, under)
 
-          -- at its own place the set acted silently, at a moment at which that stood
+          -- at its own place the set acted silently, at a moment at which this place stood
           mine : Fact kinds.Bits c Sure h q (set_call k) (Truth false) k
           mine = Silent (record {
             part = once.part;
@@ -373,7 +373,7 @@ module _ {T : Type 0} (c : ℕ) (events : List (Event T)) (spans : Each (StandsR
           elsewhere : (b : ℕ) → (k ≡ b → ⊥) → Ends c (Sure b) b (look_call k) (Truth answer) (way q b)
           elsewhere b ne = subst (λ w. Ends c (Sure b) b (look_call k) (Truth answer) w) (sym (under b)) (refl, λ same. absurd (ne same))
 
-          -- at its own place the look acted silently, now
+          -- at its own place the look acted silently, at its end
           mine : Fact kinds.Bits c Sure h q (look_call k) (Truth answer) k
           mine = Silent (record {
             part = h;

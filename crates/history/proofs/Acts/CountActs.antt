@@ -375,7 +375,7 @@ module _ {T : Type 0} (c : ℕ) (events : List (Event T)) (spans : Each (StandsR
           elsewhere : (b : ℕ) → (k ≡ b → ⊥) → Ends c (Sure b) b (look_call k) (Number n) (way q b)
           elsewhere b ne = subst (λ w. Ends c (Sure b) b (look_call k) (Number n) w) (sym (under b)) (refl, λ same. absurd (ne same))
 
-          -- at its own place the look acted silently, now
+          -- at its own place the look acted silently, at its end
           mine : Fact kinds.Counts c Sure h q (look_call k) (Number n) k
           mine = Silent
               (record { part = h; rest = []; is = sym (append-nil h); none = tt; under = under k; may = refl; left = refl; ends = (refl, λ same. told) })

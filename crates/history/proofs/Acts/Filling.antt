@@ -95,7 +95,7 @@ module _ {T : Type 0} (kind : Kind) (capacity : ℕ) (Sure : ℕ → Type 0) whe
       right : (q b : ℕ) → IsGood q b marks
       -- the way of each other party is that of the history without silent acts
       others : (q b : ℕ) → q ≢ p → way_at q b 0 None marks ≡ way_in q b 0 None h
-      -- the call has acted at the places below k; at the others its way is that of the history
+      -- at the places below k the call may end as the marks have it, and at the others its way is that of the history
       done : (b : ℕ) → b < k → MayEndThere b (way_at p b 0 None marks)
       later : (b : ℕ) → k ≤ b → way_at p b 0 None marks ≡ way_in p b 0 None h
 
@@ -213,7 +213,7 @@ module _ {T : Type 0} (kind : Kind) (capacity : ℕ) (Sure : ℕ → Type 0) whe
         }
     fill (suc k) marked facts = one_more k (fill k marked (λ b lt. facts b (omega arith))) (facts k (omega arith))
 
-    -- a call may end whose act at each place below the capacity is known
+    -- a call may end whose act at each place below the capacity is known, and that may end as it stands at the others
     ends_marked : Marked h → ((b : ℕ) → b < capacity → Fact b)
         → ((b : ℕ) → capacity ≤ b → MayEndThere b (way_in p b 0 None h)) → Marked (h ++ Finished p start answer ∷ [])
     ends_marked marked facts far =
@@ -249,7 +249,8 @@ pub finishes : {T : Type 0} {kind : Kind} {capacity : ℕ} {Sure : ℕ → Type 
     → Marked kind capacity Sure (h ++ Finished p start answer ∷ [])
 finishes {kind = kind} {capacity = capacity} {Sure = Sure} {h = h} p start answer = ends_marked kind capacity Sure h p start answer
 
--- the same of a call whose act on one place below the capacity is known, and of which nothing has to be known at another
+-- with the end of a call whose act at one place, below the capacity, is known, and that may end as it stands at the others, the
+-- history can still be marked
 pub finishes_at : {T : Type 0} {kind : Kind} {capacity : ℕ} {Sure : ℕ → Type 0} {h : List (Event T)} {p : ℕ} {start : Start T} {answer : Answer T} (place : ℕ)
     → Marked kind capacity Sure h → Fact kind capacity Sure h p start answer place
     → ((b : ℕ) → place ≢ b → Ends capacity (Sure b) b start answer (way_in p b 0 None h)) → (capacity ≤ place → ⊥)

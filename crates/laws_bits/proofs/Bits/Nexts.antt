@@ -57,7 +57,8 @@ module _ {T : Type 0} (code : Coding T) {c : ℕ} (scene : SetScene T) (holds : 
   abbrev next : BitsStart
   next = starts.ResetNext
 
-  -- what a step with the operation `ask` has to show, by what becomes of the reset and which events it writes
+  -- what a step with the operation `ask` has to show, where the reset had written `before`, by whether it turns back, what
+  -- becomes of the reset and which events it writes
   abbrev ShowsWith : List (Event T) → Option Ask → Bool → After BitsFlight (Answer T) → List (Event T) → Type 0
   ShowsWith before ask back after fx = StepShows bit_set code c scene before next ask back after fx
 
@@ -189,8 +190,8 @@ module _ {T : Type 0} (code : Coding T) {c : ℕ} (scene : SetScene T) (holds : 
         stage : ResetNextStage
         stage = resetting.LoadsElement start passed
 
-        -- the step keeps the invariant if `ShowsWith` holds of what is told of it: whether it turns back, what
-        -- becomes of the call, and its events
+        -- the step keeps the invariant if `ShowsWith` holds of what becomes of the call: a load neither turns the call back
+        -- nor writes an event
         parts : (then : After BitsFlight (Answer T)) → after (next_at c stage) word ≡ then → ShowsWith [] (Some loads_it) false then [] → StageShows [] stage
         parts = grind (arith, by_parts, next_at, stage, false)
 

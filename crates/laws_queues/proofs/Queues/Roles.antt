@@ -20,14 +20,14 @@ free_is : (o : Option ℕ) → (free o == 1) ≡ is_none o
 free_is None = refl
 free_is (Some p) = refl
 
--- the exchange that asks for a role leaves the words of a queue whose role is taken
+-- `ro` are the holders of the roles, and `k` is the queue, before party `p` asks for a role by an exchange
 module _ (T : Type 0) {V : Type 0} (ro : Roles) (k : Core V) (p : ℕ) where
-  -- this holds of the producer's role
+  -- the exchange that asks for the producer's role leaves the words of a queue with the holders that its answer makes
   producer_words : words_after (layout ro k) (Some (record { word = producer_word; op = Exchange 1 0 }))
       ≡ layout (roles_after {T = T} p AcquireProducer (Some (answers.Truth (free ro.producer == 1))) ro) k
   producer_words = grind arith
 
-  -- and of the consumer's
+  -- the exchange that asks for the consumer's role leaves the words of a queue with the holders that its answer makes
   consumer_words : words_after (layout ro k) (Some (record { word = consumer_word; op = Exchange 1 0 }))
       ≡ layout (roles_after {T = T} p AcquireConsumer (Some (answers.Truth (free ro.consumer == 1))) ro) k
   consumer_words = grind arith
@@ -41,7 +41,7 @@ module _ {T : Type 0} {en : Coding T} {kd : QueueKind} {scene : Scene T kd} (tak
   producer_is : producer_of events ≡ ro.producer
   producer_is = inv.queue.producers
 
-  -- and so has the consumer's
+  -- by the events the consumer's role has the holder that it has in the machine
   consumer_is : consumer_of events ≡ ro.consumer
   consumer_is = inv.queue.consumers
 
@@ -52,11 +52,11 @@ module _ {T : Type 0} {en : Coding T} {kd : QueueKind} {scene : Scene T kd} (tak
     abbrev ro' : Roles
     ro' = roles_after p start (Some answer) ro
 
-    -- the events say who holds the producer's role then
+    -- with the end of the call the events say who holds the producer's role
     producers : fold producer_after ro.producer (Finished p (Queues start) answer ∷ []) ≡ ro'.producer
     producers = grind arith
 
-    -- and who holds the consumer's
+    -- with the end of the call the events say who holds the consumer's role
     consumers : fold consumer_after ro.consumer (Finished p (Queues start) answer ∷ []) ≡ ro'.consumer
     consumers = grind arith
 
@@ -64,11 +64,11 @@ module _ {T : Type 0} {en : Coding T} {kd : QueueKind} {scene : Scene T kd} (tak
     wrote : Wrote kd c start answer []
     wrote = grind arith
 
-    -- it tells no length
+    -- a call on a role tells no length
     tells : TellsLength c events (Finished p (Queues start) answer)
     tells = grind arith
 
-    -- it takes one step
+    -- a call on a role may take one step
     most : most_steps en.size kd start (backs + 0) ≡ 1
     most = grind arith
 

@@ -48,7 +48,7 @@ module _ {T : Type 0} (en : Coding T) where
 
   -- ---- the values that wait in the words
 
-  -- words of an element are of a coding in each kind of queue
+  -- where values are coded as `IsCoding` asks, so are the elements of each kind of queue
   words_coded : IsCoding en → (kd : QueueKind) → IsCoding (encoded en kd)
   words_coded law IndexQueue = are_words en of_indices law
   words_coded law kinds.Overflow = are_words en of_indices law

@@ -179,7 +179,7 @@ module _ {T : Type 0} (code : Coding T) (law : IsCoding code) (owner : ℕ) wher
         → (from : View T) × SettledFrom code kinds.Container base from × IsUnderWay code kinds.Container (finding code owner) from v c m
     asked_from find_at = grind (arith, under_at)
 
-    -- An answer copies nothing.
+    -- An answer copies nothing, and leaves the room as it is.
     same_room : (m : Copying T) (n : ℕ) → find_copying code owner c m n ≡ m
     same_room m n = ap (λ stage. (keeps_of kept_at stage m.0 n, copies_after stage n (value_of_room code words_in m.0) m.1)) is
 
@@ -188,6 +188,7 @@ module _ {T : Type 0} (code : Coding T) (law : IsCoding code) (owner : ℕ) wher
         → FindAt code owner base v c m → FindAt code owner base v d m
     heard_on {v} {d} {m} said goes at =
         let (from, settled, under) = asked_from at in
+        -- the left case of `FindAt`: the find has begun, from a view in which the last call had ended
         inl (record {
           from = from;
           settled = settled;
@@ -202,7 +203,7 @@ module _ {T : Type 0} (code : Coding T) (law : IsCoding code) (owner : ℕ) wher
 
   -- ---- where it has ended, or rests
 
-  -- the find began at from, e is the number that it answers, m its room, w what the pass knows
+  -- the find began at from, e is the number that it answers, m its room and the copies that it made, w what the pass knows
   -- then; id is the container's number
   module _ (cap : ℕ) {base w from : View T} (settled : SettledFrom code kinds.Container base from) {e : ℕ} {m : Copying T} (id : ℕ) where
     module _ (rest : RestsAt code kinds.Container (find_goes code owner) (find_copying code owner) (finding code owner) from w e m) where

@@ -66,15 +66,15 @@ module _ {T : Type 0} (code : Coding T) (v : View T) (fresh : v.other ≡ []) (s
   pub rests : IsIdle v → Rests
   rests idle = by_party v.party v.going refl refl idle
 
--- A call whose first stage and room are as `begins` says of the capacity; `at` says how it stands at each stage, and `over` how it ends.
+-- `begins` says, by the capacity, which first stage and room a call has, `at` how the call stands at each stage, and `over` how it ends.
 module _ {T C M E : Type 0} (code : Coding T) (begins : ℕ → C → M → Type 0) (at : View T → View T → C → M → Type 0)
     (over : View T → E → M → View T → Type 0) where
-  -- It is about to begin by a pass that rests or has no call under way.
+  -- A call with such a first stage and room (`begins`) is about to begin by a pass that rests or has no call under way.
   begins_by : (v : View T) (c : C) (m : M) → begins v.capacity c m → (v.going ≡ None → at v v c m) → (v.going ≡ None) ⊎ IsResting code v
       → AtRested code kinds.Container begins at over v v c m
   begins_by v c m first here either = grind arith
 
-  -- It is about to begin by an idle pass.
+  -- A call with such a first stage and room (`begins`) is about to begin by an idle pass that has a share and has taken in no other.
   pub rested_begins : (v : View T) (c : C) (m : M) → begins v.capacity c m → (v.going ≡ None → at v v c m) → IsIdle v → v.other ≡ []
       → 0 < v.share.part → AtRested code kinds.Container begins at over v v c m
   rested_begins v c m first here idle alone any = begins_by v c m first here (rests code v alone any idle)

@@ -17,7 +17,7 @@ Ended {words = words} old new call e m =
     EndsSettled (coding_by words) kinds.Container (Ends (coding_by words) kinds.Container call) (view old) e m (view new)
 
 module _ {T : Type 0} {words : Ghosts T} {old new : Pass T words} (container : container_of new ≡ container_of old) where
-  -- A call that looks at no state, by the party that the pass was last if it was one, leaves of its pass what `KeepsPass` says.
+  -- A call that is no look of a state leaves of its pass what `KeepsPass` says, if a pass that was a party makes the call as this party.
   leaves : {C M E : Type 0} (call : Calling T C M E) → LeavesState call → ((was : Option ℕ) (p : ℕ) → call.by was p → IfSome was (λ q. q ≡ p))
       → {e : E} {m : M} → Ended old new call e m → KeepsPass old new
   leaves call no_look by_same ends =

@@ -12,7 +12,7 @@ stays_then first next =
 
 -- A count, for a length or a test, that began in the view `base` and stands in the view v.
 module _ {T : Type 0} (code : Coding T) (which : CountOf) {base v : View T} where
-  -- Equal counts are under way at once.
+  -- A count that is equal to one under way is under way.
   pub count_as : {c d : BorrowedIndices} → c ≡ d → CountAt code which base v d tt → CountAt code which base v c tt
   count_as is at = subst (λ d. CountAt code which base v d tt) (sym is) at
 
@@ -21,7 +21,7 @@ module _ {T : Type 0} (code : Coding T) (which : CountOf) {base v : View T} wher
       → CountAt code which base w d tt
   count_on goes is at = gone_on (CountAt code which) (CountEnds code which) goes is at
 
-  -- Where a step has ended the count, it has ended with that number.
+  -- Where a step has come to the end of the count with a number, the count has ended with this number.
   pub count_over : {w : View T} {c : BorrowedIndices} {n : ℕ} {a : After BorrowedIndices ℕ} → CountGoes code which v c a w → a ≡ Done n
       → CountAt code which base v c tt → CountEnds code which base n tt w
   count_over goes is at = has_ended (CountAt code which) (CountEnds code which) goes is at

@@ -55,13 +55,13 @@ module _ {T : Type 0} {code : Coding T} {base from : View T} (settled : SettledF
 
 -- A call led from the view `base`, of a container of this capacity, to w.
 module _ {T : Type 0} (code : Coding T) {base w : View T} {capacity : ℕ} (is : base.capacity ≡ capacity) where
-  -- An add takes at most what the model says of it.
+  -- An add takes at most what the model says of it, and one operation more if the last call of its pass rested.
   pub add_takes : (given : Owned T) {answer : Added} → AddEnds code given base answer tt w
       → ContainerTakes (capacity + 7 + code.size) (capacity + 1) base w
   add_takes given ends =
       subst (λ n. ContainerTakes (n + 7 + code.size) (n + 1) base w) is (takes_so ends.settled (adds_value code.size given) (omega arith) ends.over)
 
-  -- A remove takes at most what the model says of it in its mode.
+  -- A remove takes at most what the model says of it in its mode, and one operation more if the last call of its pass rested.
   pub remove_takes : (index owner : ℕ) (mode : ReleaseMode) {answer : Removed}
       → RemoveEnds code (record { index = index; owner = owner; mode = mode }) base answer tt w → RemoveTakes capacity mode base w
   remove_takes index owner Default ends =
@@ -71,14 +71,15 @@ module _ {T : Type 0} (code : Coding T) {base w : View T} {capacity : ℕ} (is :
       subst (λ n. RemoveTakes n LockIfLastIndex base w) is
       (takes_so ends.settled (removes_value (record { index = index; owner = owner; mode = LockIfLastIndex })) (omega arith) ends.over)
 
-  -- A count takes capacity + 2 operations alone, and as many more for each change of a word by others.
+  -- A count takes at most capacity + 2 operations alone, as many more for each change of a word by others, and one more if the last
+  -- call of its pass rested.
   pub count_takes : (which : CountOf) {n : ℕ} → CountEnds code which base n tt w → ContainerTakes (capacity + 2) (capacity + 2) base w
   count_takes counts.Len ends =
       subst (λ n. ContainerTakes (n + 2) (n + 2) base w) is (takes_so ends.settled (counts_values counts.Len) (omega arith) ends.over)
   count_takes counts.IsEmpty ends =
       subst (λ n. ContainerTakes (n + 2) (n + 2) base w) is (takes_so ends.settled (counts_values counts.IsEmpty) (omega arith) ends.over)
 
-  -- a recovery took at most what the model says of it
+  -- A recovery takes at most what the model says of it in its mode, and one operation more if the last call of its pass rested.
   pub recover_takes : (owner : ℕ) (mode : ReleaseMode) {state : ReleaseState} {m : Visiting T}
       → RecoverEnds code (record { owner = owner; mode = mode }) base state m w → RecoverTakes code.size capacity mode base w
   recover_takes owner Default ends =
@@ -88,7 +89,7 @@ module _ {T : Type 0} (code : Coding T) {base w : View T} {capacity : ℕ} (is :
       subst (λ n. RecoverTakes code.size n LockIfLastIndex base w) is
       (takes_so ends.settled (recovering code (record { owner = owner; mode = LockIfLastIndex })) (omega arith) ends.over)
 
-  -- a look of a state took at most what the model says of it
+  -- A look of a state takes at most what the model says of it, and one operation more if the last call of its pass rested.
   pub look_takes : (which : LookOf) (seen : Numbers) (changed : Bool) (m : Showing T)
       → RestedLooked code which base.capacity seen base changed m w → LookTakes code.size capacity base w
   look_takes which_looks.GetState seen changed m ends =
@@ -99,10 +100,10 @@ module _ {T : Type 0} (code : Coding T) {base w : View T} {capacity : ℕ} (is :
       (takes_so ends.settled (looking code which_looks.UpdateState base.capacity seen) (omega arith) ends.over.0)
 
 module _ {T : Type 0} (code : Coding T) {base w : View T} where
-  -- A replace takes at most five operations and one for each word of the value.
+  -- A replace takes at most five operations and one for each word of the value, and one more if the last call of its pass rested.
   pub replace_takes : (given : Replacement T) {answer : Replaced} → ReplaceEnds code given base answer tt w → TakesFew (5 + code.size) base w
   replace_takes given ends = takes_so ends.settled (replaces_value code.size given) (omega arith) ends.over
 
-  -- A call of `is_locked` takes one operation.
+  -- A call of `is_locked` takes at most one operation, and one more if the last call of its pass rested.
   pub lock_takes : {b : Bool} → LockEnds code base b tt w → TakesFew 1 base w
   lock_takes ends = takes_so ends.settled sees_lock (omega arith) ends.over

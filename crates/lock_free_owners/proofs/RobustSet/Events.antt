@@ -64,7 +64,8 @@ ahead xs ys = record { rest = ys; is = refl }
 -- A call of party p led from the view `from`, which goes on from `base`, to w, and wrote the events `wrote`.
 module _ {T : Type 0} {p : ℕ} {start : Start T} {answer : Answer T} {wrote : List (Event T)} {base from w : View T}
     (onward : (xs : List (Event T)) → IsBeginning base.seen (from.seen ++ xs)) (c : Called p start answer wrote from w) where
-  -- If it wrote this event, what `Before` says of the history before that held, and that history goes on from `base`.
+  -- If the call wrote this event, and `Before` holds of each history that stands before such an event, then the event is written as
+  -- `WroteAt` says: `Before` holds of the history before it, which goes on from `base`.
   pub wrote_there : (event : ℕ → Event T) (first rest : List (Event T)) → wrote ≡ first ++ event p ∷ rest → {Before : ℕ → List (Event T) → Type 0}
       → ((before after : List (Event T)) → w.seen ≡ before ++ event p ∷ after → Before p before) → WroteAt event Before base w
   wrote_there event first rest is held =

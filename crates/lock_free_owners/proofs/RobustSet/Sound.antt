@@ -9,7 +9,7 @@ use Rattle.laws_robust.specs.Gone.{AsksBy, AnswersBy}
 use Rattle.laws_robust.specs.Open.{IsOpenSet}
 use Rattle.lock_free_owners.specs.Robust.Contracts.{IsSound}
 
--- what an answer says where its counter may be worn it says where that may be for another reason
+-- an answer that is right where `worn` excuses it is right where anything that follows from `worn` does
 pub worn_on : {worn other : Type 0} → (worn → other) → (capacity : ℕ) (before : List (Event ℕ)) (e : Event ℕ) → AnswersBy Word worn capacity before e
     → AnswersBy Word other capacity before e
 worn_on may capacity before (Finished p (Robust (Acquire owner)) (NoIndex OutOfIndices)) h = (h.0, ⊎_elim (λ x. inl (may x)) (λ x. inr x) h.1)
@@ -18,7 +18,8 @@ worn_on may capacity before (Finished p (Robust (Release index owner LockIfLastI
 worn_on may capacity before (Finished p (Robust (Recover mode)) (State Unlocked)) h = h
 worn_on may capacity before e h = h
 
--- each history of a robust set is sound: its events do to the set what they may, and its answers are right
+-- Each history of a robust set is sound: its events do to the set what they may, its questions and answers are right, and
+-- if it is well-formed and honest, no index is granted that somebody holds.
 pub sound_history : (capacity : ℕ) (events : List (Event ℕ)) → IsHistory one_word kinds.Robust capacity events → IsSound capacity events
 sound_history capacity events h =
     let set : IsOpenSet h.trace = is_open_set one_word capacity h.trace h.run in

@@ -363,7 +363,7 @@ module _ {T : Type 0} {code : Coding T} (kd : QueueKind) {base w : View T} (idle
       → flat_map (marks role) w.seen ≡ flat_map (marks role) base.seen
   left_alone role only ends = left_after role only ends.history (released role ends)
 
--- a producer's release; and a consumer's, where it says what was taken out
+-- A call on a queue has led its pass from `base`, where no call was under way, to `w`.
 module _ {T : Type 0} {code : Coding T} {base w : View T} (idle : base.going ≡ None) {e m : Unit {0}} where
   -- A consumer's release leaves what was taken out as it was, except of an overflowing queue, where
   -- pushes take out too.

@@ -2,7 +2,7 @@
 -- pops have to succeed.
 use Rattle.lock_free_queues.proofs.Names.{◌≡◌, inl, inr, ℕ, ◌+◌, ◌-◌, ◌^◌, ◌<◌, ◌≤◌, Bool, true, false, Some, None}
 use Rattle.lock_free_queues.proofs.Names.{Option, List, [], ◌∷◌, ◌++◌, length, map, take, refl, sym, ap, subst, ◌∙◌, arith}
-use Rattle.lock_free_queues.proofs.Names.{append-nil, sum_by, sum_by-append, length-drop, Role, Event, Item, Index}
+use Rattle.lock_free_queues.proofs.Names.{append-nil, sum_by, sum_by-append, length-drop, Role, Event, Item, Index, Value}
 use Rattle.lock_free_queues.proofs.Names.{QueueKind, Coding, publishes, hands_out, published}
 use Rattle.lock_free_queues.proofs.Names.{handed_out, waiting, View, IsBeginning, IsHistory, Goes, MissesNothing, IsAll}
 use Rattle.lock_free_queues.proofs.Names.{machine_kind, first_view, IfNone, IfSome}
@@ -29,6 +29,10 @@ use Rattle.lock_free_queues.proofs.Queues.Whole.{all_taken, nothing_more}
 -- Equal index items have equal numbers.
 pub index_tells : {T : Type 0} → TellsApart {T = T} Index
 index_tells x y e = cc
+
+-- Equal value items have equal values.
+pub value_tells : {T : Type 0} → TellsApart {T = T} Value
+value_tells x y e = cc
 
 module _ {T V : Type 0} (named : V → Item T) (tells : TellsApart named) where
   -- if the names of ys begin with those of xs, then xs are the first values of ys

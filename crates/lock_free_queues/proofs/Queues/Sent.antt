@@ -1,9 +1,10 @@
 -- For clients: what each call adds to what a pass has sent and received.
-use Rattle.lock_free_queues.proofs.Names.{◌≡◌, inl, inr, ℕ, ◌+◌, true, Option, List, []}
-use Rattle.lock_free_queues.proofs.Names.{◌∷◌, ◌++◌, length, map, refl, sym, ap, subst, ◌∙◌, arith}
+use Rattle.lock_free_queues.proofs.Names.{◌≡◌, inl, inr, ℕ, ◌+◌, ◌<◌, ◌≤◌, true, Option, List, []}
+use Rattle.lock_free_queues.proofs.Names.{◌∷◌, ◌++◌, length, map, get_or, take, refl, sym, ap, subst, ◌∙◌, arith}
 use Rattle.lock_free_queues.proofs.Names.{append-nil, append_assoc, flat_map, flat_map-append, Role, Event, Item}
 use Rattle.lock_free_queues.proofs.Names.{publishes, hands_out, published, handed_out, View, IsBeginning, Goes}
 use Rattle.std.proofs.Common.{length-append}
+use Rattle.std.proofs.lemmas.List.{take_all, take_more}
 use mathlib.Core.List.{map-append}
 use Rattle.lock_free_queues.specs.Queues.Sent.{HasAppended, HasSent, HasReceived}
 use Rattle.lock_free_queues.specs.Queues.Sums.{HasDone}
@@ -108,6 +109,15 @@ module _ {T V : Type 0} {named : V → Item T} where
       (appended_more sent goes.share value
       (done_pushed was new (named value) push_done.0) push_done.1.list)
 
+  -- A push of the next value of a list makes the values that were sent one longer, still a
+  -- beginning of the list.
+  pub sent_next : {old was new : View T} (all : List V) (n : ℕ) (default : V) → HasSent named (take n all) old was
+      → n < length all → Goes was new → PushDone (named (get_or all n default)) was new
+      → HasSent named (take (n + 1) all) old new
+  sent_next {old} {was} {new} all n default sent below goes push_done =
+      subst (λ xs. HasSent named xs old new) (sym (take_more all n default below))
+      (sent_one {old = old} {was = was} {new = new} (take n all) (get_or all n default) sent goes push_done)
+
   -- A push that was refused leaves the values that were sent as they were.
   pub sent_refused : {old was new : View T} {values : List V} {room : ℕ} {item : Item T} → HasSent named values old was
       → Goes was new → PushRefused room item was new → HasSent named values old new
@@ -120,6 +130,13 @@ module _ {T V : Type 0} {named : V → Item T} where
       → HasReleased role was new → published new.seen ≡ published was.seen → HasSent named values old new
   sent_done {role} {old} {was} {new} {values} sent goes released is =
       appended_same sent goes.share (done_released was new role released) is
+
+  -- Once the role is given back behind the last value of a list, the pass has sent the whole list.
+  pub sent_all : {role : Role} {old was new : View T} (all : List V) (n : ℕ) → HasSent named (take n all) old was → length all ≤ n
+      → Goes was new → HasReleased role was new → published new.seen ≡ published was.seen → HasSent named all old new
+  sent_all {role} {old} {was} {new} all n sent past goes released is =
+      subst (λ xs. HasSent named xs old new) (take_all n all past)
+      (sent_done {role = role} {old = old} {was = was} {new = new} {values = take n all} sent goes released is)
 
   -- ---- who pops
 
@@ -137,6 +154,14 @@ module _ {T V : Type 0} {named : V → Item T} where
       subst (λ n. HasAppended hands_out named (values ++ value ∷ []) 0 n old new) (sym (length-append values (value ∷ [])))
       (appended_more received goes.share value
       (done_popped was new (named value) pop_done.0) pop_done.1.list)
+
+  -- A pop that took a value makes the values that were received a list that has this value at its end.
+  pub received_next : {old was new : View T} (values more : List V) (value : V) → HasReceived named values old was
+      → Goes was new → PopDone (named value) was new
+      → more ≡ values ++ value ∷ [] → HasReceived named more old new
+  received_next {old} {was} {new} values more value received goes pop_done is =
+      subst (λ xs. HasReceived named xs old new) (sym is)
+      (received_one {old = old} {was = was} {new = new} values value received goes pop_done)
 
   -- A pop that found the queue empty leaves the values that were received as they were.
   pub received_still : {old was new : View T} {values : List V} → HasReceived named values old was → Goes was new

@@ -113,7 +113,7 @@ module _ (place : ℕ) where
           go true t = rw t refl
           go false t = rw t (tested p n)
 
-  -- how a set is driven
+  -- how a call that sets a place is driven
   abbrev driven : Driven ℕ Setting (Unit {0}) Bool
   driven = record { want = λ c. set_want c place; after = λ c n. set_after c place n; kept = λ c m n. m; call = sets_place place }
 

@@ -1,16 +1,27 @@
 -- For clients: what each call on a counting bit set adds to what its pass made, place by place, and what a set answers
 -- where all that was seen is what its pass made.
-use Rattle.lock_free_sets.proofs.Names.{◌≡◌, ◌==◌, ℕ, ◌+◌, ◌-◌, ◌^◌, true, cond, List, [], ◌∷◌, ◌++◌, map, refl, sym}
+use Rattle.lock_free_sets.proofs.Names.{◌≡◌, ◌==◌, ℕ, ◌+◌, ◌-◌, ◌^◌, ◌≤◌, true, cond, List, [], ◌∷◌, ◌++◌, map, refl, sym}
 use Rattle.lock_free_sets.proofs.Names.{ap, ◌∙◌, arith, nat_tests, sum_by-cons, sum_by_push, BitState, Number, Event}
-use Rattle.lock_free_sets.proofs.Names.{Finished, Bits, Set, ResetAll, View}
+use Rattle.lock_free_sets.proofs.Names.{Finished, Bits, Set, ResetAll, one_word, IsCountingOn, counts_go_on, View, IsHistory}
 use Rattle.std.proofs.Common.{◌%◌}
 use Rattle.std.specs.List.{sum_by}
 use Rattle.model.specs.declared.event.Answer.TheVariants.{Done}
 use Rattle.model.specs.declared.event.Event.TheVariants.{Counted}
+use Rattle.model.specs.declared.turn.Kind.TheVariants as kinds
 use Rattle.model.specs.Families.Bits.Reading.{is_count_of, take_of, counts, takes}
 use Rattle.lock_free_sets.specs.Counts.Contracts.{HasCounted, AnswersCount, HasTakenOut, taken_by}
 use Rattle.lock_free_sets.specs.Counts.Sums.{taken_at}
 use Rattle.lock_free_sets.proofs.Sums.{sum_made}
+
+-- no more was taken out of a place than it was counted
+pub takes_within : (capacity : ℕ) (events : List (Event ℕ)) → IsHistory one_word kinds.Counts capacity events → (b : ℕ) → takes b events ≤ counts b events
+takes_within capacity events history b =
+    let set : IsCountingOn history.trace = counts_go_on history.trace history.run.of_kind history.run.reached in
+    let all = set.conserved b in
+    let e = all.1 in
+    let s = ap (counts b) history.is in
+    let t = ap (takes b) history.is in
+    omega arith
 
 -- The counts that were taken out at a place, in the events of a list of counts, sum up to what this
 -- list has at the place.

@@ -6,7 +6,7 @@ use Rattle.model.specs.Families.Bits.Promises.{BitsAnswerRight, CountsAnswerOn}
 use Rattle.lock_free_sets.proofs.Ends.{before_end, to_end}
 
 module _ {capacity p : ℕ} {start : Start ℕ} {answer : Answer ℕ} {wrote : List (Event ℕ)} {old new : View ℕ} where
-  -- of a call on a bit set
+  -- the answer of a whole call on a bit set is right by what was seen before its end
   pub bits_answer : IsHistory one_word kinds.Bits capacity new.seen → (c : Called p start answer wrote old new)
       → BitsAnswerRight capacity (before_end c) (Finished p start answer)
   bits_answer h c =
@@ -14,7 +14,7 @@ module _ {capacity p : ℕ} {start : Start ℕ} {answer : Answer ℕ} {wrote : L
       subst (λ n. BitsAnswerRight n (before_end c) (Finished p start answer)) h.run.sized
       (set.answers (before_end c) [] (Finished p start answer) (sym h.is ∙ to_end c))
 
-  -- of a call on a counting bit set
+  -- the answer of a whole call on a counting bit set, whose counts may wrap, is right by what was seen before its end
   pub counts_answer : IsHistory one_word kinds.Counts capacity new.seen → (c : Called p start answer wrote old new)
       → CountsAnswerOn capacity (before_end c) (Finished p start answer)
   counts_answer h c =

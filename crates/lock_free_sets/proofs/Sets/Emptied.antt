@@ -89,7 +89,7 @@ module _ (kind : SetKind) where
     pub goes_so : reset_all_after c n ≡ a
     pub told : (b : View ℕ) → AtWord b v c m → Goes b a room w
 
-  -- a step of the call, as the driver of a seat tells of it
+  -- what the driver of a seat tells of a step of the call is what `TookStep` says of it
   pub took : {v w : View ℕ} {c : Emptying} {m room : OneWord} {a : After Emptying (Unit {0})}
       → (n : ℕ) × (a ≡ reset_all_after c n) × (room ≡ reset_all_kept m n) → ((b : View ℕ) → AtWord b v c m → Goes b a room w) → TookStep v w c m room a
   took taken told = record { n = taken.0; goes_so = sym taken.1; told = told }
@@ -104,7 +104,7 @@ module _ (kind : SetKind) where
       absurd (omega arith)
   under_next n at e (inr under) = under
 
-  -- what a step that goes on has written: what emptying the call's word writes
+  -- a step with which the call goes on has written what emptying the call's word writes
   pub next_wrote : {base v w : View ℕ} {c next : Emptying} {m room : OneWord} (n : ℕ) → AtWord base v c m → reset_all_after c n ≡ GoOn next
       → (under : IsUnderWay one_word (machine_kind kind) (empties kind) v w next room) → under.wrote ≡ emptied kind under.party c.word room.0
   next_wrote {base} {v} {w} {c} {next} {m} {room} n at e under =
@@ -112,7 +112,7 @@ module _ (kind : SetKind) where
       let word : next.word ≡ c.word + 1 = ap (λ (z : Emptying). z.word) (goes_next c n next e).0 in
       under.tells.2 (word ∙ ap (λ z. z + 1) (sym from)) ∙ ap (λ z. emptied kind under.party z room.0) from
 
-  -- what the last step has written: what emptying the call's word writes
+  -- the last step of the call has written what emptying the call's word writes
   pub last_wrote : {base v w : View ℕ} {c : Emptying} {m room : OneWord} {end : Unit {0}} (n : ℕ) → AtWord base v c m
       → reset_all_after c n ≡ Done end → (here : EndsAll v end room w) → here.wrote ≡ emptied kind here.party c.word room.0
   last_wrote {base} {v} {w} {c} {m} {room} {end} n at e here =

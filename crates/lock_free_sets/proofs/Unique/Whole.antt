@@ -115,7 +115,7 @@ module _ {base w : View ℕ} {m : Unit {0}} (idle : base.going ≡ None) where
   refused_if {answer = Ok i} ends done = tt
   refused_if {answer = Err e} ends done = refused ends done
 
-  -- who locks the set holds none
+  -- a pass whose release has locked the set holds no index
   locked_nothing : {index : ℕ} {state : ReleaseState}
       → Ends one_word kinds.Indices (gives_or_locks index) base state m w → state ≡ Locked → HoldsNothing w.made
   locked_nothing {state = Locked} ends =

@@ -69,7 +69,7 @@ module _ {T : Type 0} where
 
   -- ---- what a step writes counts nothing
 
-  -- what counts nothing of an event that begins and ends no call counts nothing of what a step writes
+  -- what counts nothing of an event that begins and ends no call counts nothing of a list of such events
   none_inside : (f : Event T → ℕ) → ((e : Event T) → IsInside e → f e ≡ 0) → (es : List (Event T)) → AllInside es → sum_by f es ≡ 0
   none_inside f none [] all_inside = refl
   none_inside f none (e ∷ es) h =
@@ -254,7 +254,7 @@ module _ {T : Type 0} where
     goes_counted : IsCounted later
     goes_counted = record { calls = calls_then; others = others_then }
 
-  -- where nothing happens the counts stay
+  -- where no event is added, what `IsCounted` says of the run holds still
   no_more : (t : Trace T) → IsCounted t → IsCounted record { world = t.world; events = t.events ++ [] }
   no_more t counted = subst (λ es. IsCounted record { world = t.world; events = es }) (sym (append-nil t.events)) counted
 

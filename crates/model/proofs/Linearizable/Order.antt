@@ -48,8 +48,8 @@ module _ {T : Type 0} (is_call : Start T → Bool) where
           Pending q start (is ∙ ap (λ n. call_at n q start (response_in q es (place + 1))) (put_other p q place begun ne))
           (sym (put_other p q (Some (s, None)) going ne) ∙ under)
 
-  -- A call of the later events is one of all of them where the first event, by which the party `p` stands as `o` says, begins no
-  -- call and answers no other party.
+  -- A call of the later events is one of all events, where the first event begins no call, answers no other party than `p`, and
+  -- leaves `p`, which stands then as `o` says, without a call that has still to act.
   source_moved : (e : Event T) (p : ℕ) (o : Standing T) {es : List (Event T)} {place : ℕ} {going : ℕ → Standing T} {begun : ℕ → ℕ} {c : Call T}
       → calls_from (e ∷ es) place ≡ calls_from es (place + 1) → ((start : Start T) → o ≡ Some (start, None) → ⊥)
       → ((q : ℕ) → q ≢ p → response_in q (e ∷ es) place ≡ response_in q es (place + 1))

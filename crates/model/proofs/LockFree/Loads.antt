@@ -26,7 +26,8 @@ module _ {T : Type 0} (refuses : World T → Turn T → Option Refusal) (possibl
       (turns : List (Turn T)) → AreAllowedBy refuses t turns → AllByRecursion May turns
       → AreWithinEnds bound (steps + steps_in t turns) before (ends (after_turns t turns).events)
 
-  -- Each of these calls, since `before` calls had ended, has paid for one step more than the bound.
+  -- Since `before` calls had ended, `calls` calls were under way or began, and `steps` steps were taken: all steps are within the
+  -- bound between ends, and are no more than if each of the calls paid for one step more than the bound.
   record HavePaid (bound before calls steps : ℕ) (t : Trace T) : Type 0 where
     within : StaysWithin bound before t steps
     count : pending n t.world + ends t.events ≡ before + calls
@@ -42,7 +43,7 @@ module _ {T : Type 0} (refuses : World T → Turn T → Option Refusal) (possibl
       let most = worth (ends t.events + 1) (before + calls) (bound + 1) (omega arith) in
       omega arith
 
-  -- each call since that moment, and each that these turns begin, pays for one step more than the bound
+  -- where `HavePaid` holds, each of its calls, and each that these turns begin, pays for one step more than the bound
   calls_pay : {bound before : ℕ} (t : Trace T) {calls steps : ℕ} (turns : List (Turn T)) → AreAllowedBy refuses t turns → AllByRecursion May turns
       → HavePaid bound before calls steps t → steps + steps_in t turns ≤ (calls + begins_in turns) * (bound + 1)
   calls_pay {bound} t {calls} [] allowed may have = omega (arith, have.paid, more_calls calls 0 (bound + 1))

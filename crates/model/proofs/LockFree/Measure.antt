@@ -153,7 +153,7 @@ module _ {T : Type 0} (M : Measure T) where
     abbrev pub Shows : World T → World T → ℕ → ℕ → Type 0
     Shows old new steps ended = steps + weight new ≤ weight old + ended * (bound + 1)
 
-    -- a call goes on by an answer
+    -- an answer by which a call ends, or falls as `FallsBy` says, shows what a turn shows (`Shows`), if all are within the measure then
     pub resumes : (w : World T) (p : ℕ) {flight : Flight T} (u : IsUnder w p flight) (answer : ℕ) (ask : Option Ask) → p < n
         → FallsBy w p u.party flight ask answer → IsWithin (after_step w p u.party u.since ask (step_in w p u.party flight answer))
         → Shows w (after_step w p u.party u.since ask (step_in w p u.party flight answer)) (step_count ask)

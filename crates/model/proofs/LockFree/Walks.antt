@@ -66,7 +66,7 @@ module _ {T : Type 0} {refuses : World T → Turn T → Option Refusal} (possibl
             each_by (λ q. pays_at M new q ≤ pays_at M w q) p (let most = within.pays p in rw free most)
             (λ q ne. rw (begun w p start (Some flight) q ne) (omega arith))
 
-    -- a call goes on
+    -- the weight pays for a step of a call under way
     nexts : (t : Trace T) → P t → (p : ℕ) → p < n → {flight : Flight T} → flight_in t.world p ≡ Some flight
         → IsWithin M n (world_after t.world (Next p)) → ShowsTurn t (Next p)
     nexts t h p below {flight} flight_is there =

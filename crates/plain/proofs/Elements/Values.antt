@@ -26,7 +26,7 @@ pub record Codes (V : Type 0) : Type 0 where
   pub some : 1 ≤ size
   pub wide : size ≤ 128
 
--- values are stored so, by the laws of their type
+-- the values of a type are stored as `Codes` says, where the type has these laws
 abbrev pub codes_by : {V : Type 0} {words_of : V → List ℕ} (value_of : List ℕ → V) {size : ℕ} → ((x : V) → length (words_of x) ≡ size)
     → ((x : V) → value_of (words_of x) ≡ x) → 1 ≤ size → size ≤ 128 → Codes V
 codes_by {V} {words_of} value_of {size} sized given_back some wide =

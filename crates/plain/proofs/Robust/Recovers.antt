@@ -160,7 +160,7 @@ module _ {capacity g : ℕ} (cells : List ℕ) (small : g < 2 ^ 64) (long : leng
       (then_on Default (next_generation g))
   on_raised LockIfLastIndex = locks_on (next_generation g) (next_small g small)
 
-  -- in either mode the recovery raises the counter, and goes on to where it stops next
+  -- in either mode the recovery raises the counter, in the mode that locks also tries to lock, and goes on to where it stops next
   raises_on : (mode : ReleaseMode)
       → RecoveryStops mode (suc (suc rounds)) (counter_then mode g emptied) (at (recovers.Raises index raises.LoadsCounter)) (g ∷ emptied)
   raises_on mode =

@@ -89,8 +89,8 @@ module _ (capacity index owner g : ℕ) (cells : List ℕ) (small : g < 2 ^ 64) 
   abbrev answer : ReleaseMode → Released
   answer mode = Ok (release_state mode (owners_in (counter_then mode g emptied ∷ emptied)))
 
-  -- Once the counter is raised, the release locks the set in the mode that locks, and ends with the answer of its
-  -- mode, whatever the raise has answered.
+  -- Once the counter is raised, the release tries to lock the set in the mode that locks, and ends with the answer of
+  -- its mode, whatever the raise has answered.
   on_raised : (mode : ReleaseMode) (P : Released → List ℕ → Type 0) → P (answer mode) (counter_then mode g emptied ∷ emptied) → (state : ReleaseState)
       → ReleaseEndsFrom mode fuel P (release_raised first mode (Done state)) (next_generation g ∷ emptied)
   on_raised Default P holds state = holds
@@ -112,7 +112,7 @@ module _ (capacity index owner g : ℕ) (cells : List ℕ) (small : g < 2 ^ 64) 
       (plus (suc (suc (suc (length emptied)))) 1) 0 (OnEnd P) first_lock (next_generation g ∷ emptied) tt
       (lock_walks capacity (next_generation g) emptied (next_small g small) emptied_long few _ holds)
 
-  -- once the cell is emptied, the release raises the counter, and ends with the answer of its mode
+  -- once the cell is emptied, the release raises the counter, tries to lock in the mode that locks, and ends with its mode's answer
   raises_on : (mode : ReleaseMode) (P : Released → List ℕ → Type 0) → P (answer mode) (counter_then mode g emptied ∷ emptied)
       → ReleaseEnds mode (suc (suc fuel)) P (at_release first (releases.Raises raises.LoadsCounter)) (g ∷ emptied)
   raises_on mode P holds =

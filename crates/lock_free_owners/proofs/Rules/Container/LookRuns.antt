@@ -13,7 +13,7 @@ use Rattle.lock_free_owners.specs.Container.Bare.{Still, LookStage, LookStands, 
 use Rattle.lock_free_owners.proofs.Rules.Container.Bare.{Stays, one_more, counted_on, counted_one, still_tells, leaves, unchanged}
 use Rattle.lock_free_owners.proofs.Rules.Container.Places.{change_fits, count_fits, element_fits}
 
--- A look that updates a state which the pass has not, and the seat at a container's table whose step it is.
+-- A look updates a state that the pass has not, by steps of a seat at a container's table.
 record LookStep (T : Type 0) : Type 0 where
   -- how a value is coded in words, how one is read from them, and how many they are
   code : Coding T

@@ -40,7 +40,7 @@ loop-taken-preserved g c =
     in
     record { allowed = more.0; taken = more.1; kept = c.in_default.ensures.kept }
 
--- where the answer is `Err`, its return meets the clause `refused`
+-- where the answer is `Err`, its return meets the clause `refused`: the machine refuses the next turn for this reason
 pub returns-in-Err-clause-refused : goal.returns-in-Err-clause-refused
 returns-in-Err-clause-refused g c =
     let within : c.loop-taken.taken < length c.args.turns.now = omega arith in
@@ -55,7 +55,7 @@ returns-in-Err-clause-refused g c =
     turn c.in-Err.refusal))
     (sym here) why
 
--- where the answer is `Err`, its return meets the clause `each_before`
+-- where the answer is `Err`, its return meets the clause `each_before`: the turns taken before do what is promised of each
 pub returns-in-Err-clause-each_before : goal.returns-in-Err-clause-each_before
 returns-in-Err-clause-each_before g c =
     reached_turns laws_of (trace_in (coding_by g.T.Words) c.args.self.now)
@@ -64,7 +64,7 @@ returns-in-Err-clause-each_before g c =
     c.self.view_is c.self.invariant)
     c.loop-taken.invariant.allowed
 
--- its return meets the clause `each`
+-- where the answer is `Ok`, its return meets the clause `each`: all the turns do what is promised of each turn
 pub returns-clause-each : goal.returns-clause-each
 returns-clause-each g c =
     let all : c.loop-taken.taken ≡ length c.args.turns.now = omega arith in
