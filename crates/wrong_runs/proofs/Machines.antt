@@ -6,9 +6,10 @@ use Rattle.model.specs.declared.event.Start.{Start}
 use Rattle.model.specs.declared.families.Registry.{Registry}
 use Rattle.model.specs.declared.turn.Kind.{Kind}
 use Rattle.model.specs.Coding.{one_word}
-use Rattle.model.specs.Families.Indices.Robust.Promises.{HeldThroughout}
 use Rattle.model.specs.Moments.{HeldSometime, BeginsNone, SinceBegin}
 use Rattle.model.specs.World.{Trace}
+pub use Rattle.model.proofs.Moments.{Stays, throughout}
+use Rattle.model.proofs.Moments.{so_by_events, so_since}
 
 -- a machine of this kind, of capacity 2 and of two parties, in which no call is under way
 abbrev pub machine : Kind → List ℕ → Registry ℕ → List (Event ℕ) → Trace ℕ
@@ -31,33 +32,13 @@ machine kind words kept events =
 
 -- ---- the moments of a call
 
--- P holds at all of the moments from here on
-abbrev pub Stays : (List (Event ℕ) → Type 0) → List (Event ℕ) → List (Event ℕ) → Type 0
-Stays P before [] = P before
-Stays P before (e ∷ es) = P before × Stays P (before ++ e ∷ []) es
-
--- an event in front of all moments can be read into the property
-shifts : (P : List (Event ℕ) → Type 0) (b : Event ℕ) (before es : List (Event ℕ)) → Stays P (b ∷ before) es → Stays (λ part. P (b ∷ part)) before es
-shifts P b before [] all = all
-shifts P b before (e ∷ es) all = (all.0, shifts P b (before ++ e ∷ []) es all.1)
-
--- what holds at all of the moments of a run holds at each that is reached on the way
-stays_there : (P : List (Event ℕ) → Type 0) (part rest es : List (Event ℕ)) → es ≡ part ++ rest → Stays P [] es → P part
-stays_there P [] rest [] split all = all
-stays_there P [] rest (e ∷ es) split all = all.0
-stays_there P (a ∷ part) rest [] split all = absurd (cc)
-stays_there P (a ∷ part) rest (e ∷ es) split all =
-    let first : e ≡ a = cc in
-    let more : es ≡ part ++ rest = cc in
-    rw (← first) (stays_there (λ part. P (e ∷ part)) part rest es more (shifts P e [] es all.1))
-
 -- P holds at none of the moments from here on
 abbrev pub Never : (List (Event ℕ) → Type 0) → List (Event ℕ) → List (Event ℕ) → Type 0
 Never P = Stays (λ part. P part → ⊥)
 
 -- What never holds in these events was held at no moment of the party's call.
 pub at_no_moment : (p : ℕ) (P : List (Event ℕ) → Type 0) (events : List (Event ℕ)) → Never P [] events → HeldSometime p P events → ⊥
-at_no_moment p P events never held = stays_there (λ part. P part → ⊥) held.part held.rest events held.is never held.held
+at_no_moment p P events never held = so_by_events p P events never held
 
 -- Events with a begin of the party's call are not events in which it begins none.
 begins_one : (p : ℕ) (start : Start ℕ) (before since : List (Event ℕ)) → BeginsNone p (before ++ Begun p start ∷ since) → ⊥
@@ -91,22 +72,7 @@ module _ (p : ℕ) where
       subst (λ b. P b since) (sym same.0) (subst (P now.before) (sym same.2) now.holds)
 
 module _ (p : ℕ) (start : Start ℕ) where
-  -- what holds from the begin of a party's latest call on holds throughout the call
-  pub throughout : (P : List (Event ℕ) → Type 0) (before since : List (Event ℕ))
-      → Stays P (before ++ Begun p start ∷ []) since → HeldThroughout p P (before ++ Begun p start ∷ since)
-  throughout P before since all [] rest split none = absurd (begins_one p start before since (subst (BeginsNone p) (sym split) none))
-  throughout P [] since all (a ∷ part) rest split none =
-      let first : Begun p start ≡ a = cc in
-      let more : since ≡ part ++ rest = cc in
-      rw (← first) (stays_there (λ part. P (Begun p start ∷ part)) part rest since more (shifts P (Begun p start) [] since all))
-  throughout P (b ∷ before) since all (a ∷ part) rest split none =
-      let first : b ≡ a = cc in
-      let more : before ++ Begun p start ∷ since ≡ part ++ rest = cc in
-      let behind = shifts P b (before ++ Begun p start ∷ []) since all in
-      rw (← first) (throughout (λ part. P (b ∷ part)) before since behind part rest more none)
-
   -- What holds at no moment since the begin of a call held at no moment of the call.
   pub at_none_since : (P : List (Event ℕ) → Type 0) (before since : List (Event ℕ))
       → Never P (before ++ Begun p start ∷ []) since → HeldSometime p P (before ++ Begun p start ∷ since) → ⊥
-  at_none_since P before since never held =
-      throughout (λ part. P part → ⊥) before since never held.part held.rest held.is held.within held.held
+  at_none_since P before since never held = so_since p start P before since never held
