@@ -314,3 +314,13 @@ module _ {T : Type 0} (t : Trace T) (kind_is : t.world.kind ≡ kinds.Container)
         well_formed = IsFaithfulRun t r × IsWellFormedRun new × IsHonest new.events;
         so_far = λ run. well_formed_on on new (and_true faithful few run.0.faithful (is_few world.turns run.0.few)) run.2 run.1;
       })
+
+  -- where the run is faithful and the turn is no step for an owner who is gone, the run
+  -- with this turn is honest
+  pub reached_turn_honest : (turn : Turn T) → open_refusal t.world turn ≡ None → IsFaithful t r → steps_for_gone t turn ≡ false
+      → IsHonest (after_turn t turn).events
+  reached_turn_honest turn unrefused faithful steps =
+      let world = t.world in
+      let sound_there = reached_open_sound in
+      turn_honest any world.coding world.capacity t sound_there (reached_open_honest faithful) turn unrefused steps
+      (open_turn_sound false world.coding world.capacity t sound_there (λ keeps. absurd (cc)) turn unrefused (λ keeps. absurd (cc)))

@@ -1,6 +1,7 @@
 -- Every turn of an open run keeps what holds of the machine of a robust set, so it holds wherever an open
 -- run leads. (In an open run no owner dies, and no decision is refused.)
-use Rattle.laws_robust.proofs.Names.{◌≡◌, ℕ, Bool, true, not, Some, None, is_none, refl, subst, arith, ReleaseMode}
+use Rattle.laws_robust.proofs.Names.{◌≡◌, ◌≢◌, slice_index, greatest, AnswersRight, Each, ℕ, Bool, true, not, Some}
+use Rattle.laws_robust.proofs.Names.{None, is_none, refl, subst, arith, ReleaseMode}
 use Rattle.laws_robust.proofs.Names.{Container, Flight, Party, Idle, Undecided, Turn, Begin, Next, Decide, Die}
 use Rattle.laws_robust.proofs.Names.{Coding, party_of, is_due, call_refusal, after_turn, Trace, flight_in, row_passed}
 use Rattle.model.specs.declared.families.container.ContainerStart.TheVariants.{Recover}
@@ -17,9 +18,10 @@ use Rattle.model.proofs.Frame as frame
 use Rattle.model.proofs.Rows.{MayStart, MayGoOn, IsPossible, possible_on, not_none, not_some}
 use Rattle.model.proofs.Scenes.{decides_from, stands_there}
 use Rattle.model.proofs.Reached.{kept_by, reached_by_more}
-use Rattle.laws_robust.specs.Gone.{Word}
+use Rattle.laws_robust.specs.Gone.{Word, IsHonest}
 use Rattle.laws_robust.specs.Open.{open_refusal, IsReachedOpen, IsOpenSet}
 use Rattle.laws_robust.proofs.Alive.{AllLive, all_live_on}
+use Rattle.laws_robust.proofs.Gone.{answers_right}
 use Rattle.laws_robust.proofs.Invariant.{outline, family_by}
 use Rattle.laws_robust.proofs.Living.{steps_leave}
 use Rattle.laws_robust.proofs.Sound.{May, laws_by, all_turns, decides, MayDecideIn}
@@ -124,6 +126,10 @@ module _ {T : Type 0} where
   -- wherever an open run leads, what is promised of an open set holds
   pub reached_open_kept : (t : Trace T) → t.world.kind ≡ kinds.Robust → IsReachedOpen t → IsOpenSet t
   reached_open_kept t kind_is reached_open = open_kept t.world.coding (reached_open_sound t kind_is reached_open) (reached_open_lives t kind_is reached_open)
+
+  -- In an honest run whose counter is not at its end, the answers are right as those of a machine whose owners die.
+  pub open_answers : (t : Trace T) → IsOpenSet t → IsHonest t.events → slice_index t.world.words 0 ≢ greatest → Each (AnswersRight t.world.capacity) t.events
+  open_answers t open_set honest other = answers_right (slice_index t.world.words 0 ≡ greatest) other Word t.world.capacity t.events honest open_set.answers
 
   -- ---- one turn more
 
