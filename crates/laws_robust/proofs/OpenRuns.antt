@@ -1,6 +1,6 @@
 -- Every turn of an open run keeps what holds of the machine of a robust set, so it holds wherever an open
 -- run leads. (In an open run no owner dies, and no decision is refused.)
-use Rattle.laws_robust.proofs.Names.{◌≡◌, ◌≢◌, slice_index, greatest, AnswersRight, Each, ℕ, Bool, true, not, Some}
+use Rattle.laws_robust.proofs.Names.{◌≡◌, ◌≢◌, greatest, AnswersRight, Each, ℕ, Bool, true, not, Some}
 use Rattle.laws_robust.proofs.Names.{None, is_none, refl, subst, arith, ReleaseMode}
 use Rattle.laws_robust.proofs.Names.{Container, Flight, Party, Idle, Undecided, Turn, Begin, Next, Decide, Die}
 use Rattle.laws_robust.proofs.Names.{Coding, party_of, is_due, call_refusal, after_turn, Trace, flight_in, row_passed}
@@ -11,7 +11,7 @@ use Rattle.model.specs.declared.turn.Kind.TheVariants as kinds
 use Rattle.model.specs.declared.turn.Refusal.TheVariants.{Busy, WrongCall}
 use Rattle.model.specs.Families.{first_of}
 use Rattle.model.specs.World.{World}
-use Rattle.std.proofs.Common.{is_some}
+use Rattle.std.proofs.Common.{is_some, slice_index}
 use Rattle.model.specs.declared.families.Registry.TheVariants as registries
 use Rattle.model.proofs.FamilyLaws.{opening_there}
 use Rattle.model.proofs.Frame as frame
