@@ -7,31 +7,9 @@ use Rattle.model.specs.LockFree.{Bound}
 use Rattle.lock_free.specs.Coding.{Coding}
 use Rattle.lock_free.specs.History.{Continues, Knows}
 use Rattle.lock_free.specs.HistoryView.View.{View}
-use Rattle.headline_threads.specs.Ends.{AreBelow, BeginSuch, PassesEnd, PassesKeepEnding, KnownKeepsEnding}
-use Rattle.headline_threads.specs.Ends.{PassesEndLoad, KnownEndsLoad, KnownAsksLoad, PassesRest}
-use Rattle.headline_threads.specs.Ends.{PassesEndOf, PassesKeepEndingOf, KnownKeepsEndingOf}
-use Rattle.headline_threads.specs.Ends.{PassesEndLoadOf, KnownEndsLoadOf, KnownAsksLoadOf, PassesRestOf}
+use Rattle.headline_threads.specs.Ends.{AreBelow, BeginSuch}
+use Rattle.headline_threads.proofs.Ending.{EndsAll, EndsSuch}
 use Rattle.uses_laws.specs.Runs.{EndsWithin}
-
--- the laws of a kind, by a bound
-pub record Laws (T : Type 0) (kind : Kind) (bound : Bound) : Type 0 where
-  pub ends : PassesEnd T kind bound
-  pub keep : PassesKeepEnding T kind bound
-  pub known : KnownKeepsEnding T kind bound
-  pub between : PassesEndLoad T kind bound
-  pub load : KnownEndsLoad T kind bound
-  pub asks : KnownAsksLoad T kind bound
-  pub rest : PassesRest T kind bound
-
--- the laws of passes that have seen only calls begin of which `Such` holds
-pub record LawsOf (T : Type 0) (kind : Kind) (Such : Start T → Type 0) (bound : Bound) : Type 0 where
-  pub ends : PassesEndOf T kind Such bound
-  pub keep : PassesKeepEndingOf T kind Such bound
-  pub known : KnownKeepsEndingOf T kind Such bound
-  pub between : PassesEndLoadOf T kind Such bound
-  pub load : KnownEndsLoadOf T kind Such bound
-  pub asks : KnownAsksLoadOf T kind Such bound
-  pub rest : PassesRestOf T kind Such bound
 
 more_aside : (asked few aside load : ℕ) → few ≤ aside → asked ≤ few + load → asked ≤ aside + load
 more_aside asked few aside load less most = omega arith
@@ -40,11 +18,11 @@ module _ {T : Type 0} (code : Coding T) (kind : Kind) (capacity : ℕ) (bound : 
     (knows : Knows code kind capacity old) (later : Continues code kind capacity old new) (few : new.aside ≤ aside) where
   -- by the laws, between two moments of a pass steps are bounded by the calls that ended
   -- and by those that began
-  pub ends_within : Laws T kind bound → (n : ℕ) → AreBelow n new.seen
+  pub ends_within : EndsAll T kind bound → (n : ℕ) → AreBelow n new.seen
       → EndsWithin code kind capacity (bound n capacity code.size) aside old new later
   ends_within laws n below =
       record {
-        ends_one = laws.ends code capacity old new knows later n below;
+        ends_one = laws.end code capacity old new knows later n below;
         ends_since = laws.keep code capacity old new knows later n below;
         ends_all = laws.known code capacity new later.knows n below;
         load_since = laws.between code capacity old new knows later n below;
@@ -56,11 +34,11 @@ module _ {T : Type 0} (code : Coding T) (kind : Kind) (capacity : ℕ) (bound : 
 
   -- between two moments of a pass that has seen only such calls begin, steps are bounded by the calls that
   -- ended and by those that began
-  pub ends_within_of : (Such : Start T → Type 0) → LawsOf T kind Such bound → (n : ℕ) → AreBelow n new.seen → BeginSuch Such new.seen
+  pub ends_within_of : (Such : Start T → Type 0) → EndsSuch T kind Such bound → (n : ℕ) → AreBelow n new.seen → BeginSuch Such new.seen
       → EndsWithin code kind capacity (bound n capacity code.size) aside old new later
   ends_within_of Such laws n below such =
       record {
-        ends_one = laws.ends code capacity old new knows later n below such;
+        ends_one = laws.end code capacity old new knows later n below such;
         ends_since = laws.keep code capacity old new knows later n below such;
         ends_all = laws.known code capacity new later.knows n below such;
         load_since = laws.between code capacity old new knows later n below such;

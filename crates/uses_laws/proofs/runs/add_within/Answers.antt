@@ -8,7 +8,8 @@ use Rattle.lock_free.specs.Coding.{Coding}
 use Rattle.lock_free.specs.Container.Names.{capacity_of, code_of, view}
 use Rattle.lock_free.specs.Container.Steps.{to_settle}
 use Rattle.lock_free.specs.History.{Continues, Knows}
-use Rattle.uses_laws.proofs.Running.{Laws, LawsOf, ends_within, ends_within_of}
+use Rattle.headline_threads.proofs.Ending.{EndsAll, EndsSuch}
+use Rattle.uses_laws.proofs.Running.{ends_within, ends_within_of}
 use Rattle.uses_laws.proofs.runs.add_within.Goals as goal
 
 -- the run of the container goes on, and its steps are within the bounds of containers
@@ -28,9 +29,9 @@ returns g c =
     let ending = c.owners_keep_ending.ensures in
     let loads = c.owners_end_loads.ensures in
     -- the laws of containers, by the bound for all calls
-    let laws : Laws ℕ Container room_container_bound =
+    let laws : EndsAll ℕ Container room_container_bound =
     record {
-      ends = ending.container;
+      end = ending.container;
       keep = ending.container_keep;
       known = ending.container_known;
       between = loads.container_between;
@@ -40,9 +41,9 @@ returns g c =
     }
     in
     -- the laws of containers, by the bound for calls that never lock
-    let by_default : LawsOf ℕ Container IsDefault default_container_bound =
+    let by_default : EndsSuch ℕ Container IsDefault default_container_bound =
     record {
-      ends = ending.container_by_default;
+      end = ending.container_by_default;
       keep = ending.container_keep_by_default;
       known = ending.container_known_by_default;
       between = loads.container_between_by_default;

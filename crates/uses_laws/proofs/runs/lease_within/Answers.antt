@@ -6,7 +6,8 @@ use Rattle.model.specs.LockFree.{IsDefault, default_bound, room_bound}
 use Rattle.lock_free.specs.Coding.{one_word}
 use Rattle.lock_free.specs.History.{Continues, Knows}
 use Rattle.lock_free.specs.RobustUniqueIndexSet.{capacity_of, view}
-use Rattle.uses_laws.proofs.Running.{Laws, LawsOf, ends_within, ends_within_of}
+use Rattle.headline_threads.proofs.Ending.{EndsAll, EndsSuch}
+use Rattle.uses_laws.proofs.Running.{ends_within, ends_within_of}
 use Rattle.uses_laws.proofs.runs.lease_within.Goals as goal
 
 -- the run of the set goes on, and its steps are within the bounds of robust sets
@@ -25,9 +26,9 @@ returns g c =
     let ending = c.owners_keep_ending.ensures in
     let loads = c.owners_end_loads.ensures in
     -- the laws of robust sets, by the bound for all calls
-    let laws : Laws ℕ Robust room_bound =
+    let laws : EndsAll ℕ Robust room_bound =
     record {
-      ends = ending.robust;
+      end = ending.robust;
       keep = ending.robust_keep;
       known = ending.robust_known;
       between = loads.robust_between;
@@ -37,9 +38,9 @@ returns g c =
     }
     in
     -- the laws of robust sets, by the bound for calls that never lock
-    let by_default : LawsOf ℕ Robust IsDefault default_bound =
+    let by_default : EndsSuch ℕ Robust IsDefault default_bound =
     record {
-      ends = ending.robust_by_default;
+      end = ending.robust_by_default;
       keep = ending.robust_keep_by_default;
       known = ending.robust_known_by_default;
       between = loads.robust_between_by_default;

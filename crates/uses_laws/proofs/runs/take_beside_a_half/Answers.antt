@@ -5,7 +5,8 @@ use Rattle.model.specs.LockFree.{Bound, stretch}
 use Rattle.lock_free.specs.Coding.{one_word}
 use Rattle.lock_free.specs.History.{Continues, Knows}
 use Rattle.lock_free.specs.UniqueIndexSet.{SetId, capacity_of, set_id, set_of, view}
-use Rattle.uses_laws.proofs.Running.{Laws, ends_within}
+use Rattle.headline_threads.proofs.Ending.{EndsAll}
+use Rattle.uses_laws.proofs.Running.{ends_within}
 use Rattle.uses_laws.proofs.runs.take_beside_a_half.Goals as goal
 
 same_size : {one other : SetId} → one ≡ other → one.capacity ≡ other.capacity
@@ -40,9 +41,9 @@ returns g c =
     run.calls one_word Indices capacity old taken new (run.calls one_word Indices capacity old left taken one two) three in
     let bound : Bound = λ n capacity size. stretch n 1 (capacity + 4) in
     -- the laws of unique index sets
-    let laws : Laws ℕ Indices bound =
+    let laws : EndsAll ℕ Indices bound =
     record {
-      ends = c.passes_keep_ending.ensures.ends Indices;
+      end = c.passes_keep_ending.ensures.ends Indices;
       keep = c.passes_keep_ending.ensures.keep Indices;
       known = c.passes_keep_ending.ensures.known Indices;
       between = c.passes_end_loads.ensures.between Indices;
