@@ -7,20 +7,18 @@ use Rattle.model.specs.declared.turn.Kind.TheVariants.{Robust, Container}
 use Rattle.model.specs.declared.turn.Refusal.{Refusal}
 use Rattle.model.specs.declared.turn.Turn.{Turn}
 use Rattle.model.specs.Loads.{EndsLoadOf}
-use Rattle.model.specs.LockFree.{Bound, BeginsSuch, IsDefault, default_bound, default_container_bound, room_bound}
+use Rattle.model.specs.LockFree.{Bound, BeginsSuch, IsDefault, default_bound, default_container_bound, parties_below}
 use Rattle.model.specs.Refusals.{call_refusal, refusal_of}
 use Rattle.model.specs.Turns.{IsReached, IsReachedOn, after_turn, attempt, attempt_on, run, run_on, unless_refused}
 use Rattle.model.specs.World.{Trace, opened, opening}
-use Rattle.model.proofs.LockFree.Machines.{all_allowed, loads_in_runs}
+use Rattle.model.proofs.LockFree.Machines.{all_allowed, length_below}
 use Rattle.model.proofs.Names.{is_loan}
 use Rattle.model.proofs.Openings.{opened_others}
 use Rattle.model.proofs.Reached.{turn_making}
 use Rattle.model.proofs.Rows.{passes}
-use Rattle.laws_container.specs.LockFree.{room_container_bound}
-use Rattle.machine.proofs.Loads.{robust_load_ends, container_load_ends, room_load_ends, room_container_load_ends}
+use Rattle.machine.proofs.Loads.{robust_load_ends, container_load_ends}
 use Rattle.headline.specs.Going.{EndsByTurnsOf}
-use Rattle.headline.specs.Nexts.{EndsByTurns}
-use Rattle.headline.proofs.Nexts.{ends_within, turns_end}
+use Rattle.headline.proofs.Nexts.{ends_within}
 
 module _ {T : Type 0} (Such : Start T → Type 0) where
   -- Some turns lead to this machine that begin only calls of which `Such` holds.
@@ -89,7 +87,7 @@ module _ {T : Type 0} (Such : Start T → Type 0) where
       let there = reached_by_such t none r before in
       let on = all_allowed t turns t.world.parties refl allowed in
       ends_within (bound t.world.parties t.world.capacity t.world.coding.size) t r p under_way turns allowed
-      (loads t is there.reached there.such t.world.parties turns on.0 on.1 such) many
+      (rw (length_below t.world.parties) at (loads t is there.reached there.such (parties_below t.world.parties) turns on.0 on.1 such)) many
 
 pub robust_by_turns : (T : Type 0) → EndsByTurnsOf T Robust IsDefault default_bound
 robust_by_turns T = turns_end_of IsDefault Robust refl default_bound (robust_load_ends T)
@@ -97,9 +95,3 @@ robust_by_turns T = turns_end_of IsDefault Robust refl default_bound (robust_loa
 -- A container in which no call may lock ends calls by turns, within its default bound.
 pub container_by_turns : (T : Type 0) → EndsByTurnsOf T Container IsDefault default_container_bound
 container_by_turns T = turns_end_of IsDefault Container refl default_container_bound (container_load_ends T)
-
-pub robust_room_by_turns : (T : Type 0) → EndsByTurns T Robust room_bound
-robust_room_by_turns T = turns_end Robust room_bound (loads_in_runs Robust refl room_bound (room_load_ends T))
-
-pub container_room_by_turns : (T : Type 0) → EndsByTurns T Container room_container_bound
-container_room_by_turns T = turns_end Container room_container_bound (loads_in_runs Container refl room_container_bound (room_container_load_ends T))

@@ -1,26 +1,24 @@
 -- On an endless schedule on which turns may be refused each party to which it is fair ends its call.
 use Rattle.std.specs.Prelude.{IfSome, if◌then◌else◌}
 use Rattle.std.proofs.Common.{◌≡◌, ◌≢◌, ◌≤◌, ◌⊎◌, inl, inr, ⊎_elim, ℕ, zero, suc, ◌+◌, ◌==◌, Bool, true, false, Option, Some, None, List, [], ◌∷◌, ◌++◌}
-use Rattle.std.proofs.Common.{refl, sym, ap, subst, ◌∙◌, append-nil, arith}
+use Rattle.std.proofs.Common.{refl, sym, ap, subst, ◌∙◌, append-nil, arith, length}
 use Rattle.std.proofs.lemmas.Bool.{cases_eq}
 use Rattle.std.specs.List.{AllByRecursion}
 use Rattle.model.specs.declared.turn.Kind.{Kind}
-use Rattle.model.specs.declared.turn.Kind.TheVariants as kinds
 use Rattle.model.specs.declared.turn.Refusal.{Refusal}
 use Rattle.model.specs.declared.turn.Turn.{Turn}
 use Rattle.model.specs.declared.turn.Turn.TheVariants.{Begin, Next, Decide, Die}
 use Rattle.model.specs.Fair.{own_step}
 use Rattle.model.specs.Loads.{EndsLoad, begins_in, begun, load, pending}
-use Rattle.model.specs.LockFree.{Bound, IsBelow, lock_free_bound, room_bound, steps_in, steps_of}
+use Rattle.model.specs.LockFree.{Bound, IsAmong, lock_free_bound, steps_in, steps_of}
 use Rattle.model.specs.Refusals.{call_refusal}
 use Rattle.model.specs.Turns.{AreAllowedOn, after_turn, after_turns, unless_refused}
 use Rattle.model.specs.World.{Trace, World, flight_in}
 use Rattle.model.proofs.LockFree.Counted.{begins_are}
 use Rattle.model.proofs.LockFree.Measure.{worth}
 use Rattle.model.proofs.Reached.{after_turns_more}
-use Rattle.laws_container.specs.LockFree.{room_container_bound}
 use Rattle.machine.proofs.LockFree.{if_some}
-use Rattle.machine.proofs.Loads.{load_ends, room_load_ends, room_container_load_ends}
+use Rattle.machine.proofs.Loads.{load_ends}
 use Rattle.headline.specs.Going.{EndsIfFairOn, IsFairOn, IsStepOf, moment_on}
 
 module _ {T : Type 0} where
@@ -174,24 +172,18 @@ module _ {T : Type 0} where
   -- where a finite load ends, each party to which the schedule is fair comes to a moment at which it has no call under
   -- way
   fair_end : (kind : Kind) (bound : Bound) → EndsLoad T kind bound → EndsIfFairOn T kind bound
-  fair_end kind bound ends t is r n calls turns below few p fair = ⊎_elim (λ rests. rests) none
-      (often t turns p fair (suc (load (bound n t.world.capacity t.world.coding.size) (pending n t.world + calls))))
+  fair_end kind bound ends t is r ps calls turns below few p fair = ⊎_elim (λ rests. rests) none
+      (often t turns p fair (suc (load (bound (length ps) t.world.capacity t.world.coding.size) (pending ps t.world + calls))))
     where
       -- no moment comes at which more steps have been taken than the load allows
-      none : (k : ℕ) × (suc (load (bound n t.world.capacity t.world.coding.size) (pending n t.world + calls)) ≤ steps_by t turns k)
+      none : (k : ℕ) × (suc (load (bound (length ps) t.world.capacity t.world.coding.size) (pending ps t.world + calls)) ≤ steps_by t turns k)
           → (k : ℕ) × (flight_in (moment_on t turns k).world p ≡ None)
       none (k, many) =
-          let steps = ends t is r n (taken t turns k) (are_allowed t turns k) (are_such t turns (IsBelow n) below k) in
+          let steps = ends t is r ps (taken t turns k) (are_allowed t turns k) (are_such t turns (IsAmong ps) below k) in
           let less =
-          within t turns (bound n t.world.capacity t.world.coding.size) (pending n t.world) calls k (few_begin t turns calls few k) steps in
+          within t turns (bound (length ps) t.world.capacity t.world.coding.size) (pending ps t.world) calls k (few_begin t turns calls few k) steps in
           absurd (omega arith)
 
 -- Each kind that is lock-free ends the call of a party to which the schedule is fair.
 pub ends_if_fair : (T : Type 0) (kind : Kind) → IfSome (lock_free_bound kind) (EndsIfFairOn T kind)
 ends_if_fair T kind = if_some (EndsLoad T kind) (EndsIfFairOn T kind) (lock_free_bound kind) (fair_end kind) (load_ends T kind)
-
-pub robust_if_fair : (T : Type 0) → EndsIfFairOn T kinds.Robust room_bound
-robust_if_fair T = fair_end kinds.Robust room_bound (room_load_ends T)
-
-pub container_if_fair : (T : Type 0) → EndsIfFairOn T kinds.Container room_container_bound
-container_if_fair T = fair_end kinds.Container room_container_bound (room_container_load_ends T)

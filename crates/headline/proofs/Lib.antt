@@ -13,6 +13,7 @@ pub mod Picking
 pub mod Progressing
 pub mod Reached
 pub mod Reaching
+pub mod Strong
 pub mod SubmissionRoom
 pub mod Visiting
 pub mod WantsNothing

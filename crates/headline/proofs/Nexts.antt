@@ -22,7 +22,7 @@ use Rattle.model.specs.declared.turn.Kind.{Kind}
 use Rattle.model.specs.declared.turn.Kind.TheVariants.{Loan}
 use Rattle.model.specs.declared.turn.Turn.{Turn}
 use Rattle.model.specs.declared.turn.Turn.TheVariants.{Begin, Decide, Die, Next}
-use Rattle.model.specs.LockFree.{lock_free_bound, steps_of}
+use Rattle.model.specs.LockFree.{lock_free_bound, parties_below, steps_of}
 use Rattle.model.specs.Promises.Turns.{ask_in}
 use Rattle.model.specs.Step.{Step}
 use Rattle.model.proofs.LockFree.Falls.{same_is}
@@ -267,8 +267,8 @@ module _ {T : Type 0} where
   -- than this load has ended a call.
   pub ends_within : (bound : ℕ) (t : Trace T) → IsReached t → (p : ℕ) → is_some (flight_in t.world p) ≡ true
       → (turns : List (Turn T)) → AreAllowed t turns
-      → steps_in t turns ≤ load bound (pending t.world.parties t.world + begins_in turns)
-      → load bound (pending t.world.parties t.world + begins_of_others p turns) < nexts_in p turns
+      → steps_in t turns ≤ load bound (pending (parties_below t.world.parties) t.world + begins_in turns)
+      → load bound (pending (parties_below t.world.parties) t.world + begins_of_others p turns) < nexts_in p turns
       → own_ends p t.events < own_ends p (after_turns t turns).events
   ends_within bound t reached p under_way turns allowed most many =
       ⊎_elim (λ less. less) none (cases_lt (own_ends p t.events) (own_ends p (after_turns t turns).events))

@@ -1,6 +1,6 @@
 -- The bounds of lock-freedom at small sizes, the calls that may not lock, and a recovery of a robust set and one of a container
 -- in which no call ends for as many steps as their bounds say.
-use Rattle.std.proofs.Common.{◌≡◌, ◌<◌, ℕ, true, Option, Some, None, List, [], ◌∷◌, ◌++◌, refl, arith}
+use Rattle.std.proofs.Common.{◌≡◌, ◌<◌, inl, ℕ, true, Option, Some, None, List, [], ◌∷◌, ◌++◌, refl, arith}
 use Rattle.std.specs.List.{AllByRecursion}
 use Rattle.steps.specs.declared.indices.enums.ReleaseMode.TheVariants.{Default, LockIfLastIndex}
 use Rattle.model.specs.declared.event.Answer.TheVariants.{Index}
@@ -15,7 +15,7 @@ use Rattle.model.specs.declared.turn.Kind.TheVariants.{IndexQueue, Overflow, Que
 use Rattle.model.specs.declared.turn.Turn.{Turn}
 use Rattle.model.specs.declared.turn.Turn.TheVariants.{Die, Decide}
 use Rattle.model.specs.Coding.{one_word, IsCoding}
-use Rattle.model.specs.LockFree.{Bound, IsBelow, BeginsSuch, IsLockFreeOf, IsDefault, ends, steps_in}
+use Rattle.model.specs.LockFree.{Bound, IsAmong, IsOneIn, BeginsSuch, IsLockFreeOf, IsDefault, ends, steps_in}
 use Rattle.model.specs.LockFree.{lock_free_bound, default_bound, default_container_bound}
 use Rattle.model.specs.Turns.{run_on, after_turns, AreAllowedOn, IsReachedOn}
 use Rattle.model.specs.World.{Trace, opening}
@@ -166,16 +166,15 @@ record IsEndless (t : Trace ℕ) (kind : Kind) (turns : List (Turn ℕ)) (steps 
   pub size : t.world.coding.size ≡ 1
   -- the turns: none is refused, all are of party 0, and none begins a call that may lock
   pub allowed : AreAllowedOn t turns
-  pub below : AllByRecursion (IsBelow 1) turns
+  pub below : AllByRecursion (IsAmong (0 ∷ [])) turns
   pub such : AllByRecursion (BeginsSuch IsDefault) turns
   -- the steps of these turns, and that one call had ended before them and after
   pub many : steps_in t turns ≡ steps
   pub ended_before : ends t.events ≡ 1
   pub ended_after : ends (after_turns t turns).events ≡ 1
 
--- party 0 is the only one below 1
-low : 0 < 1
-low = omega arith
+low : IsOneIn (0 ∷ []) 0
+low = inl refl
 
 none_more : (before after ended : ℕ) → before ≡ ended → after ≡ ended → before < after → ⊥
 none_more before after ended was leads less = absurd (omega arith)
@@ -188,7 +187,7 @@ no_less : (t : Trace ℕ) (kind : Kind) (turns : List (Turn ℕ)) (steps : ℕ) 
     → (bound : Bound) → bound 1 1 1 < steps → IsLockFreeOf ℕ kind IsDefault bound → ⊥
 no_less t kind turns steps endless bound few free =
     none_more (ends t.events) (ends (after_turns t turns).events) 1 endless.ended_before endless.ended_after
-    (free t endless.is endless.reached endless.such_before 1 turns endless.allowed endless.below endless.such
+    (free t endless.is endless.reached endless.such_before (0 ∷ []) turns endless.allowed endless.below endless.such
     (more_steps (bound 1 t.world.capacity t.world.coding.size) steps (steps_in t turns) endless.many (rw (endless.capacity, endless.size) few)))
 
 -- an index of the robust set is acquired for owner 1, who dies

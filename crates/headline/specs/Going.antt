@@ -7,7 +7,7 @@ use Rattle.model.specs.declared.turn.Kind.{Kind}
 use Rattle.model.specs.declared.turn.Turn.{Turn}
 use Rattle.model.specs.Fair.{own_step}
 use Rattle.model.specs.Loads.{begun, load, pending}
-use Rattle.model.specs.LockFree.{Bound, BeginsSuch, IsBelow}
+use Rattle.model.specs.LockFree.{Bound, BeginsSuch, IsAmong, parties_below}
 use Rattle.model.specs.Refusals.{call_refusal}
 use Rattle.model.specs.Turns.{AreAllowed, IsReached, IsReachedOn, after_turns, attempt_on}
 use Rattle.model.specs.World.{Trace, World, flight_in}
@@ -21,7 +21,7 @@ EndsByTurnsOf T kind Such bound =
     → (p : ℕ) → is_some (flight_in t.world p) ≡ true
     → (turns : List (Turn T)) → AreAllowed t turns → AllByRecursion (BeginsSuch Such) turns
     → load (bound t.world.parties t.world.capacity t.world.coding.size)
-    (pending t.world.parties t.world + begins_of_others p turns) < nexts_in p turns
+    (pending (parties_below t.world.parties) t.world + begins_of_others p turns) < nexts_in p turns
     → own_ends p t.events < own_ends p (after_turns t turns).events
 
 module _ {T : Type 0} where
@@ -43,13 +43,13 @@ module _ {T : Type 0} where
     pub goes : (k : ℕ) → (flight_in (moment_on t turns (at k)).world p ≡ None)
         ⊎ IsStepOf p (moment_on t turns (at k)).world (turns (at k))
 
--- On whatever endless schedule of n parties, if finitely many calls begin: each party to which the schedule
+-- On whatever endless schedule of these parties, if finitely many calls begin: each party to which the schedule
 -- is fair comes to a moment at which it has no call under way. A turn may be refused, so a party may be
 -- scheduled that has no call.
 abbrev pub EndsIfFairOn : Type 0 → Kind → Bound → Type 0
 EndsIfFairOn T kind bound =
-    (t : Trace T) → t.world.kind ≡ kind → IsReachedOn t → (n calls : ℕ) (turns : ℕ → Turn T)
-    → ((k : ℕ) → IsBelow n (turns k))
+    (t : Trace T) → t.world.kind ≡ kind → IsReachedOn t → (parties : List ℕ) (calls : ℕ) (turns : ℕ → Turn T)
+    → ((k : ℕ) → IsAmong parties (turns k))
     → ((k : ℕ) → begun (moment_on t turns k).events ≤ begun t.events + calls)
     → (p : ℕ) → IsFairOn t turns p
     → (k : ℕ) × (flight_in (moment_on t turns k).world p ≡ None)

@@ -6,3 +6,4 @@ pub mod Headline
 pub mod Holders
 pub mod Moments
 pub mod Nexts
+pub mod Strong

@@ -6,7 +6,7 @@ use Rattle.model.specs.declared.event.Event.TheVariants.{Finished}
 use Rattle.model.specs.declared.turn.Kind.{Kind}
 use Rattle.model.specs.declared.turn.Turn.{Turn}
 use Rattle.model.specs.declared.turn.Turn.TheVariants.{Begin, Next}
-use Rattle.model.specs.LockFree.{Bound}
+use Rattle.model.specs.LockFree.{Bound, parties_below}
 use Rattle.model.specs.Turns.{after_turns, AreAllowed, IsReached}
 use Rattle.model.specs.World.{Trace, flight_in}
 use Rattle.model.specs.Loads.{pending, load}
@@ -48,5 +48,5 @@ EndsByTurns T kind bound =
     (t : Trace T) → t.world.kind ≡ kind → IsReached t → (p : ℕ) → is_some (flight_in t.world p) ≡ true
     → (turns : List (Turn T)) → AreAllowed t turns
     → load (bound t.world.parties t.world.capacity t.world.coding.size)
-    (pending t.world.parties t.world + begins_of_others p turns) < nexts_in p turns
+    (pending (parties_below t.world.parties) t.world + begins_of_others p turns) < nexts_in p turns
     → own_ends p t.events < own_ends p (after_turns t turns).events

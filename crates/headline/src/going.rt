@@ -3,19 +3,15 @@
 ghost use Rattle.std.specs.Prelude.{IfSome};
 ghost use Rattle.model.specs.declared.turn.Kind.{Kind};
 ghost use Rattle.model.specs.declared.turn.Kind.TheVariants.{Robust, Container};
-ghost use Rattle.model.specs.LockFree.{IsDefault, lock_free_bound, default_bound, room_bound, default_container_bound};
-ghost use Rattle.laws_container.specs.LockFree.{room_container_bound};
+ghost use Rattle.model.specs.LockFree.{IsDefault, lock_free_bound, default_bound, default_container_bound};
 ghost use Rattle.headline.specs.Going.{EndsByTurnsOf, EndsIfFairOn};
-ghost use Rattle.headline.specs.Nexts.{EndsByTurns};
 
-/// What `by_turns` of `calls_end` says of the other kinds, of a robust index set and a container: with the small bounds in runs in
-/// which no call may lock, and in every run with the bounds of `owners_are_lock_free`. A party with a call under way, that goes
-/// on in more turns than the load of the calls that were under way and of those that others begin, ends it.
+/// What `by_turns` of `calls_end` says of the other kinds, of a robust index set and a container in runs in which no call may
+/// lock. A party with a call under way, that goes on in more turns than the load of the calls that were under way and of those
+/// that others begin, ends it.
 pub fn owners_end_by_turns<T>()
-    ensures robust_by_default { EndsByTurnsOf T Robust IsDefault default_bound }
-    ensures container_by_default { EndsByTurnsOf T Container IsDefault default_container_bound }
-    ensures robust { EndsByTurns T Robust room_bound }
-    ensures container { EndsByTurns T Container room_container_bound }
+    ensures robust { EndsByTurnsOf T Robust IsDefault default_bound }
+    ensures container { EndsByTurnsOf T Container IsDefault default_container_bound }
 {}
 
 /// An endless schedule on which a turn may be refused, and then changes nothing: so a party may be scheduled that has no call. If
@@ -24,7 +20,5 @@ pub fn owners_end_by_turns<T>()
 /// (`if_fair` of `calls_end` is about schedules on which no turn is refused. Where finitely many calls begin, such a schedule of
 /// the seven kinds comes to an end, since each of its turns is a part of a call, so that none is endless.)
 pub fn calls_end_if_fair<T>()
-    ensures kinds { (kind : Kind) → IfSome (lock_free_bound kind) (EndsIfFairOn T kind) }
-    ensures robust { EndsIfFairOn T Robust room_bound }
-    ensures container { EndsIfFairOn T Container room_container_bound }
+    ensures { (kind : Kind) → IfSome (lock_free_bound kind) (EndsIfFairOn T kind) }
 {}

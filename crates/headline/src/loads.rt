@@ -6,14 +6,13 @@ ghost use Rattle.model.specs.declared.turn.Kind.{Kind};
 ghost use Rattle.model.specs.declared.turn.Kind.TheVariants.{Robust, Container, Loan};
 ghost use Rattle.model.specs.Fair.{EndsInRounds, EndsInRoundsOf, EndsInRoundsRuns, EndsIfFair};
 ghost use Rattle.model.specs.Loads.{EndsLoad, EndsLoadOf, EndsLoadRuns};
-ghost use Rattle.model.specs.LockFree.{IsLockFree, IsDefault};
-ghost use Rattle.model.specs.LockFree.{lock_free_bound, default_bound, room_bound, default_container_bound};
-ghost use Rattle.laws_container.specs.LockFree.{room_container_bound};
+ghost use Rattle.model.specs.LockFree.{IsDefault};
+ghost use Rattle.model.specs.LockFree.{lock_free_bound, default_bound, default_container_bound};
 ghost use Rattle.laws_loan.specs.LockFree.{channel_bound};
 ghost use Rattle.headline.specs.Nexts.{EndsByTurns};
 
-/// A finite load ends. Whatever n parties do from any state that turns reach, all their steps together are at most the
-/// bound and one for each call that was under way or begins: on average a call costs at most the bound and one. Of a
+/// A finite load ends. Whatever some parties do from any state that turns reach, all their steps together are at most the
+/// bound for that many parties, and one, for each call that was under way or begins: on average a call costs at most the bound and one. Of a
 /// robust index set and a container the small bounds hold in runs in which no call may lock, and of a loan channel in
 /// the runs of machines.
 pub fn finite_loads<T>()
@@ -30,8 +29,8 @@ pub fn finite_loads<T>()
 /// no call under way (`if_fair`).
 ///
 /// The first holds of all kinds, of a robust set and a container in runs in which no call may lock. The second holds of the
-/// seven kinds and of the loan channel, the third of the seven kinds (of a robust set and a container by
-/// `owners_are_lock_free`). Only the party itself has to be scheduled. A call that waits for a decision takes no step, so a
+/// seven kinds and of the loan channel (of a robust set and a container `owners_end_by_turns` says it), the third of the seven
+/// kinds. Only the party itself has to be scheduled. A call that waits for a decision takes no step, so a
 /// schedule that is fair to it contains the decision.
 pub fn calls_end<T>()
     ensures in_rounds { (kind : Kind) → IfSome (lock_free_bound kind) (EndsInRounds T kind) }
@@ -41,16 +40,4 @@ pub fn calls_end<T>()
     ensures by_turns { (kind : Kind) → IfSome (lock_free_bound kind) (EndsByTurns T kind) }
     ensures by_turns_channel { EndsByTurns T Loan channel_bound }
     ensures if_fair { (kind : Kind) → IfSome (lock_free_bound kind) (EndsIfFair T kind) }
-{}
-
-/// A robust index set and a container are lock-free in every run, whichever calls begin. Two calls that lock can make each
-/// other begin again, but each time one of them has raised the counter of the set, which never falls. As numbers of steps
-/// their bounds say nothing of practice.
-pub fn owners_are_lock_free<T>()
-    ensures robust { IsLockFree T Robust room_bound }
-    ensures robust_load { EndsLoad T Robust room_bound }
-    ensures robust_if_fair { EndsIfFair T Robust room_bound }
-    ensures container { IsLockFree T Container room_container_bound }
-    ensures container_load { EndsLoad T Container room_container_bound }
-    ensures container_if_fair { EndsIfFair T Container room_container_bound }
 {}

@@ -1,6 +1,6 @@
 -- The definitions of one run at worked runs, and what passes they refuse.
 use Rattle.std.proofs.Common.{◌≡◌, ℕ, List, [], ◌∷◌, ◌++◌, length, refl, sym, ap, ◌∙◌, arith, Option, Some, None}
-use Rattle.std.proofs.Common.{◌+◌, ◌-◌, ◌≤◌, length-append, subst}
+use Rattle.std.proofs.Common.{◌+◌, ◌-◌, ◌≤◌, inl, inr, ⊎_elim, length-append, subst}
 use Rattle.std.specs.Prelude.{IfSome}
 use Rattle.model.specs.declared.event.Event.{Event}
 use Rattle.model.specs.declared.event.Start.{Start}
@@ -18,13 +18,13 @@ use Rattle.model.specs.Turns.{events_of, old_of}
 use Rattle.model.specs.World.{Trace, opening, flight_in}
 use Rattle.model.proofs.Reached.{after_turns_more}
 use Rattle.model.proofs.Runs.{begins}
-use Rattle.laws_queues.specs.Fresh.{IsFreshCall, IsFreshTurn}
+use Rattle.model.specs.Fresh.{IsFreshCall, IsFreshTurn}
 use Rattle.threaded.specs.Shares.{all_shares, half_of}
 use Rattle.history.specs.declared.view.View.{View}
 use Rattle.history.specs.History.{Continues, IsBeginning, HasAsked, Knows, nexts, run_of}
 use Rattle.history.specs.Passes.{Goes, MissesNothing}
 use Rattle.history.specs.Views.{first_view}
-use Rattle.headline_threads.specs.Ends.{AreBelow, steps_between}
+use Rattle.headline_threads.specs.Ends.{ActOnly, steps_between}
 
 -- ---- a unique index set of capacity 1, and what a pass knows that has seen all of these turns
 
@@ -119,12 +119,18 @@ loads = (refl, refl)
 took_five : steps_in (opening one_word kinds.Indices 1 0) knows.turns ≡ 5
 took_five = refl
 
--- the events are of the parties 0 and 1
-below_two : AreBelow 2 knows.seen
-below_two = (omega arith, (omega arith, (omega arith, (omega arith, (omega arith, tt)))))
+-- the turns are of the parties 0 and 1, and since the first call has ended of party 1 alone: for one party the bound is 5
+both_act : ActOnly (0 ∷ 1 ∷ []) knows.turns
+both_act = (inl refl, (inl refl, (inl refl, (inl refl, (inl refl, (inr (inl refl), (inr (inl refl), tt)))))))
 
-none_above : AreBelow 1 knows.seen → ⊥
-none_above below = absurd (omega (below.1.1.1.0, arith))
+one_acts : ActOnly (1 ∷ []) later.first.rest
+one_acts = (inl refl, (inl refl, tt))
+
+few : stretch 1 1 5 ≡ 5
+few = refl
+
+no_other : ActOnly (0 ∷ []) later.first.rest → ⊥
+no_other act = ⊎_elim (λ one. cc (one)) (λ none. none) act.0
 
 -- ---- what the definitions refuse
 

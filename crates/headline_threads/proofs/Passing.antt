@@ -1,5 +1,5 @@
 -- Calls end between what a pass knew and what it knows, since its turns are those of one run.
-use Rattle.std.proofs.Common.{◌≡◌, ◌≢◌, ◌<◌, ◌⊎◌, inl, inr, ⊎_elim, ℕ, Option, Some, None, List, [], ◌∷◌, ◌++◌, refl, sym, ap, subst}
+use Rattle.std.proofs.Common.{◌≡◌, ◌≢◌, ◌⊎◌, inl, inr, ⊎_elim, ℕ, Option, Some, None, List, [], ◌∷◌, ◌++◌, refl, sym, ap, subst}
 use Rattle.std.proofs.Common.{◌∙◌, append-nil, append_assoc}
 use Rattle.std.proofs.lemmas.Bool.{cases_eq}
 use Rattle.std.specs.Prelude.{IfSome}
@@ -10,7 +10,7 @@ use Rattle.model.specs.declared.turn.Refusal.{Refusal}
 use Rattle.model.specs.declared.turn.Turn.{Turn}
 use Rattle.model.specs.declared.turn.Turn.TheVariants.{Begin, Next, Decide, Die}
 use Rattle.model.specs.Families.{first_of}
-use Rattle.model.specs.LockFree.{BeginsSuch, IsBelow}
+use Rattle.model.specs.LockFree.{BeginsSuch, IsAmong, IsOneIn}
 use Rattle.model.specs.Parties.{party_of}
 use Rattle.model.specs.Reading.{whose}
 use Rattle.model.specs.Turns.{AreAllowedBy, run_by, after_turn, after_turns, events_of, unless_refused}
@@ -18,7 +18,8 @@ use Rattle.model.specs.World.{World, Trace, flight_in}
 use Rattle.model.proofs.Rows.{IsPossible, MayGoOn}
 use Rattle.history.specs.History.{call_in}
 use Rattle.history.proofs.Calls.{begin_other, next_other, decision_other, no_flight}
-use Rattle.headline_threads.specs.Ends.{AreBelow, BeginSuch, begun_as}
+use Rattle.model.proofs.LockFree.Apart.{all_among_more}
+use Rattle.headline_threads.specs.Ends.{AreOf, BeginSuch, begun_as}
 
 -- What holds of all of two lists holds of all of the second.
 pub all_after : {A : Type 0} (P : A → Type 0) (xs ys : List A) → AllByRecursion P (xs ++ ys) → AllByRecursion P ys
@@ -55,39 +56,67 @@ module _ {T : Type 0} where
 
   -- ---- turns are of the parties of the events, and begin the calls of the events
 
-  -- each party whose call is under way is below n
-  abbrev CallsBelow : ℕ → World T → Type 0
-  CallsBelow n w = (p : ℕ) → (p < n) ⊎ (call_in w p ≡ None)
+  -- the events that these turns write
+  abbrev pub wrote : Trace T → List (Turn T) → List (Event T)
+  wrote t [] = []
+  wrote t (turn ∷ turns) = events_of t.world turn ++ wrote (after_turn t turn) turns
 
-  going_below : (n : ℕ) (w : World T) (p : ℕ) → CallsBelow n w → MayGoOn w p → p < n
-  going_below n w p under may = ⊎_elim (λ below. below) idle (under p)
+  pub writes : (t : Trace T) (turns : List (Turn T)) → (after_turns t turns).events ≡ t.events ++ wrote t turns
+  writes t [] = sym (append-nil t.events)
+  writes t (turn ∷ turns) =
+      writes (after_turn t turn) turns ∙ append_assoc t.events (events_of t.world turn) (wrote (after_turn t turn) turns)
+
+  -- each party whose call is under way is one of these
+  abbrev pub CallsAmong : List ℕ → World T → Type 0
+  CallsAmong ps w = (p : ℕ) → (call_in w p ≡ None) ⊎ IsOneIn ps p
+
+  going_among : (ps : List ℕ) (w : World T) (p : ℕ) → CallsAmong ps w → MayGoOn w p → IsOneIn ps p
+  going_among ps w p under may = ⊎_elim idle (λ one. one) (under p)
     where
       -- A party without a call under way does not go on.
-      idle : call_in w p ≡ None → p < n
+      idle : call_in w p ≡ None → IsOneIn ps p
       idle none = let nothing : flight_in w p ≡ None = no_flight w p none in absurd (cc (may.is))
 
-  -- If only p's call differs between two machines, and p is below n, then still no party from n on
-  -- has a call under way.
-  still_under : (n p : ℕ) (u w : World T) → p < n → ((q : ℕ) → q ≢ p → call_in w q ≡ call_in u q) → CallsBelow n u → CallsBelow n w
-  still_under n p u w low same under q =
-      ⊎_elim (λ (e : q ≡ p). inl (rw e low))
-      (λ (ne : q ≢ p). ⊎_elim (λ below. inl below) (λ idle. inr (same q ne ∙ idle)) (under q)) (cases_eq q p)
+  -- If only p's call differs between two machines, and p is one of these, then still no other party has a call under way.
+  still_under : (ps : List ℕ) (p : ℕ) (u w : World T) → IsOneIn ps p → ((q : ℕ) → q ≢ p → call_in w q ≡ call_in u q) → CallsAmong ps u
+      → CallsAmong ps w
+  still_under ps p u w one same under q =
+      ⊎_elim (λ (e : q ≡ p). inr (rw e one))
+      (λ (ne : q ≢ p). ⊎_elim (λ idle. inl (same q ne ∙ idle)) (λ among. inr among) (under q)) (cases_eq q p)
 
-  -- a possible turn whose events are of parties below n is of one of them, and so are the calls under way then
-  one_below : (n : ℕ) (t : Trace T) (turn : Turn T) → CallsBelow n t.world → IsPossible t.world turn
-      → AreBelow n (events_of t.world turn) → IsBelow n turn × CallsBelow n (after_turn t turn).world
-  one_below n t (Begin p start) under may below = (
-    below.0,
-    still_under n p t.world (after_turn t (Begin p start)).world below.0
+  -- a possible turn whose events are of these parties is of one of them, and so are the calls under way then
+  one_among : (ps : List ℕ) (t : Trace T) (turn : Turn T) → CallsAmong ps t.world → IsPossible t.world turn
+      → AreOf ps (events_of t.world turn) → IsAmong ps turn × CallsAmong ps (after_turn t turn).world
+  one_among ps t (Begin p start) under may are = (
+    are.0,
+    still_under ps p t.world (after_turn t (Begin p start)).world are.0
         (λ q ne. begin_other t.world p q start ne (first_of t.world.kind t.world.capacity start t.world.kept)) under,
   )
-  one_below n t (Next p) under may below =
-      let low = going_below n t.world p under may in
-      (low, still_under n p t.world (after_turn t (Next p)).world low (λ q ne. next_other t.world p q ne (party_of p t.world.latest)) under)
-  one_below n t (Decide p said) under may below =
-      let low = going_below n t.world p under may.0 in
-      (low, still_under n p t.world (after_turn t (Decide p said)).world low (λ q ne. decision_other t.world p q said ne (party_of p t.world.latest)) under)
-  one_below n t (Die owner) under may below = (tt, under)
+  one_among ps t (Next p) under may are =
+      let one = going_among ps t.world p under may in
+      (one, still_under ps p t.world (after_turn t (Next p)).world one (λ q ne. next_other t.world p q ne (party_of p t.world.latest)) under)
+  one_among ps t (Decide p said) under may are =
+      let one = going_among ps t.world p under may.0 in
+      (one, still_under ps p t.world (after_turn t (Decide p said)).world one (λ q ne. decision_other t.world p q said ne (party_of p t.world.latest)) under)
+  one_among ps t (Die owner) under may are = (tt, under)
+
+  -- the parties of which these turns are
+  abbrev pub parties_of : List (Turn T) → List ℕ
+  parties_of [] = []
+  parties_of (Begin p start ∷ turns) = p ∷ parties_of turns
+  parties_of (Next p ∷ turns) = p ∷ parties_of turns
+  parties_of (Decide p said ∷ turns) = p ∷ parties_of turns
+  parties_of (Die owner ∷ turns) = parties_of turns
+
+  pub among_own : (turns : List (Turn T)) → AllByRecursion (IsAmong (parties_of turns)) turns
+  among_own [] = tt
+  among_own (Begin p start ∷ turns) =
+      (inl refl, all_among_more (parties_of turns) (p ∷ parties_of turns) (λ q one. inr one) turns (among_own turns))
+  among_own (Next p ∷ turns) =
+      (inl refl, all_among_more (parties_of turns) (p ∷ parties_of turns) (λ q one. inr one) turns (among_own turns))
+  among_own (Decide p said ∷ turns) =
+      (inl refl, all_among_more (parties_of turns) (p ∷ parties_of turns) (λ q one. inr one) turns (among_own turns))
+  among_own (Die owner ∷ turns) = (tt, among_own turns)
 
   -- If `Such` holds of each call whose begin a turn writes, it holds of each call that the turn begins.
   one_such : (Such : Start T → Type 0) (w : World T) (turn : Turn T) → BeginSuch Such (events_of w turn) → BeginsSuch Such turn
@@ -124,14 +153,15 @@ module _ {T : Type 0} where
     allowed_before t [] ys allowed = tt
     allowed_before t (x ∷ xs) ys allowed = (allowed.0, allowed_before (after_turn t x) xs ys allowed.1)
 
-    -- turns whose events are of parties below n are of them
-    pub all_below : (n : ℕ) (t : Trace T) (turns : List (Turn T)) → CallsBelow n t.world → AreAllowedBy refuses t turns
-        → AreBelow n (after_turns t turns).events → AllByRecursion (IsBelow n) turns
-    all_below n t [] under allowed below = tt
-    all_below n t (turn ∷ turns) under allowed below =
-        let here : AreBelow n (events_of t.world turn) = first_turn (λ e. IfSome (whose e) (λ p. p < n)) t turn turns below in
-        let one = one_below n t turn under (possible t.world turn allowed.0) here in
-        (one.0, all_below n (after_turn t turn) turns one.1 allowed.1 below)
+    -- turns whose events, and whose calls under way before them, are of these parties are of them
+    pub all_among : (ps : List ℕ) (t : Trace T) (turns : List (Turn T)) → CallsAmong ps t.world → AreAllowedBy refuses t turns
+        → AreOf ps (wrote t turns) → AllByRecursion (IsAmong ps) turns
+    all_among ps t [] under allowed are = tt
+    all_among ps t (turn ∷ turns) under allowed are =
+        let rest = wrote (after_turn t turn) turns in
+        let here = all_before (λ e. IfSome (whose e) (IsOneIn ps)) (events_of t.world turn) rest are in
+        let one = one_among ps t turn under (possible t.world turn allowed.0) here in
+        (one.0, all_among ps (after_turn t turn) turns one.1 allowed.1 (all_after (λ e. IfSome (whose e) (IsOneIn ps)) (events_of t.world turn) rest are))
 
     -- turns that are not refused are a run
     pub runs_so : (t : Trace T) (turns : List (Turn T)) → AreAllowedBy refuses t turns → after_turns t turns ≡ run_by refuses turns t

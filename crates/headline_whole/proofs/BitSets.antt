@@ -33,7 +33,7 @@ use Rattle.model.specs.Turns.{IsReached}
 use Rattle.model.specs.World.{Trace, capacity_error}
 use Rattle.model.proofs.Rows.{passes, may_begin, row_passed}
 use Rattle.plain.specs.Bits.{flags_in, places_in, Represents}
-use Rattle.plain.proofs.Alone.{Runs}
+use Rattle.plain_queues.proofs.Alone.{Runs}
 use Rattle.plain.proofs.Places.Empties.{opened}
 use Rattle.plain.proofs.Places.Flags.{flag_at, flags_length, same_flags}
 use Rattle.plain.proofs.Places.Resets.{reset_runs}

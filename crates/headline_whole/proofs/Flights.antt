@@ -18,10 +18,10 @@ use Rattle.model.specs.Families.{want_of, ask_of, after_of, is_question}
 use Rattle.model.specs.Families.Queues.Calls.{as_it_is}
 use Rattle.model.specs.Step.{as_call}
 use Rattle.model.specs.Turns.{old_of, words_after, number_of}
-use Rattle.plain.specs.declared.drive.Stop.{Stop}
-use Rattle.plain.specs.declared.drive.Stop.TheVariants.{Asked, Ended}
-use Rattle.plain.specs.Alone.{written_by, answer_in, words_then, room_then, stepped, StopsFrom, StopsIn, CanStop, StopsAlike}
-use Rattle.plain.proofs.Alone.{Runs, Halts}
+use Rattle.plain_queues.specs.declared.drive.Stop.{Stop}
+use Rattle.plain_queues.specs.declared.drive.Stop.TheVariants.{Asked, Ended}
+use Rattle.plain_queues.specs.Alone.{written_by, answer_in, words_then, room_then, stepped, StopsFrom, StopsIn, CanStop, StopsAlike}
+use Rattle.plain_queues.proofs.Alone.{Runs, Halts}
 use Rattle.plain.proofs.Walks.{LowThen, any_low}
 use Rattle.headline_whole.specs.Dialogues.{Decision, decided}
 

@@ -1,6 +1,9 @@
+pub mod Added
 pub mod Agree
+pub mod Alone
 pub mod BitSets
 pub mod ByKind
+pub mod ChannelAlone
 pub mod Clauses
 pub mod ContainerRules
 pub mod Containers
@@ -8,6 +11,8 @@ pub mod Courses
 pub mod Decisions
 pub mod Finished
 pub mod Flights
+pub mod FoundClear
+pub mod Granted
 pub mod Indices
 pub mod Law
 pub mod Lists
@@ -16,13 +21,18 @@ pub mod MapQuestions
 pub mod Maps
 pub mod Moments
 pub mod Owners
+pub mod OwnersAlone
+pub mod Refused
 pub mod Replies
+pub mod Rows
 pub mod Runs
 pub mod Sequential
 pub mod SoloCalls
+pub mod Spans
 pub mod Sweeps
 pub mod Talking
 pub mod Turns
 pub mod Views
 pub mod WithoutQuestions
+pub mod WrittenBy
 pub mod Worked

@@ -28,7 +28,7 @@ use Rattle.laws_container.proofs.Looks.{written_same, written_other}
 use Rattle.plain.specs.Contents as contents
 use Rattle.plain.specs.Contents.{Contents, Holds}
 use Rattle.plain.specs.States.{Snapshot, blank, snapshot_of, IsSettled, updated, Brought}
-use Rattle.plain.proofs.Alone.{Runs}
+use Rattle.plain_queues.proofs.Alone.{Runs}
 use Rattle.plain.proofs.Elements.Adds.{owners_long}
 use Rattle.plain.proofs.Elements.Snapshots.{LookCase, words_kept, brought_if, brought_not, got_settled}
 use Rattle.plain.proofs.Elements.Updates.{P, look_runs}

@@ -34,8 +34,8 @@ use Rattle.model.specs.Families.Container.Calls.{first}
 use Rattle.model.specs.Families.Container.Opening.{names_owner}
 use Rattle.model.specs.Families.Queues.Calls.{as_it_is, fresh_cell, kept_at, read_in}
 use Rattle.model.specs.Turns.{number_of}
-use Rattle.plain.specs.declared.drive.Stop.TheVariants as stops
-use Rattle.plain.specs.Alone.{StopsAlike}
+use Rattle.plain_queues.specs.declared.drive.Stop.TheVariants as stops
+use Rattle.plain_queues.specs.Alone.{StopsAlike}
 use Rattle.plain.specs.Callable.{HasFound, Asked, index_in}
 use Rattle.plain.specs.Callable.{questions as asked_questions}
 use Rattle.plain.specs.Contents.{Contents, Holds}
@@ -45,7 +45,7 @@ use Rattle.plain.proofs.Elements.Finding as finding
 use Rattle.plain.proofs.Elements.Finds.{Ready}
 use Rattle.plain.proofs.Elements.Recovering as recovering
 use Rattle.plain.proofs.Walks.{any_low}
-use Rattle.plain.proofs.Words.{buffer}
+use Rattle.plain_queues.proofs.Words.{buffer}
 use Rattle.headline_whole.specs.Dialogues.{Decision, showing, decided_at}
 use Rattle.headline_whole.specs.Objects.{about, map_freed, map_questions}
 use Rattle.headline_whole.proofs.Agree.{IsNoLook}

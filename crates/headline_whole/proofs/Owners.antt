@@ -47,8 +47,8 @@ use Rattle.model.specs.Rows.{first_row}
 use Rattle.model.specs.Turns.{IsReached, number_of}
 use Rattle.model.specs.World.{Trace, capacity_error}
 use Rattle.model.proofs.Rows.{passes, may_begin, row_passed}
-use Rattle.plain.specs.declared.drive.Stop.TheVariants as stops
-use Rattle.plain.specs.Alone.{StopsAlike}
+use Rattle.plain_queues.specs.declared.drive.Stop.TheVariants as stops
+use Rattle.plain_queues.specs.Alone.{StopsAlike}
 use Rattle.plain.specs.Callable.{HasFound, index_in}
 use Rattle.plain.specs.Robust.{owner_in, owners_in, Represents}
 use Rattle.plain.proofs.Robust.Acquires.{take_at}

@@ -10,9 +10,9 @@ use Rattle.steps.specs.declared.ask.Want.{Want}
 use Rattle.steps.specs.declared.ask.Want.TheVariants as wants
 use Rattle.steps.specs.declared.bits.reset_all.ResetAll.{ResetAll}
 use Rattle.steps.specs.declared.copied.OneWord.{OneWord}
-use Rattle.plain.specs.declared.drive.Stop.TheVariants.{Ended}
-use Rattle.plain.specs.Alone.{answer_in, words_then, room_then, stepped, StopsFrom, StopsIn}
-use Rattle.plain.proofs.Alone.{Runs}
+use Rattle.plain_queues.specs.declared.drive.Stop.TheVariants.{Ended}
+use Rattle.plain_queues.specs.Alone.{answer_in, words_then, room_then, stepped, StopsFrom, StopsIn}
+use Rattle.plain_queues.proofs.Alone.{Runs}
 
 -- the words after `n` of them, from the word `k` on, became 0
 abbrev pub cleared : List ℕ → ℕ → ℕ → List ℕ

@@ -7,9 +7,9 @@ use Rattle.model.specs.declared.event.Answer.{Answer}
 use Rattle.model.specs.declared.families.Flight.{Flight}
 use Rattle.model.specs.Coding.{Coding}
 use Rattle.model.specs.Turns.{number_of}
-use Rattle.plain.specs.declared.drive.Stop.{Stop}
-use Rattle.plain.specs.declared.drive.Stop.TheVariants.{Asked, Ended}
-use Rattle.plain.specs.Alone.{CanStop, StopsAlike}
+use Rattle.plain_queues.specs.declared.drive.Stop.{Stop}
+use Rattle.plain_queues.specs.declared.drive.Stop.TheVariants.{Asked, Ended}
+use Rattle.plain_queues.specs.Alone.{CanStop, StopsAlike}
 use Rattle.headline_whole.specs.Dialogues.{Decision, decided}
 use Rattle.headline_whole.proofs.Flights.{AsFlight, Turns, AtStop, Talks, came, lift_stop, talks_as, alike}
 

@@ -461,16 +461,16 @@ other_party are_finished = let one : ◌≡◌ {A = ℕ} 1 0 = cc in absurd (cc)
 -- ---- calls that run whole, and calls that do not
 
 module _ {T : Type 0} where
-  no_events : RunsWhole {T = T} []
+  pub no_events : RunsWhole {T = T} []
   no_events p start before at = absurd (no_more before (Begun p start) at.0 at.1)
 
   -- one event more: a begin where no call is under way, or no begin
-  abbrev Continues : List (Event T) → Event T → Type 0
+  abbrev pub Continues : List (Event T) → Event T → Type 0
   Continues events (Begun p start) = (q : ℕ) → IsShut (span_of q events)
   Continues events e = Unit {0}
 
   -- an event that continues a run whose calls run whole leaves it one
-  one_more : (events : List (Event T)) (e : Event T) → RunsWhole events → Continues events e → RunsWhole (events ++ e ∷ [])
+  pub one_more : (events : List (Event T)) (e : Event T) → RunsWhole events → Continues events e → RunsWhole (events ++ e ∷ [])
   one_more events e runs more p start before at q = go (split_last events e before (Begun p start) at.0 at.1)
     where
       go : SplitAt events e before (Begun p start) at.0 → IsShut (span_of q before)

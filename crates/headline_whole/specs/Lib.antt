@@ -1,4 +1,5 @@
 -- What the main theorem says of a whole run: its objects, their states, and the dialogues with those who ask.
+pub mod Answers
 pub mod Dialogues
 pub mod Kinds
 pub mod Objects

@@ -1,37 +1,29 @@
-//! The main theorem about every machine, in one statement: read this first. The functions do nothing: the contract of each is
-//! a law, and what its words mean stands in `specs`.
+//! The main theorem about every machine, in one statement. The functions do nothing: the contract of each is a law, and what
+//! its words mean stands in `specs`.
 //!
-//! What else every machine does, kind by kind and turn by turn, and lock-freedom, stand in the crate `headline`.
+//! Read first the page of your structure in `pages/specs`, if it has one (docs/THEOREM.md, section 0), then `main_theorem`, then
+//! the record of its kind in `headline`. There stand lock-freedom, and what else every machine does, turn by turn.
 #![tactic(auto)]
 
-ghost use Rattle.std.specs.Prelude.{◌≡◌, ◌≢◌, ℕ, ◌+◌, Some, None, IfOk, List, slice_index};
-ghost use Rattle.steps.specs.Bits.Words.{stands};
-ghost use Rattle.steps.specs.declared.indices.enums.ReleaseState.TheVariants.{Unlocked};
+ghost use Rattle.std.specs.Prelude.{◌≡◌, ℕ, None, IfOk, List};
 ghost use Rattle.model.specs.declared.event.Answer.{Answer};
-ghost use Rattle.model.specs.declared.event.Answer.TheVariants.{State};
 ghost use Rattle.model.specs.declared.event.Event.{Event};
-ghost use Rattle.model.specs.declared.event.Event.TheVariants.{Copied, Finished};
+ghost use Rattle.model.specs.declared.event.Event.TheVariants.{Finished};
 ghost use Rattle.model.specs.declared.event.Start.{Start};
-ghost use Rattle.model.specs.declared.event.Start.TheVariants as starts;
-ghost use Rattle.model.specs.declared.families.bits.BitsStart.TheVariants.{ResetAll};
-ghost use Rattle.model.specs.declared.families.queues.QueueKind.{QueueKind};
 ghost use Rattle.model.specs.declared.turn.Kind.{Kind};
-ghost use Rattle.model.specs.declared.turn.Kind.TheVariants.{Atomic, Bits, Counts, Indices, Container};
+ghost use Rattle.model.specs.declared.turn.Kind.TheVariants.{Indices, Container};
 ghost use Rattle.model.specs.declared.turn.Turn.{Turn};
 ghost use Rattle.model.specs.Coding.{Coding, IsCoding};
-ghost use Rattle.model.specs.Families.Bits.Promises.{HasCleared, HasTaken};
-ghost use Rattle.model.specs.Families.Bits.Reading.{sets, clears, counts, takes};
-ghost use Rattle.model.specs.Families.Container.Promises.{IsWellFormedRun};
-ghost use Rattle.model.specs.Families.Container.Reading.{contents_of, acts_of};
-ghost use Rattle.model.specs.Families.Indices.Robust.Reading.{filled_of, set_acts_of};
-ghost use Rattle.model.specs.Linearized.{as_list, as_value};
-ghost use Rattle.model.specs.Moments.{SinceBegin};
-ghost use Rattle.model.specs.Turns.{IsReached, one_if, run};
+ghost use Rattle.model.specs.Reading.{Each, span_of};
+ghost use Rattle.model.specs.Shape.{IsOpenFor};
+ghost use Rattle.model.specs.Turns.{IsReached, run};
 ghost use Rattle.model.specs.World.{Trace, opened, capacity_error, queue_error, flight_in};
-ghost use Rattle.headline.specs.Holders.{MayFree, NoTwoHold, NoneOnceLocked, claims};
-ghost use Rattle.headline.specs.Moments.{ActAs, Follows};
+ghost use Rattle.headline.specs.Headline.{Holds};
+ghost use Rattle.headline.specs.Holders.{NoTwoHold, claims};
+ghost use Rattle.headline.specs.Moments.{Follows};
+ghost use Rattle.headline_whole.specs.Answers.{AreAlone, Says, Wrote};
 ghost use Rattle.headline_whole.specs.Dialogues.{AreFinished, calls_of};
-ghost use Rattle.headline_whole.specs.Kinds.{kind_of, hand_of, IsWellFormedFor, IsRecovery, AnswersWhole};
+ghost use Rattle.headline_whole.specs.Kinds.{AnswersWhole};
 ghost use Rattle.headline_whole.specs.States.{HoldsPlaces, ShowsViews};
 ghost use Rattle.headline_whole.specs.Whole.{RunsWhole};
 
@@ -42,16 +34,22 @@ use steps::enums::UniqueIndexCreationError;
 use steps::words::Words;
 
 /// For every admitted capacity and list of turns, whoever stops where:
-/// - Each finished push, pop, load and store acts at one moment inside it, on one list, which is bounded or overflows, or on
-///   one value.
-/// - No index has two holders, and none has one once the set is locked. Where indices have owners, this holds of well-formed
-///   runs: no index is given back for an owner that does not hold it.
-/// - What a call copies from a container is the value that stands at the index, whole, in runs in which replaces are
-///   well-formed, too (`IsWellFormedRun`).
-/// - Bits and counts are conserved. Since a reset of all began, each bit that stood then was cleared, and something was taken
-///   out of each place that counted then.
-/// - A recovery that answers Unlocked has left its owner no index that it was to free: one about which it heard yes, or, in a
-///   container, one that it was shown empty.
+/// - What every run of its kind keeps, by `holds`: each finished push, pop, load and store acts at one moment inside it, on one
+///   list, which is bounded or overflows, or on one value; what was set or counted was taken out, or is still there; by the
+///   events no index has two holders, and none of a locked set has one; what a call copies from a container, asks about or shows
+///   is a whole element that was placed there; a recovery that answers Unlocked has asked about each index that its owner filled
+///   all the while, or (in a container) found it without a value, and has left no owner an index that it was told to free; each
+///   retry of a call is paid by another party's change, and each call keeps its bounds on steps.
+/// - A call that has finished has written what its answer says, and nothing else. An acquire of a robust set, or an add, that
+///   answers IsLocked may have filled an index, and of a `reset_all` and of recoveries nothing is said here (`wrote`).
+/// - Where a call ends holds what its answer says, of this moment or of a moment of the call: a set that answers true found its
+///   bit clear. Of a loan channel nothing is said here (`says`).
+/// - In the unique index set an index has a holder from the answer of an acquire to the begin of a release of it. An acquire
+///   answers an index only if it has no holder and no call has answered Locked, and as a call answers so no index has a holder.
+///   The same holds of the indices that a robust set or a container has answered for an owner, until a release or remove of it
+///   begins or it is freed, if releases and removes keep the rule `IsWellFormed`. In a loan channel, which has no lock, a loan or a
+///   receive answers an index only if nobody has it. Who was answered it has it until a send, give-up or give-back of it begins,
+///   or a reclaim of another party (`holds_alone`).
 /// - If each call begins when no other is under way, the finished calls answer as a list, a set or a map does, call after call.
 ///   `AnswersWhole` says which object a kind has. Of what a loan channel answers nothing is said.
 ///
@@ -69,34 +67,12 @@ pub fn main_theorem<T>()
     ensures runs { (code : Coding T) (kind : Kind) (capacity queue parties : ℕ) (turns : List (Turn T))
         → IsCoding code → capacity_error kind capacity ≡ None → queue_error kind queue ≡ None
         → IsReached (run turns (opened code kind capacity queue parties)) }
-    ensures pushes_and_pops { (t : Trace T) (kind : QueueKind) → IsReached t → t.world.kind ≡ kind_of kind
-        → ActAs (as_list kind t.world.capacity) t.events }
-    ensures stores_and_loads { (t : Trace T) → IsReached t → t.world.kind ≡ Atomic
-        → ActAs (as_value t.world.coding) t.events }
-    ensures no_two_hold { (t : Trace T) → IsReached t → IsWellFormedFor t.world.kind t.events
-        → NoTwoHold (hand_of t.world.kind) t.events }
-    ensures none_once_locked { (t : Trace T) → IsReached t → IsWellFormedFor t.world.kind t.events
-        → NoneOnceLocked (hand_of t.world.kind) t.events }
-    ensures copied { (t : Trace T) → IsReached t → t.world.kind ≡ Container → IsWellFormedRun t
-        → (p index : ℕ) (value : T) (before : List (Event T)) → Follows (Copied p index value) before t.events
-        → contents_of index before ≡ Some value }
-    ensures bits { (t : Trace T) → IsReached t → t.world.kind ≡ Bits → (bit : ℕ)
-        → sets bit t.events ≡ clears bit t.events + one_if (stands t.world.words bit) }
-    ensures counts { (t : Trace T) → IsReached t → t.world.kind ≡ Counts → (place : ℕ)
-        → counts place t.events ≡ takes place t.events + slice_index t.world.words place }
-    ensures all_bits_reset { (t : Trace T) → IsReached t → t.world.kind ≡ Bits
-        → (p : ℕ) (answer : Answer T) (before : List (Event T))
-        → Follows (Finished p (starts.Bits ResetAll) answer) before t.events
-        → SinceBegin p (HasCleared t.world.capacity) before }
-    ensures all_counts_reset { (t : Trace T) → IsReached t → t.world.kind ≡ Counts
-        → (p : ℕ) (answer : Answer T) (before : List (Event T))
-        → Follows (Finished p (starts.Bits ResetAll) answer) before t.events
-        → SinceBegin p (HasTaken t.world.capacity) before }
-    ensures recovered { (t : Trace T) → IsReached t
-        → (p index owner : ℕ) (start : Start T) (before : List (Event T)) → IsRecovery t.world.kind start
-        → Follows (Finished p start (State Unlocked)) before t.events
-        → MayFree index owner (Some start) (set_acts_of p before) (acts_of p before)
-        → filled_of index before ≢ Some owner }
+    ensures holds { (t : Trace T) → (r : IsReached t) → Holds r.queue t }
+    ensures wrote { (t : Trace T) → IsReached t → (p : ℕ) (start : Start T) (answer : Answer T) (before : List (Event T))
+        → Follows (Finished p start answer) before t.events
+        → IsOpenFor start (Wrote t.world.kind t.world.capacity start answer) (span_of p before) }
+    ensures says { (t : Trace T) → IsReached t → Each (Says t.world.kind t.world.coding t.world.capacity) t.events }
+    ensures holds_alone { (t : Trace T) → IsReached t → AreAlone t.world.kind t }
     ensures answers { (t : Trace T) → (r : IsReached t) → RunsWhole t.events → AnswersWhole t.world.kind t r }
     ensures places { (t : Trace T) → IsReached t → RunsWhole t.events → ((q : ℕ) → flight_in t.world q ≡ None)
         → HoldsPlaces t.world.kind t }

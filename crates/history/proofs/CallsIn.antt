@@ -14,7 +14,7 @@ use Rattle.history.specs.History.{IsRun, IsMachine, IsLate, call_in}
 use Rattle.history.specs.Stages.{Calling, At, Ends, Over, opened}
 use Rattle.history.proofs.Known.{AreOf, by_mine}
 use Rattle.history.proofs.KindLaws.{Machines, SteadyMachines}
-pub use Rattle.laws_robust.proofs.Cases.{by_bool}
+pub use Rattle.lemmas.proofs.Cases.{by_bool}
 
 -- a list that stays the same with `rest` behind it has an empty `rest`
 pub no_rest : {A : Type 0} → (xs rest : List A) → xs ≡ xs ++ rest → rest ≡ []

@@ -29,7 +29,7 @@ use Rattle.model.specs.declared.turn.Turn.TheVariants.{Next}
 use Rattle.model.specs.Coding.{Coding, IsCoding}
 use Rattle.model.specs.Turns.{AreAllowedBy, after_turn, after_turns}
 use Rattle.model.specs.World.{World, Trace, opening}
-use Rattle.laws_queues.specs.Fresh.{IsFreshTurn, IsFreshCall, IsFreshAt, IsFresh, IsFreshOver, IsFreshStore}
+use Rattle.model.specs.Fresh.{IsFreshTurn, IsFreshCall, IsFreshAt, IsFresh, IsFreshOver, IsFreshStore}
 use Rattle.history.specs.declared.view.View.{View}
 use Rattle.history.specs.History.{AreFresh, IsHistory, IsRun, Knows, HasAsked, others_by, refusal_as, run_of}
 use Rattle.history.proofs.Reached.{reached_as_opening, fresh_as_opening}

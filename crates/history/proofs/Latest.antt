@@ -12,7 +12,7 @@ use Rattle.model.specs.Turns.{AreAllowedBy, after_turns}
 use Rattle.model.specs.World.{opening}
 use Rattle.model.proofs.LockFree.Counted.{begins_are}
 use Rattle.model.proofs.Rows.{IsPossible, possible_on}
-use Rattle.laws_robust.proofs.OpenRuns.{possible_open}
+use Rattle.lemmas.proofs.Open.{possible_open}
 use Rattle.history.specs.declared.view.View.{View}
 use Rattle.history.specs.History.{Called, Knows, others_so, others_by, refusal_as, run_of}
 use Rattle.history.specs.Known.{events_by, own_of}

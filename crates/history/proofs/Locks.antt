@@ -4,7 +4,7 @@ use Rattle.std.proofs.Common.{true≢false}
 use Rattle.model.specs.Families.Indices.Reading.{is_locked}
 use Rattle.model.proofs.Locks.{locked_later}
 use Rattle.history.specs.History.{IsBeginning}
-use Rattle.laws_robust.proofs.Cases.{by_bool}
+use Rattle.lemmas.proofs.Cases.{by_bool}
 
 module _ {T : Type 0} where
   -- a set that was locked is locked with more events

@@ -1,29 +1,12 @@
 -- The names of the standard library and of the crates below that proofs here use.
 pub use Rattle.atomic_table.proofs.Lists.{at_longer, at_set, set_else, set_here}
 pub use Rattle.atomic_table.specs.Table.{Allows, Joins, Splits}
-pub use Rattle.laws_bits.proofs.Bits.Core.{clears_more, sets_more}
-pub use Rattle.laws_bits.proofs.Bits.Invariant.{bit_set}
-pub use Rattle.laws_bits.proofs.Bits.Justified.{bits_go_on, laws as bits_laws}
-pub use Rattle.laws_bits.proofs.Counts.Invariant.{counting_set}
-pub use Rattle.laws_bits.proofs.Counts.Justified.{counts_go_on, laws as counts_laws}
-pub use Rattle.laws_bits.proofs.Spans.{wrote_in}
-pub use Rattle.laws_container.proofs.Core.{data_within}
-pub use Rattle.laws_queues.proofs.Overflow.Core.{oldest}
-pub use Rattle.laws_queues.proofs.Overflow.Knows.{IsFreshOver, KnowsOverflowPop, KnowsOverflowPush, overflow_wrote}
-pub use Rattle.laws_queues.proofs.Queues.Invariant.{machine_kind, waiting_is}
-pub use Rattle.laws_queues.proofs.Queues.Sound.{kept_on as queue_kept_on, promised_by}
-pub use Rattle.laws_queues.proofs.Queues.Knows.{IsFreshCall, IsFreshStore, free, layout}
-pub use Rattle.laws_queues.proofs.Queues.Runs.{AllMay, attempt_sound}
-pub use Rattle.laws_queues.proofs.Queues.Sound.{admitted_fits, fresh_more}
-pub use Rattle.laws_queues.proofs.Queues.Values.{Val, encoded}
-pub use Rattle.laws_queues.proofs.Ring.Kinds.{Ring, kind_of, of_indices, of_values}
-pub use Rattle.laws_queues.proofs.Ring.Knows.{IsFresh, KnowsPop, KnowsPush}
-pub use Rattle.laws_robust.proofs.Alive.{AllLive}
-pub use Rattle.laws_robust.proofs.Sound.{lock_asks_none, raise_asks_none}
-pub use Rattle.laws_robust.specs.Gone.{Word}
-pub use Rattle.laws_robust.specs.Open.{IsOpenSet, open_refusal}
-pub use Rattle.laws_value.proofs.Core.{cell_within}
-pub use Rattle.laws_value.specs.Stored.{stored, stores}
+pub use Rattle.model.specs.Fresh.{IsFreshOver}
+pub use Rattle.model.specs.Fresh.{IsFreshCall, IsFreshStore}
+pub use Rattle.lemmas.proofs.MayRuns.{AllMay, attempt_sound}
+pub use Rattle.lemmas.proofs.Fresh.{fresh_more}
+pub use Rattle.model.specs.Fresh.{IsFresh}
+pub use Rattle.model.specs.Open.{open_refusal}
 pub use Rattle.model.proofs.Frame.{Family, LawsWhere, Sound, is_true}
 pub use Rattle.model.proofs.Linearizable.Kinds.{run_linearizable}
 pub use Rattle.model.proofs.Parties.{found_put_same, party_put_other, party_put_same}

@@ -16,7 +16,7 @@ use Rattle.history.specs.History.{IsMachine, IsRun, IsReachedAs, HasAsked, steps
 use Rattle.history.specs.History.{OneRun, Knows, Continues, refusal_as, run_of, others_by}
 use Rattle.history.specs.OneRun.{KnowOneRun, SeatsKnowOneRun}
 use Rattle.history.proofs.Asked.{left_asked, right_asked}
-use Rattle.laws_queues.specs.Fresh.{IsFreshTurn}
+use Rattle.model.specs.Fresh.{IsFreshTurn}
 use Rattle.model.specs.declared.turn.Kind.TheVariants as kinds
 
 module _ {T : Type 0} where

@@ -5,11 +5,12 @@ use Rattle.history.proofs.Names.{Bool, true, ◌≡◌, ℕ, Some, None, [], ref
 use Rattle.history.proofs.Names.{Flight, Registry, QueueKind, Kind, Turn, Next, Decide, Coding}
 use Rattle.history.proofs.Names.{IsCoding, begin_rows, want_of, is_question, call_refusal, first_row}
 use Rattle.history.proofs.Names.{IsReachedOn, after_turn, World, Trace, capacity_error, flight_in, reached_on_more}
-use Rattle.history.proofs.Names.{machine_kind, fresh_more}
+use Rattle.history.proofs.Names.{fresh_more}
 use Rattle.model.specs.declared.turn.Kind.TheVariants as kinds
 use Rattle.model.specs.World.{opening}
-use Rattle.laws_queues.specs.Fresh.{IsFreshTurn, IsFreshRun}
-use Rattle.laws_robust.proofs.OpenRuns.{reached_open_more}
+use Rattle.model.specs.Fresh.{IsFreshTurn, IsFreshRun}
+use Rattle.model.proofs.Reached.{reached_by_more}
+use Rattle.model.specs.Open.{open_refusal}
 use Rattle.history.specs.History.{IsReachedAs, IsFreshAs, IsRun, refusal_as}
 use Rattle.history.specs.Stages.{rows_as}
 
@@ -41,8 +42,8 @@ module _ {T : Type 0} where
   -- with a turn that is not refused, a machine that is reached stays reached, as its kind asks
   pub reached_as_more : (kind : Kind) (t : Trace T) (turn : Turn T) → refusal_as kind t.world turn ≡ None → IsReachedAs kind t
       → IsReachedAs kind (after_turn t turn)
-  reached_as_more kinds.Robust t turn free reached_as = reached_open_more t turn free reached_as
-  reached_as_more kinds.Container t turn free reached_as = reached_open_more t turn free reached_as
+  reached_as_more kinds.Robust t turn free reached_as = reached_by_more open_refusal t turn free reached_as
+  reached_as_more kinds.Container t turn free reached_as = reached_by_more open_refusal t turn free reached_as
   reached_as_more kind t turn free reached_as = reached_on_more t turn free reached_as
 
   -- with a turn that finds neither the last position nor the last version, a machine stays
@@ -70,7 +71,3 @@ module _ {T : Type 0} where
   pub record IsRunOn (t : Trace T) : Type 0 where
     pub reached : IsReachedOn t
     pub fresh : IsFreshRun t
-
--- a run of a queue of any kind is a run as the laws of queues have it
-pub queue_run : {T : Type 0} (code : Coding T) (capacity : ℕ) (kd : QueueKind) (t : Trace T) → IsRun code (machine_kind kd) capacity t → IsRunOn t
-queue_run = grind arith

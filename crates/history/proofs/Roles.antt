@@ -2,7 +2,7 @@
 use Rattle.std.proofs.Common.{arith}
 use Rattle.history.proofs.Names.{◌≡◌, ℕ, true, Option, Some, None, is_none, List, refl, sym, sum_by, fold}
 use Rattle.history.proofs.Names.{Answer, Truth, Event}
-use Rattle.history.proofs.Names.{Each}
+use Rattle.history.proofs.Names.{Each, false, not, holds}
 use Rattle.steps.specs.declared.queues.roles.Role.{Role}
 use Rattle.model.specs.Families.Queues.Roles.{GrantsRight}
 use Rattle.history.specs.Known.{owned}
@@ -35,3 +35,7 @@ module _ {T : Type 0} (owner : ℕ → ℕ) (j : ℕ) where
       → ((f : Event T → ℕ) → sum_by f made ≡ sum_by (owned owner j f) all) → HasRole role made
       → (p : ℕ) × (owner p ≡ j) × (fold (role_after role) None all ≡ Some p)
   role_by role all made each sums has = held_by_one (takes role) (gives role) (role_after role) owner j made (all_move role all each) sums has
+
+-- who holds the role does not lack it
+pub holds_it : (o : Option ℕ) (p : ℕ) → o ≡ Some p → not (holds o p) ≡ false
+holds_it = grind arith

@@ -14,7 +14,7 @@ use Rattle.atomic_table.specs.Table.{State}
 use Rattle.steps.specs.declared.ask.Want.TheVariants as wants
 use Rattle.model.specs.Turns.{step_count}
 use Rattle.model.proofs.Turns.{writes_one_word}
-use Rattle.laws_queues.proofs.Queues.Sound.{IsFreshTurn}
+use Rattle.model.specs.Fresh.{IsFreshTurn}
 use Rattle.history.specs.declared.view.View.{View}
 use Rattle.history.specs.Known.{events_by, owned, of_none}
 use Rattle.history.specs.History.{IsRun, IsMachine, OneRun, Fits, call_in, started, steps_in, others_in, IsLate, refusal_as, run_of, steps_of_run}

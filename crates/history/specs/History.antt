@@ -29,8 +29,8 @@ use Rattle.model.specs.Refusals.{call_refusal}
 use Rattle.model.specs.LockFree.{steps_in as run_steps}
 use Rattle.model.specs.Turns.{IsReachedOn, AreAllowedBy, after_turn, after_turns, events_of}
 use Rattle.model.specs.World.{World, Trace, opening, capacity_error}
-use Rattle.laws_queues.specs.Fresh.{IsFreshRun, IsFreshTurn}
-use Rattle.laws_robust.specs.Open.{IsReachedOpen, open_refusal}
+use Rattle.model.specs.Fresh.{IsFreshRun, IsFreshTurn}
+use Rattle.model.specs.Open.{IsReachedOpen, open_refusal}
 use Rattle.threaded.specs.declared.share.Share.{Share}
 use Rattle.threaded.specs.Shares.{IsAll}
 use Rattle.history.specs.Known.{Known, events_by, by_party, owned}

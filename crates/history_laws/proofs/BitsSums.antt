@@ -11,7 +11,7 @@ use Rattle.model.specs.Turns.{one_if}
 use Rattle.steps.specs.Bits.Words.{stands}
 use Rattle.laws_bits.proofs.Bits.Justified.{bits_go_on}
 use Rattle.history.specs.History.{IsHistory}
-use Rattle.history.proofs.Acts.Finds.{BitFinds, bits_find}
+use Rattle.history_bits.proofs.Acts.Finds.{BitFinds, bits_find}
 use Rattle.history_laws.specs.Bits.{ChangesBit}
 
 -- a flag as a number is at most 1

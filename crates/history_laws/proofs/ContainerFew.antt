@@ -30,8 +30,8 @@ use Rattle.model.specs.World.{World, Trace, opening, capacity_error}
 use Rattle.model.proofs.Frame as frame
 use Rattle.model.proofs.Readings.{Each-nil}
 use Rattle.laws_robust.specs.Gone.{Word, ActsForRight, IsHonest}
-use Rattle.laws_robust.specs.Open.{open_refusal, IsReachedOpen}
-use Rattle.laws_robust.proofs.Alive.{AllLive, all_live_on}
+use Rattle.model.specs.Open.{open_refusal, IsReachedOpen}
+use Rattle.lemmas_owners.proofs.Alive.{AllLive, all_live_on}
 use Rattle.laws_robust.proofs.Opening.{admitted_is}
 use Rattle.model.proofs.Reached.{kept_by}
 use Rattle.laws_container.specs.Open.{steps_for_gone}

@@ -27,7 +27,7 @@ use Rattle.model.specs.Reading.{Each, Span, Never, Open, Ended, longer, ended, o
 use Rattle.model.specs.World.{Trace}
 use Rattle.model.proofs.Scenes.{stands_there}
 use Rattle.laws_robust.specs.Gone.{Death, Word, gone_after, is_gone}
-use Rattle.laws_robust.proofs.Alive.{AllLive}
+use Rattle.lemmas_owners.proofs.Alive.{AllLive}
 use Rattle.laws_robust.proofs.Gone.{gone_less}
 use Rattle.laws_container.specs.Gone.{AsksBy, acts_for_gone}
 use Rattle.laws_container.specs.Open.{is_for_gone, steps_for_gone}
@@ -36,7 +36,7 @@ use Rattle.laws_container.proofs.CallProgress.{At}
 use Rattle.history_laws.specs.Containers.{is_for, is_acting, BeginsRight, IsFaithful}
 use Rattle.lock_free_owners.proofs.Worn.ContainerWorn.{Sound, terms}
 use Rattle.laws_robust.proofs.Counter.{tested}
-use Rattle.laws_robust.proofs.Cases.{on_bool}
+use Rattle.lemmas.proofs.Cases.{on_bool}
 
 -- an owner other than `o` is not `o`
 differs : (o owner : ℕ) → (o ≡ owner → ⊥) → ((o == owner) || false) ≡ false

@@ -41,7 +41,7 @@ use Rattle.model.specs.World.{Trace, flight_in}
 use Rattle.model.proofs.Parties.{party_put_same, party_put_other}
 use Rattle.model.proofs.Scenes.{stands_there}
 use Rattle.laws_indices.proofs.Sums.{sum_below, sum_moved, sum_longer}
-use Rattle.laws_robust.specs.Open.{open_refusal}
+use Rattle.model.specs.Open.{open_refusal}
 use Rattle.laws_container.proofs.Invariant.{family_by, FlightAt}
 use Rattle.history_laws.specs.Containers.{rise, rises}
 use Rattle.history_laws.proofs.ContainerLifts.{container_lifts, lifts_left, IsWithin, is_within, container_lift, keeps, begins as begins_so}

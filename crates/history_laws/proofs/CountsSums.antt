@@ -9,7 +9,7 @@ use Rattle.model.specs.Families.Bits.Reading.{counts, takes, count_at}
 use Rattle.model.specs.Reading.{Each}
 use Rattle.laws_bits.proofs.Counts.Justified.{counts_go_on}
 use Rattle.history.specs.History.{IsHistory}
-use Rattle.history.proofs.Acts.Finds.{CountFinds, counts_find}
+use Rattle.history_bits.proofs.Acts.Finds.{CountFinds, counts_find}
 use Rattle.history_laws.specs.Counts.{TakesAll}
 
 -- an act that takes out all that its machine has there takes out all that the events have there

@@ -22,13 +22,13 @@ use Rattle.model.specs.Moments.{BeginsNone, SinceBegin}
 use Rattle.model.specs.Promises.Spans.{Stands, StandsRight}
 use Rattle.model.specs.Reading.{Each, Span, Never, Open, Ended, longer, ended, own_after, span_after, span_of, is_party, whose}
 use Rattle.model.proofs.Readings.{AreRight, Each-append, Each-nil}
-use Rattle.laws_robust.proofs.Past.{since_less, since_begun}
+use Rattle.lemmas_owners.proofs.Past.{since_less, since_begun}
 use Rattle.laws_robust.proofs.Rights.{Right, Nobody, Settled, By, taken_by, right_after, right_of}
 use Rattle.history_laws.specs.Grants.{is_at, MayFree, FreesRightAt, IsFreedRight, GrantsRightAt, IsHeldByOne}
 use Rattle.history_laws.proofs.GrantsClaims.{Claim, Apart, Filling, Held, Giving, fill_claim, give_claim, claim_by, claim}
 use Rattle.history_laws.proofs.GrantsClaims.{Good, quiet, fills, grants, finishes, begins, frees, recovers}
 use Rattle.laws_robust.proofs.Counter.{tested}
-use Rattle.laws_robust.proofs.Cases.{by_bool, on_bool}
+use Rattle.lemmas.proofs.Cases.{by_bool, on_bool}
 
 -- the claim `mine` where index j is i, else no claim
 abbrev here : ℕ → ℕ → Claim → Claim

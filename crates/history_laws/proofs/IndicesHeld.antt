@@ -15,10 +15,10 @@ use Rattle.model.specs.Families.Indices.Reading.{holder_after, holder_of, Tally,
 use Rattle.model.specs.Reading.{Each}
 use Rattle.model.specs.Turns.{one_if}
 use Rattle.laws_indices.proofs.Sums.{sum_below, sum_moved, sum_same, sum_none}
-use Rattle.history.proofs.Acts.Marks.{same_number, other_number, is_number}
-use Rattle.history.proofs.Acts.Ways.{along}
+use Rattle.history.proofs.Numbers.{same_number, other_number, is_number}
+use Rattle.history_bits.proofs.Acts.Ways.{along}
 use Rattle.history_laws.specs.Indices.{held_below}
-use Rattle.laws_robust.proofs.Cases.{by_bool}
+use Rattle.lemmas.proofs.Cases.{by_bool}
 
 module _ {T : Type 0} where
   -- 1 where index i has a holder after these events, else 0

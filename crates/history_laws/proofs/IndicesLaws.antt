@@ -21,14 +21,14 @@ use Rattle.laws_indices.proofs.Sound.{kept_on}
 use Rattle.history.specs.Held.{claims, frees, Holds}
 use Rattle.history.specs.History.{IsHistory}
 use Rattle.history.specs.Known.{own_of, events_by, owned, if_owned}
-use Rattle.history.proofs.Acts.Marks.{is_number}
-use Rattle.history.proofs.Acts.Ways.{open_for, along}
+use Rattle.history.proofs.Numbers.{is_number}
+use Rattle.history_bits.proofs.Acts.Ways.{open_for, along}
 use Rattle.history.proofs.Held.{held_by}
-use Rattle.history.proofs.Indices.{is_index_set}
+use Rattle.history_indices.proofs.Indices.{is_index_set}
 use Rattle.history_laws.specs.Indices.{held_below, DidAsAnswered, IsSound}
 use Rattle.history_laws.proofs.IndicesHeld.{held_is}
 use Rattle.history_laws.proofs.IndicesSpans.{IsSince, since_of}
-use Rattle.laws_robust.proofs.Cases.{by_bool}
+use Rattle.lemmas.proofs.Cases.{by_bool}
 
 -- ---- one event
 

@@ -10,10 +10,10 @@ use Rattle.model.specs.Moments.{BeginsNone}
 use Rattle.model.specs.Reading.{whose, is_party, Span, Never, Open, Ended, longer, ended, own_after, span_after, span_of}
 use Rattle.model.proofs.Moments.{begins_none_more}
 use Rattle.history.specs.Known.{own_of, events_by}
-use Rattle.history.proofs.Acts.Marks.{is_number, no_number}
-use Rattle.history.proofs.Acts.Ways.{along}
+use Rattle.history.proofs.Numbers.{is_number, no_number}
+use Rattle.history_bits.proofs.Acts.Ways.{along}
 use Rattle.history.proofs.Known.{by_more}
-use Rattle.laws_robust.proofs.Cases.{by_bool}
+use Rattle.lemmas.proofs.Cases.{by_bool}
 
 module _ {T : Type 0} (p : ℕ) where
   -- the party's latest call began as `start`, among these events, and the party wrote `wrote` since

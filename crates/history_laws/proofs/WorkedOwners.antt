@@ -16,7 +16,7 @@ use Rattle.model.specs.Reading.{span_of}
 use Rattle.model.specs.World.{Trace, opening}
 use Rattle.model.proofs.Runs.{two_words, nexts, begins}
 use Rattle.laws_robust.specs.Gone.{Word, is_gone}
-use Rattle.laws_robust.specs.Open.{run_open}
+use Rattle.model.specs.Open.{run_open}
 use Rattle.lock_free_owners.specs.Worn.{changes}
 use Rattle.history_laws.specs.Containers.{rises, recoveries, removals, is_acting}
 use Rattle.history_laws.specs.Grants.{is_at}

@@ -9,4 +9,5 @@ pub mod grants;
 pub mod indices;
 pub mod owners;
 
-pub use history::laws::{calls_are_in_order, calls_stand, histories_act};
+pub use history::laws::{calls_are_in_order, calls_stand};
+pub use history_bits::laws::histories_act;

@@ -17,7 +17,7 @@ use Rattle.steps.specs.declared.container.add.Add as add_calls
 use Rattle.steps.specs.declared.container.add.AddStage.TheVariants as adds
 use Rattle.model.specs.declared.families.container.ContainerStart.TheVariants.{Add}
 use Rattle.model.specs.declared.families.container.calls.ContainerFlight.TheVariants as calls
-use Rattle.laws_robust.proofs.Stages as set_stages
+use Rattle.lemmas_owners.proofs.Operations as operations
 use Rattle.laws_container.proofs.Adds.{Adding, acquire_step}
 use Rattle.laws_container.proofs.Contents.{store_writes}
 use Rattle.laws_container.proofs.Core.{count_at, count_set}
@@ -34,7 +34,7 @@ use Rattle.laws_container.proofs.Steps.{loads, StoresWord, stores_word, hides, p
 use Rattle.laws_container.proofs.Turns.{WellFormed, add_owes, count_in}
 use Rattle.laws_container.proofs.Writers.{IsWriter, one_writer}
 use Rattle.laws_container.proofs.Writing.{even_is, odd_is, adds_one, stores_to, adds_to_count, adds_to_change, hides_count}
-use Rattle.laws_robust.proofs.Cases.{on_bool}
+use Rattle.lemmas.proofs.Cases.{on_bool}
 
 -- an add that has placed its value, and has done no more to elements than hide what stood there, has placed
 -- just that value
@@ -134,7 +134,7 @@ module _ {T : Type 0} (adding : Adding T) (i : ℕ)
     -- the add was granted its index, and loads the number of the element
     module _ (here : IsAtStage (adds.LoadsCount i)) (none : done scene ≡ []) (few_steps : steps ≤ c + 3 + backs * (c + 1)) where
       abbrev load_it : Option Ask
-      load_it = Some (set_stages.loads (count_word c i))
+      load_it = Some (operations.loads (count_word c i))
 
       abbrev number : ℕ
       number = count_in code c (before scene) i
@@ -143,7 +143,7 @@ module _ {T : Type 0} (adding : Adding T) (i : ℕ)
       -- is even, and to hiding what stands there if it is odd
       loads_step : StepOf scene start (at_stage (adds.LoadsCount i))
       loads_step =
-          on_bool (λ b. Leads scene start (Some (set_stages.loads (count_word c i))) false scene.states []
+          on_bool (λ b. Leads scene start (Some (operations.loads (count_word c i))) false scene.states []
           (as_add (if b then GoOn (at_add (first_add c) (adds.Stores i 0)) else GoOn (at_add (first_add c) (adds.Hides i number)))))
           (is_even number)
           (λ t.

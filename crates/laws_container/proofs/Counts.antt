@@ -18,6 +18,7 @@ use Rattle.model.specs.declared.families.container.calls.CountOf.TheVariants as 
 use Rattle.model.specs.Families.Container.Calls.{counted}
 use Rattle.laws_robust.proofs.Knows as set_knows
 use Rattle.laws_robust.proofs.Stages as set_stages
+use Rattle.lemmas_owners.proofs.Operations as operations
 use Rattle.laws_container.specs.Gone.{AnswersBy}
 use Rattle.laws_container.proofs.Effects.{OwesStill}
 use Rattle.laws_container.proofs.HiddenKnows.{EndsRight}
@@ -191,7 +192,7 @@ module _ {T : Type 0} {scene : Scene T} (inv : Inv scene) where
   pub lock_step : IsUnderWay scene starts.IsLocked lock_at → all scene ≡ []
       → Knows code c lock_at (sees_now scene) → steps ≤ 0 → StepOf scene starts.IsLocked lock_at
   lock_step here none knows few_steps =
-      let ask = Some (set_stages.loads 0) in
+      let ask = Some (operations.loads 0) in
       let answer = Truth (counter_of ws == locked) in
       let party_after = party_then scene starts.IsLocked ask false (Done answer) in
       let written : List (Event T) = Finished p (Container starts.IsLocked) answer ∷ [] in
@@ -202,7 +203,7 @@ module _ {T : Type 0} {scene : Scene T} (inv : Inv scene) where
         longer = none_lengthens;
         does =
             ends_there call party_after
-            (stays_same (of_set scene) (inv_of_set scene inv) (words_after ws ask) (set_stages.loads_same ws 0))
+            (stays_same (of_set scene) (inv_of_set scene inv) (words_after ws ask) (operations.loads_same ws 0))
             (quiet_end p (Container starts.IsLocked) answer (λ i o. refl) (λ i r. refl))
             (λ i b. refl) inv.good.lock well_formed (λ holds. tt)
             (owes_none scene party_after here refl);

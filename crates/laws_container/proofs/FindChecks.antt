@@ -24,7 +24,7 @@ use Rattle.laws_container.proofs.Turns.{count_in}
 use Rattle.laws_container.proofs.Finds.{Finding, IsAtStage, as_given, below_more, cell_step, comes_to_next}
 use Rattle.laws_container.proofs.Finds.{count_step, ends_there, found_past, seen_more, then_at}
 use Rattle.laws_container.proofs.Finds.{word_step, as_find, first}
-use Rattle.laws_robust.proofs.Cases.{on_bool}
+use Rattle.lemmas.proofs.Cases.{on_bool}
 
 -- the steps of one find, whose party sees `v` of the machine
 module _ {T : Type 0} (finding : Finding T) where

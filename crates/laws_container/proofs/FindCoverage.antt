@@ -31,8 +31,8 @@ use Rattle.laws_container.proofs.Turns.{WellFormed, count_in}
 use Rattle.laws_container.proofs.Writing.{even_is}
 use Rattle.laws_container.proofs.Written.{all_effects}
 use Rattle.laws_container.proofs.Allowed.{IsAllowed}
-use Rattle.laws_robust.proofs.OneTurn.{by_next, by_decision}
-use Rattle.laws_robust.proofs.Cases.{by_bool}
+use Rattle.lemmas_owners.proofs.OneTurn.{by_next, by_decision}
+use Rattle.lemmas.proofs.Cases.{by_bool}
 
 -- ---- a find that ends
 

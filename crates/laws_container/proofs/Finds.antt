@@ -19,7 +19,7 @@ use Rattle.steps.specs.declared.copied.Buffer as buffers
 use Rattle.model.specs.declared.event.Answer.TheVariants as answers
 use Rattle.model.specs.declared.families.container.ContainerStart.TheVariants.{Find}
 use Rattle.model.specs.declared.families.container.calls.ContainerFlight.TheVariants as calls
-use Rattle.laws_robust.proofs.Stages as set_stages
+use Rattle.lemmas_owners.proofs.Operations as operations
 use Rattle.laws_container.proofs.Contents.{WordsShow}
 use Rattle.laws_container.proofs.Core.{count_at}
 use Rattle.laws_container.proofs.Copies.{copying_first, copying_more}
@@ -33,7 +33,7 @@ use Rattle.laws_container.proofs.Stages.{goes_calmly, ends, owes_none, was_well_
 use Rattle.laws_container.proofs.CallProgress.{find_at, find_number, AreBelow, FindAt}
 use Rattle.laws_container.proofs.Turns.{WellFormed, count_in, datum_in}
 use Rattle.laws_container.proofs.Writing.{even_is, odd_is}
-use Rattle.laws_robust.proofs.Cases.{on_bool}
+use Rattle.lemmas.proofs.Cases.{on_bool}
 
 -- ---- what a find has seen and done
 
@@ -291,13 +291,13 @@ module _ {T : Type 0} (finding : Finding T) where
       (stands : FindAt c z (all scene) (done scene) (finds.LoadsCell k found))
       (knows : Finds code c owner k k found v) (few_steps : steps ≤ k * (z + 3)) where
     abbrev load_cell : Option Ask
-    load_cell = Some (set_stages.loads (cell_word k))
+    load_cell = Some (operations.loads (cell_word k))
 
     -- the step in which a find loads a cell: it goes on to the element if the cell has the owner, and else to
     -- the next index
     pub cell_step : StepOf scene start (find_at c owner here.room (finds.LoadsCell k found))
     cell_step =
-        on_bool (λ b. Leads scene start (Some (set_stages.loads (cell_word k))) false scene.states []
+        on_bool (λ b. Leads scene start (Some (operations.loads (cell_word k))) false scene.states []
         (as_find here.room (if b then GoOn (at_find first (finds.LoadsCount k (one_more found))) else find_comes_to first (k + 1) found)))
         (cell ws k == owner)
         (λ t.
@@ -335,13 +335,13 @@ module _ {T : Type 0} (finding : Finding T) where
     number = count_in code c (before scene) k
 
     abbrev load_it : Option Ask
-    load_it = Some (set_stages.loads (count_word c k))
+    load_it = Some (operations.loads (count_word c k))
 
     -- the step in which a find loads the number of an element: it passes the index under an even number, and
     -- goes on to the words under an odd one
     pub count_step : StepOf scene start (find_at c owner here.room (finds.LoadsCount k found))
     count_step =
-        on_bool (λ b. Leads scene start (Some (set_stages.loads (count_word c k))) false scene.states []
+        on_bool (λ b. Leads scene start (Some (operations.loads (count_word c k))) false scene.states []
         (as_find here.room (if b then find_comes_to first (k + 1) found else GoOn (at_find first (finds.LoadsWord k found number 0)))))
         (is_even number)
         -- the number is even: nothing stands at the index, and the find passes it
@@ -389,7 +389,7 @@ module _ {T : Type 0} (finding : Finding T) where
     room' = kept_at here.room at word
 
     abbrev load_word : Option Ask
-    load_word = Some (set_stages.loads (element_word c z k at))
+    load_word = Some (operations.loads (element_word c z k at))
 
     same_words : words_after ws load_word ≡ ws
     same_words = loads_same ws (element_word c z k at)
@@ -418,7 +418,7 @@ module _ {T : Type 0} (finding : Finding T) where
     -- the step in which a find loads a word: it goes on to the next word, or to the check of the number
     pub word_step : StepOf scene start (find_at c owner here.room (finds.LoadsWord k found count at))
     word_step =
-        on_bool (λ b. Leads scene start (Some (set_stages.loads (element_word c z k at))) false scene.states []
+        on_bool (λ b. Leads scene start (Some (operations.loads (element_word c z k at))) false scene.states []
         (as_find room' (if b then GoOn (at_find first (finds.LoadsWord k found count (at + 1))) else GoOn
         (at_find first (finds.ChecksCount k found count)))))
         (nat_lt (at + 1) z)

@@ -29,7 +29,7 @@ use Rattle.laws_container.proofs.CallProgress.{remove_at, release_total, RemoveA
 use Rattle.laws_container.proofs.Steps.{loads, hides, end_does, ends_counted}
 use Rattle.laws_container.proofs.Turns.{count_in}
 use Rattle.laws_container.proofs.Writing.{adds_one, adds_to_change, hides_count}
-use Rattle.laws_robust.proofs.Cases.{by_bool, on_bool}
+use Rattle.lemmas.proofs.Cases.{by_bool, on_bool}
 
 -- the steps of a remove are those of its release and three more
 pub total_is : (c z index owner : ℕ) (mode : ReleaseMode) (backs : ℕ) (T : Type 0)

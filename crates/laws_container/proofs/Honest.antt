@@ -23,7 +23,7 @@ use Rattle.laws_container.proofs.Stages.{any_call}
 use Rattle.laws_container.proofs.CallProgress.{At}
 use Rattle.laws_container.proofs.Terms.{Terms}
 use Rattle.laws_container.proofs.Written.{all_effects}
-use Rattle.laws_robust.proofs.OneTurn.{by_next, by_decision}
+use Rattle.lemmas_owners.proofs.OneTurn.{by_next, by_decision}
 
 -- ---- for whom a call is
 

@@ -25,7 +25,7 @@ use Rattle.laws_container.proofs.Stages.{any_call}
 use Rattle.laws_container.proofs.CallProgress.{look_at, look_number}
 use Rattle.laws_container.proofs.Terms.{Terms}
 use Rattle.laws_container.proofs.Allowed.{IsAllowed}
-use Rattle.laws_robust.proofs.OneTurn.{by_next, by_decision}
+use Rattle.lemmas_owners.proofs.OneTurn.{by_next, by_decision}
 
 differ : (p q : ℕ) → (p == q) ≡ false → q ≢ p
 differ p q none = grind (arith, nat_tests)

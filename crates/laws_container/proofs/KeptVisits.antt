@@ -9,7 +9,7 @@ use Rattle.laws_container.proofs.Names.{after_turn, StandsThere, Decide, all_bot
 use Rattle.laws_container.proofs.Invariant.{family_by}
 use Rattle.laws_container.proofs.Sound.{kept_now, IsThere, is_there, SoundRun}
 use Rattle.laws_container.proofs.Written.{all_effects}
-use Rattle.laws_robust.proofs.OneTurn.{by_next, by_decision}
+use Rattle.lemmas_owners.proofs.OneTurn.{by_next, by_decision}
 
 -- ---- what a party writes
 

@@ -67,10 +67,6 @@ pub mod ReplaceFound
 pub mod ReplaceAny
 pub mod Replacers
 pub mod Replaces
-pub mod RoomCalls
-pub mod RoomFalls
-pub mod RoomLockFree
-pub mod RoomStands
 pub mod SetStays
 pub mod SetSteps
 pub mod Sets

@@ -8,7 +8,7 @@ use Rattle.laws_container.proofs.Names.{all_both, all_so}
 use Rattle.model.specs.declared.families.Flight.TheVariants as flights
 use Rattle.model.specs.declared.families.Registry.TheVariants as registries
 use Rattle.model.proofs.Frame as frame
-use Rattle.laws_robust.proofs.Alive.{Leaves}
+use Rattle.lemmas_owners.proofs.Alive.{Leaves}
 use Rattle.laws_container.proofs.Invariant.{family_by}
 use Rattle.laws_container.proofs.Stages.{any_call}
 use Rattle.laws_container.proofs.Terms.{Terms}

@@ -58,14 +58,14 @@ use Rattle.laws_container.proofs.MeasuredLooks.{find_falls, find_comes, recover_
 use Rattle.laws_container.proofs.Looks.{written_same, written_other}
 use Rattle.laws_container.proofs.MeasuredMost.{most}
 use Rattle.laws_container.proofs.CallProgress.{add_at, remove_at, replace_at, find_at, recover_at, look_at, count_at}
-use Rattle.laws_robust.proofs.Cases.{on_bool}
+use Rattle.lemmas.proofs.Cases.{on_bool}
 
 -- ---- where a call goes on, it stands there
 
 -- the calls of a container of this coding and capacity
 module _ {T : Type 0} (code : Coding T) (c : ℕ) where
   -- a call that goes on is at a stage where the measure needs it
-  abbrev pub StandsAfter : After (ContainerFlight T) (Answer T) → Type 0
+  abbrev StandsAfter : After (ContainerFlight T) (Answer T) → Type 0
   StandsAfter (GoOn flight) = CallStands c flight
   StandsAfter (Done answer) = Unit {0}
 
@@ -98,7 +98,7 @@ module _ {T : Type 0} (code : Coding T) (c : ℕ) where
   first_stands container_starts.IsLocked such = tt
 
   -- a call at a stage where the measure needs it goes on to another one
-  pub call_goes : (state : Option (ContainerState T)) (flight : ContainerFlight T) (old : ℕ) → CallStands c flight → StandsAfter (after code state flight old)
+  call_goes : (state : Option (ContainerState T)) (flight : ContainerFlight T) (old : ℕ) → CallStands c flight → StandsAfter (after code state flight old)
   call_goes = grind (arith, nat_tests)
 
   -- ---- a party that looks has a state
@@ -163,7 +163,7 @@ module _ {T : Type 0} (code : Coding T) (c : ℕ) where
       (λ t. ap is_some (found_put_same p (fresh code c) states))
 
   -- what a container keeps beside its words: its dead and the parties' states
-  abbrev pub in_states : List ℕ → List (ℕ × ContainerState T) → Registry T
+  abbrev in_states : List ℕ → List (ℕ × ContainerState T) → Registry T
   in_states dead states = registries.Container dead states
 
   -- a turn takes no party's state away if it leaves one to each party that had one
@@ -180,7 +180,7 @@ module _ {T : Type 0} (code : Coding T) (c : ℕ) where
   first_known p dead states start = tt
 
   -- a call that goes on is known to have a state to look at, if it is a look, as it was before
-  pub call_known : (p : ℕ) (dead : List ℕ) (states : List (ℕ × ContainerState T)) (o : Option (ContainerState T)) (flight : ContainerFlight T) (old : ℕ)
+  call_known : (p : ℕ) (dead : List ℕ) (states : List (ℕ × ContainerState T)) (o : Option (ContainerState T)) (flight : ContainerFlight T) (old : ℕ)
       → Known p (in_states dead states) (flights.Container flight)
       → KnownAfter outline p (in_states dead states) (any_call code c [] (after code o flight old))
   call_known = grind arith
@@ -188,7 +188,7 @@ module _ {T : Type 0} (code : Coding T) (c : ℕ) where
   -- ---- the measure falls with each step of a call
 
   -- the measure falls with each step of a call that does not lock
-  pub call_falls : (words : List ℕ) (p : ℕ) (dead : List ℕ) (states : List (ℕ × ContainerState T)) (flight : ContainerFlight T) → CallStands c flight
+  call_falls : (words : List ℕ) (p : ℕ) (dead : List ℕ) (states : List (ℕ × ContainerState T)) (flight : ContainerFlight T) → CallStands c flight
       → Known p (in_states dead states) (flights.Container flight) → StepFallsWith code c words (state_of p states) flight
   call_falls words p dead states (calls.Add run) stands known =
       subst (λ n. StepFallsWith code c words (state_of p states) (add_at n run.given.value run.given.owner run.call.stage)) (sym stands.0)
@@ -278,11 +278,11 @@ module _ {T : Type 0} (code : Coding T) (c : ℕ) where
   may_ask flight = false
 
   -- a call that waits for a decision is a find or a recovery
-  pub never_asks : (flight : ContainerFlight T) → is_question (want code flight) ≡ true → may_ask flight ≡ true
+  never_asks : (flight : ContainerFlight T) → is_question (want code flight) ≡ true → may_ask flight ≡ true
   never_asks = grind arith
 
   -- the measure falls with a decision that any call which does not lock is told
-  pub call_decides : (words : List ℕ) (state : Option (ContainerState T)) (flight : ContainerFlight T) → CallStands c flight → DecisionFalls words state flight
+  call_decides : (words : List ℕ) (state : Option (ContainerState T)) (flight : ContainerFlight T) → CallStands c flight → DecisionFalls words state flight
   call_decides words state (calls.Find run) stands said due =
       subst (λ n. DecisionFalls words state (find_at n run.given run.room run.call.stage)) (sym stands)
       (λ s d. find_decides words run.given run.room run.call.stage s d) said due
@@ -311,13 +311,13 @@ module _ {T : Type 0} (code : Coding T) (c : ℕ) where
   -- the calls of the container stand as `Stands` says
   module _ (Stands : ContainerFlight T → Type 0) where
     -- what becomes of a call by a step is decided by its stage and by what is kept beside the words
-    pub told : (words : List ℕ) (beside : Option (ℕ × ℕ)) (p : ℕ) (start : Start T) (flight : Flight T) (old : ℕ) (kept : Registry T)
+    told : (words : List ℕ) (beside : Option (ℕ × ℕ)) (p : ℕ) (start : Start T) (flight : Flight T) (old : ℕ) (kept : Registry T)
         → AreOfContainer Stands start flight → Kept kept → (step_of code words beside p start flight old kept).after ≡ goes_of code p flight old kept
     told = grind arith
 
     -- a step of a call of the container leaves a registry of a container, and leaves each party
     -- that had a state one
-    pub stays : (words : List ℕ) (beside : Option (ℕ × ℕ)) (p : ℕ) (start : Start T) (flight : Flight T) (old : ℕ) (kept : Registry T)
+    stays : (words : List ℕ) (beside : Option (ℕ × ℕ)) (p : ℕ) (start : Start T) (flight : Flight T) (old : ℕ) (kept : Registry T)
         → AreOfContainer Stands start flight → Kept kept
         → Kept (step_of code words beside p start flight old kept).kept × Lasts outline kept (step_of code words beside p start flight old kept).kept
     stays words beside p (starts.Container start) (flights.Container flight) old (registries.Container dead states) stands held =
@@ -355,7 +355,7 @@ module _ {T : Type 0} (code : Coding T) (c : ℕ) where
   is_first start kept flight begins_so = absurd (grind arith)
 
   -- the party of a call that has just begun has a state if the call looks, and no party loses its own
-  pub knows : (start : Start T) (kept : Registry T) (flight : Flight T) (p : ℕ) → Kept kept
+  knows : (start : Start T) (kept : Registry T) (flight : Flight T) (p : ℕ) → Kept kept
       → first_of kinds.Container c start kept ≡ Some flight
       → Known p (kept_after_begin code c start p kept) flight × Lasts outline kept (kept_after_begin code c start p kept)
   knows start (registries.Container dead states) flight p held begins_so =
@@ -372,7 +372,7 @@ module _ {T : Type 0} (code : Coding T) (c : ℕ) where
   knows start kept flight p held begins_so = absurd held
 
   -- the death of an owner leaves the registry a container's, and each party its state
-  pub dies : (kept : Registry T) (owner : ℕ) → Kept kept → Kept (kept_after_death kept owner) × Lasts outline kept (kept_after_death kept owner)
+  dies : (kept : Registry T) (owner : ℕ) → Kept kept → Kept (kept_after_death kept owner) × Lasts outline kept (kept_after_death kept owner)
   dies (registries.Container dead states) owner held = (tt, lasts_by dead (dead_with owner dead) states states (λ q has. has))
   dies kept owner held = absurd held
 

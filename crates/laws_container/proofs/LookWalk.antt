@@ -29,7 +29,7 @@ use Rattle.laws_container.proofs.Stages.{all, done, sees_now, since_then, change
 use Rattle.laws_container.proofs.CallProgress.{AreBelow, LookAt, look_number}
 use Rattle.laws_container.proofs.Turns.{Now, WellFormed, count_in, datum_in, change_in}
 use Rattle.laws_container.proofs.Writing.{even_is, odd_is}
-use Rattle.laws_robust.proofs.Cases.{on_bool}
+use Rattle.lemmas.proofs.Cases.{on_bool}
 
 -- ---- the indices that it has come to
 

@@ -29,7 +29,7 @@ use Rattle.laws_container.proofs.Turns.{owes}
 use Rattle.laws_container.proofs.Written.{all_effects}
 use Rattle.laws_container.specs.ConditionalPromises.{LooksRightIf}
 use Rattle.laws_container.proofs.Allowed.{IsAllowed}
-use Rattle.laws_robust.proofs.OneTurn.{by_next, by_decision}
+use Rattle.lemmas_owners.proofs.OneTurn.{by_next, by_decision}
 pub use Rattle.laws_container.proofs.Moves.{look_asks_none}
 
 -- ---- a turn that ends a call writes its end last

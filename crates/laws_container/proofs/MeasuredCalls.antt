@@ -38,7 +38,7 @@ use Rattle.model.proofs.LockFree.Falls.{load_leaves, LeavesAll}
 use Rattle.model.proofs.LockFree.Measure.{WordMeasure}
 use Rattle.model.proofs.LockFree.Own.{Outline}
 use Rattle.laws_robust.proofs.Measured.{raise_left, acquire_left, count_left, release_left, ReleaseStands}
-use Rattle.laws_robust.proofs.Cases.{by_bool, on_bool}
+use Rattle.lemmas.proofs.Cases.{by_bool, on_bool}
 
 -- ---- how many steps a call takes at most before its last one, while the counter stays and no element is placed
 
@@ -116,7 +116,7 @@ module _ (size c : ℕ) where
   look_left words (looks.ChecksCount index count) = behind (size - 1 + 3) index + again_at words index count
 
   -- the steps left to any call of the container that does not lock
-  abbrev pub call_left : {T : Type 0} → List ℕ → ContainerFlight T → ℕ
+  abbrev call_left : {T : Type 0} → List ℕ → ContainerFlight T → ℕ
   call_left words (calls.Add run) = add_left (get_or words 0 0) run.call.stage
   call_left words (calls.Remove run) = remove_left (get_or words 0 0) run.call.stage
   call_left words (calls.Replace run) = replace_left run.call.stage
@@ -161,7 +161,7 @@ recover_pays c recovers.LoadsCounterAgain = 0
 recover_pays c (recovers.AddsChange state) = 0
 
 -- any call of the container; a find, a look and the calls on the length and the lock add to nobody's steps
-abbrev pub call_pays : {T : Type 0} → ℕ → ContainerFlight T → ℕ
+abbrev call_pays : {T : Type 0} → ℕ → ContainerFlight T → ℕ
 call_pays c (calls.Add run) = add_pays run.call.stage
 call_pays c (calls.Remove run) = remove_pays run.call.stage
 call_pays c (calls.Replace run) = replace_pays run.call.stage
@@ -293,7 +293,7 @@ module _ (size c : ℕ) (old new : List ℕ) (same : get_or new 0 0 ≡ get_or o
   look_fewer (looks.ChecksCount index count) = let here = fewer index count in omega arith
 
   -- words with the same counter, in which no copy takes more steps to be made again, leave no call more steps
-  pub leaves : {T : Type 0} → LeavesAll (measure {T = T} size c) old new
+  leaves : {T : Type 0} → LeavesAll (measure {T = T} size c) old new
   leaves (flights.Container (calls.Add run)) = rw same (omega arith)
   leaves (flights.Container (calls.Remove run)) = rw same (omega arith)
   leaves (flights.Container (calls.Recover run)) = recover_fewer run.call.stage

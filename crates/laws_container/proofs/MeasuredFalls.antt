@@ -40,7 +40,7 @@ use Rattle.laws_robust.proofs.Measured.{acquire_left}
 use Rattle.laws_container.proofs.MeasuredCalls.{measure, cell_leaves, hide_leaves, apart_leaves}
 use Rattle.laws_container.proofs.MeasuredCalls.{AcquireStands, AddStands, RemoveStands, ReplaceStands}
 use Rattle.laws_container.proofs.CallProgress.{add_at, remove_at, replace_at}
-use Rattle.laws_robust.proofs.Cases.{by_bool, on_bool}
+use Rattle.lemmas.proofs.Cases.{by_bool, on_bool}
 
 -- where a further index follows, the indices behind it take `each` steps less
 pub behind_next : (c each index : ℕ) → index + 1 < c → (c - (index + 1)) * each ≡ (c - (index + 1 + 1)) * each + each

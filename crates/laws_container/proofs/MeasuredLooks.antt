@@ -37,7 +37,7 @@ use Rattle.laws_container.proofs.MeasuredCalls.{behind, cell_leaves, hide_leaves
 use Rattle.laws_container.proofs.MeasuredCalls.{recover_left, find_left, look_left, recover_pays}
 use Rattle.laws_container.proofs.MeasuredFalls.{behind_next, check_leaves, M, any_call, StepFallsWith}
 use Rattle.laws_container.proofs.CallProgress.{find_at, recover_at, look_at, count_at}
-use Rattle.laws_robust.proofs.Cases.{by_bool}
+use Rattle.lemmas.proofs.Cases.{by_bool}
 
 -- a container of this coding and capacity, with the words `words` before the step
 module _ {T : Type 0} (code : Coding T) (c : ℕ) (words : List ℕ) where

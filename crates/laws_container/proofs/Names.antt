@@ -1,10 +1,12 @@
 -- The names of the standard library and of the crates below that proofs here use.
-pub use Rattle.laws_robust.proofs.Alive.{AllLive, StepsLeave, all_live_on, end_leaves}
+pub use Rattle.lemmas_owners.proofs.Alive.{AllLive, StepsLeave, all_live_on, end_leaves}
 pub use Rattle.laws_robust.proofs.Core.{cell, counter_of}
-pub use Rattle.laws_robust.proofs.Counting.{chosen_with, count_later, count_next, count_none, count_with, count_within}
-pub use Rattle.laws_robust.proofs.Counting.{still_once, still_through, times_below, with_here, with_there}
-pub use Rattle.laws_robust.proofs.Effects.{Quiet, Stays, at_other, at_same, both_ways, filled_by, is_shut, not_shut}
-pub use Rattle.laws_robust.proofs.Effects.{one_owner, quiet_end, quiet_none, quietly, some_none, stays_raised}
+pub use Rattle.lemmas_owners.proofs.Counting.{chosen_with, count_later, count_next, count_none, count_with, count_within}
+pub use Rattle.lemmas_owners.proofs.Counting.{still_once, still_through, times_below, with_here, with_there}
+pub use Rattle.laws_robust.proofs.Effects.{Quiet, Stays, filled_by, is_shut, not_shut}
+pub use Rattle.lemmas_owners.proofs.Choices.{at_other, at_same, both_ways}
+pub use Rattle.lemmas_owners.proofs.Choices.{one_owner, some_none}
+pub use Rattle.laws_robust.proofs.Effects.{quiet_end, quiet_none, quietly, stays_raised}
 pub use Rattle.laws_robust.proofs.Effects.{stays_same, unlocked}
 pub use Rattle.laws_robust.proofs.Gone.{calm_less, gone_begun, gone_less, gone_more, honest_less, lives_freed}
 pub use Rattle.laws_robust.proofs.Gone.{lives_settled, stays_lost}
@@ -14,17 +16,18 @@ pub use Rattle.laws_robust.proofs.Knows.{Goes, IsSeen, LockSays, Spares, held_pa
 pub use Rattle.laws_robust.proofs.Opening.{admitted_is, opening_cell}
 pub use Rattle.laws_robust.proofs.Parts.{IsSaid, count_ask, count_step as part_step, lock_ask, lock_moves, none_beyond}
 pub use Rattle.laws_robust.proofs.Parts.{raise_ask, raise_step}
-pub use Rattle.laws_robust.proofs.Past.{began_earlier, since_begun, since_less, through_less, through_now, through_so}
+pub use Rattle.lemmas_owners.proofs.Past.{began_earlier, since_begun, since_less, through_less, through_now, through_so}
 pub use Rattle.laws_robust.proofs.Rights.{AreOwned, IsBy, Right, right_after}
-pub use Rattle.laws_robust.proofs.Lists.{all_both, all_either, all_so, by_latest, last_one, one_of_none, still_one, was_one}
+pub use Rattle.lemmas_owners.proofs.Lists.{all_both, all_either, all_so, by_latest, last_one, one_of_none, still_one, was_one}
 pub use Rattle.laws_robust.proofs.Sound.{count_asks_none, lock_asks_none, raise_asks_none}
-pub use Rattle.laws_robust.proofs.Stages.{exchange_sets, exchanges, fails_same, is_seen, loads, loads_same}
+pub use Rattle.lemmas_owners.proofs.Operations.{exchange_sets, exchanges, fails_same, loads, loads_same}
+pub use Rattle.laws_robust.proofs.Stages.{is_seen}
 pub use Rattle.laws_robust.proofs.CallProgress.{AcquireAt, CountAt, LockAt, ReleaseAt, acquire_at, acquire_number}
 pub use Rattle.laws_robust.proofs.CallProgress.{borrowed_at, count_number, lock_number, looking, raise_number, release_at}
 pub use Rattle.laws_robust.proofs.CallProgress.{release_number}
 pub use Rattle.laws_robust.specs.Gone.{ActsForRight, AnswersBy, Death, GivesBackRight, GoneBy, IsCalm, IsHonest}
 pub use Rattle.laws_robust.specs.Gone.{IsHonestBy, Word, gone_after, is_gone}
-pub use Rattle.laws_robust.specs.Open.{IsReachedOpen, attempt_open, open_refusal, run_open}
+pub use Rattle.model.specs.Open.{IsReachedOpen, attempt_open, open_refusal, run_open}
 pub use Rattle.model.proofs.Moments.{held_later, held_now, held_so, others_begin_none}
 pub use Rattle.model.proofs.Names.{After, AllByRecursion, Ask, Asks, BeginsNone, Bool, Coding, ContainerState, Default}
 pub use Rattle.model.proofs.Names.{Each, Ended, Frees, GoOn, HeldSometime, HeldThroughout, IfSome, IsCoding, IsCount}

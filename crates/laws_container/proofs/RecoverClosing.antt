@@ -17,7 +17,7 @@ use Rattle.steps.specs.declared.indices.robust.parts.Lock.TheVariants as parts
 use Rattle.steps.specs.declared.indices.robust.parts.Raise.TheVariants as raises
 use Rattle.model.specs.declared.event.Answer.TheVariants as answers
 use Rattle.model.specs.declared.families.container.ContainerStart.TheVariants.{Recover}
-use Rattle.laws_robust.proofs.Stages as set_stages
+use Rattle.lemmas_owners.proofs.Operations as operations
 use Rattle.laws_container.specs.Gone.{HasRecoveredBy, FilledSinceEachBy, AnswersBy}
 use Rattle.laws_container.proofs.Answers.{each_on}
 use Rattle.laws_container.proofs.HiddenKnows.{HasHidden}
@@ -38,7 +38,7 @@ use Rattle.laws_container.proofs.CallProgress.{recover_at, recover_number, for_b
 use Rattle.laws_container.proofs.Steps.{end_does, ends_counted}
 use Rattle.laws_container.proofs.Writing.{adds_one, adds_to_change}
 use Rattle.laws_container.proofs.Recovers.{locks_step, most_is, raises_step}
-use Rattle.laws_robust.proofs.Cases.{on_bool}
+use Rattle.lemmas.proofs.Cases.{on_bool}
 
 -- a recovery of `owner` in mode `mode` is under way, by party `p` of the scene
 module _ {T : Type 0} (recovery : Recovery T) where
@@ -60,7 +60,7 @@ module _ {T : Type 0} (recovery : Recovery T) where
       (few_steps : steps ≤ 1 + c * for_index c z mode + backs * for_back c z mode)
       (filled_since : FilledBut (IsWorn scene.terms.by ws) mode p owner NoIndex events) where
     abbrev load_again : Option Ask
-    load_again = Some (set_stages.loads 0)
+    load_again = Some (operations.loads 0)
 
     leaves : LeavesWords recovery load_again false
     leaves = record { same = loads_same ws 0; paid = let paid = knows.0 in omega arith }
@@ -94,7 +94,7 @@ module _ {T : Type 0} (recovery : Recovery T) where
     -- that the counter says
     again_step : StepOf scene (Recover owner mode) (recover_at c owner mode here.room recovers.LoadsCounterAgain)
     again_step =
-        on_bool (λ b. LeadsOn recovery (Some (set_stages.loads 0)) false [] here.room
+        on_bool (λ b. LeadsOn recovery (Some (operations.loads 0)) false [] here.room
         (recover_ends (first recovery) (if b then states.Locked else states.Unlocked)))
         (counter_of ws == locked)
         (λ t.

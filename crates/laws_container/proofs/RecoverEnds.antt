@@ -34,7 +34,7 @@ use Rattle.laws_container.proofs.CallProgress.{recover_at, recover_number, for_b
 use Rattle.laws_container.proofs.Steps.{hides}
 use Rattle.laws_container.proofs.Turns.{owes, count_in}
 use Rattle.laws_container.proofs.Writing.{even_is, odd_is, hides_count}
-use Rattle.laws_robust.proofs.Cases.{on_bool}
+use Rattle.lemmas.proofs.Cases.{on_bool}
 
 -- a recovery of `owner` in mode `mode` is under way, by party `p` of the scene
 module _ {T : Type 0} (recovery : Recovery T) where

@@ -31,7 +31,7 @@ use Rattle.laws_container.proofs.Stages.{Call, goes_on, was_well_formed}
 use Rattle.laws_container.proofs.CallProgress.{recover_at, recover_number, for_back, for_index, IsInCourse, RecoverAt}
 use Rattle.laws_container.proofs.SetStays.{moves}
 use Rattle.laws_container.proofs.Turns.{owes, count_in}
-use Rattle.laws_robust.proofs.Cases.{on_bool}
+use Rattle.lemmas.proofs.Cases.{on_bool}
 
 -- no index is exempt
 abbrev pub none : ℕ → Type 0

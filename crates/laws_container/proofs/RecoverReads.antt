@@ -17,7 +17,7 @@ use Rattle.steps.specs.declared.container.recover.RecoverStage.TheVariants as re
 use Rattle.steps.specs.declared.copied.Buffer as buffers
 use Rattle.steps.specs.declared.indices.enums.ReleaseState.TheVariants as states
 use Rattle.model.specs.declared.families.container.ContainerStart.TheVariants.{Recover}
-use Rattle.laws_robust.proofs.Stages as set_stages
+use Rattle.lemmas_owners.proofs.Operations as operations
 use Rattle.laws_container.proofs.Copies.{copying_first}
 use Rattle.laws_container.proofs.Core.{count_at}
 use Rattle.laws_container.proofs.Finds.{nothing_stands}
@@ -36,7 +36,7 @@ use Rattle.laws_container.proofs.Stages.{was_well_formed}
 use Rattle.laws_container.proofs.CallProgress.{recover_at, recover_number, for_back, for_index, AreBelow, IsInCourse, RecoverAt}
 use Rattle.laws_container.proofs.Turns.{count_in}
 use Rattle.laws_container.proofs.Writing.{even_is, odd_is}
-use Rattle.laws_robust.proofs.Cases.{on_bool}
+use Rattle.lemmas.proofs.Cases.{on_bool}
 
 pub none_is : {T : Type 0} (o : Option T) → is_some o ≡ false → o ≡ None
 none_is None nothing = refl
@@ -180,7 +180,7 @@ module _ {T : Type 0} (recovery : Recovery T) where
       (stands : RecoverAt c z (all scene) (done scene) owner mode recovers.LoadsCounter)
       (knows : RecoverKnows code c owner mode here.room recovers.LoadsCounter (sees_now scene)) (few_steps : steps ≤ 0) where
     abbrev load_counter : Option Ask
-    load_counter = Some (set_stages.loads 0)
+    load_counter = Some (operations.loads 0)
 
     -- a recovery at its first step has freed no index, so there is nothing to hide
     nothing_freed : HasHidden code c p owner none (before scene)
@@ -190,7 +190,7 @@ module _ {T : Type 0} (recovery : Recovery T) where
     -- and else goes to the first index
     pub counter_step : StepOf scene (Recover owner mode) (recover_at c owner mode here.room recovers.LoadsCounter)
     counter_step =
-        on_bool (λ b. Leads scene (Recover owner mode) (Some (set_stages.loads 0)) false scene.states []
+        on_bool (λ b. Leads scene (Recover owner mode) (Some (operations.loads 0)) false scene.states []
         (as_recover recovery here.room (if b then recover_ends (first recovery) states.Locked else recover_comes_to (first recovery) 0)))
         (counter_of ws == locked)
         (λ t.
@@ -214,7 +214,7 @@ module _ {T : Type 0} (recovery : Recovery T) where
         -- where the counter is not locked the recovery goes to the first index, or to its last
         -- steps if there is none
         next : counter_of ws ≢ locked → (b : Bool) → nat_lt 0 c ≡ b
-            → LeadsOn (Some (set_stages.loads 0)) false [] here.room (GoOn (record (first recovery) {
+            → LeadsOn (Some (operations.loads 0)) false [] here.room (GoOn (record (first recovery) {
               stage = if b then recovers.LoadsCell 0 else recovers.LoadsCounterAgain;
             }))
         next open_now true index_test =
@@ -249,7 +249,7 @@ module _ {T : Type 0} (recovery : Recovery T) where
       (few_steps : steps ≤ 1 + index * for_index c z mode + backs * for_back c z mode)
       (filled_since : FilledBut (IsWorn scene.terms.by ws) mode p owner NoIndex events) where
     abbrev load_cell : Option Ask
-    load_cell = Some (set_stages.loads (cell_word index))
+    load_cell = Some (operations.loads (cell_word index))
 
     loads_cell : LeavesWords load_cell false
     loads_cell = record { same = loads_same ws (cell_word index); paid = let paid = knows.0 in omega arith }
@@ -263,7 +263,7 @@ module _ {T : Type 0} (recovery : Recovery T) where
     -- owner, and else to the next index
     pub cell_step : StepOf scene (Recover owner mode) (recover_at c owner mode here.room (recovers.LoadsCell index))
     cell_step =
-        on_bool (λ b. Leads scene (Recover owner mode) (Some (set_stages.loads (cell_word index))) false scene.states []
+        on_bool (λ b. Leads scene (Recover owner mode) (Some (operations.loads (cell_word index))) false scene.states []
         (as_recover recovery here.room
         (if b then GoOn (record (first recovery) { stage = recovers.LoadsCount index }) else recover_comes_to
         (first recovery) (index + 1))))
@@ -411,7 +411,7 @@ module _ {T : Type 0} (recovery : Recovery T) where
       → FilledBut (IsWorn scene.terms.by ws) mode p owner NoIndex events
       → StepOf scene (Recover owner mode) (recover_at c owner mode here.room (recovers.LoadsCount index))
   count_step {index} here course knows few_steps filled_since =
-      let finds : FindsNumber index (Some (set_stages.loads (count_word c index))) false =
+      let finds : FindsNumber index (Some (operations.loads (count_word c index))) false =
       record {
         leaves = record { same = loads_same ws (count_word c index); paid = let paid = knows.0 in omega arith };
         few = omega arith;

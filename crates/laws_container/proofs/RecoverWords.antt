@@ -14,7 +14,7 @@ use Rattle.laws_container.proofs.Names.{loads_same, exchanges, exchange_sets, fa
 use Rattle.steps.specs.declared.container.recover.RecoverStage.TheVariants as recovers
 use Rattle.steps.specs.declared.copied.Buffer as buffers
 use Rattle.model.specs.declared.families.container.ContainerStart.TheVariants.{Recover}
-use Rattle.laws_robust.proofs.Stages as set_stages
+use Rattle.lemmas_owners.proofs.Operations as operations
 use Rattle.laws_container.proofs.Copies.{copying_more, copied_value}
 use Rattle.laws_container.proofs.Core.{count_at}
 use Rattle.laws_container.proofs.HiddenKnows.{RecoverCovers}
@@ -31,7 +31,7 @@ use Rattle.laws_container.proofs.CallProgress.{recover_at, for_back, for_index, 
 use Rattle.laws_container.proofs.Turns.{count_in, datum_in}
 use Rattle.laws_container.proofs.RecoverReads.{LeadsToStage, LeadsOn, LeavesWords, FindsNumber, silent_step}
 use Rattle.laws_container.proofs.RecoverReads.{back_at_least, calm_next, calm_on, calm_recs, course_calm, index_at_least, sees_number}
-use Rattle.laws_robust.proofs.Cases.{on_bool}
+use Rattle.lemmas.proofs.Cases.{on_bool}
 
 -- a recovery of `owner` in mode `mode` is under way, by party `p` of the scene
 module _ {T : Type 0} (recovery : Recovery T) where
@@ -59,7 +59,7 @@ module _ {T : Type 0} (recovery : Recovery T) where
     room' = kept_at here.room at word
 
     abbrev load_word : Option Ask
-    load_word = Some (set_stages.loads (element_word c z index at))
+    load_word = Some (operations.loads (element_word c z index at))
 
     leaves : LeavesWords recovery load_word false
     leaves =
@@ -98,7 +98,7 @@ module _ {T : Type 0} (recovery : Recovery T) where
     -- the step in which a recovery loads a word: it goes on to the next word, or to the check of the number
     pub word_step : StepOf scene (Recover owner mode) (recover_at c owner mode here.room (recovers.LoadsWord index count at))
     word_step =
-        on_bool (λ b. Leads scene (Recover owner mode) (Some (set_stages.loads (element_word c z index at))) false
+        on_bool (λ b. Leads scene (Recover owner mode) (Some (operations.loads (element_word c z index at))) false
         scene.states []
         (as_recover recovery room'
         (if b then GoOn (record (first recovery) { stage = recovers.LoadsWord index count (at + 1) }) else GoOn

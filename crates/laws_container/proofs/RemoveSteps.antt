@@ -13,6 +13,7 @@ use Rattle.laws_robust.proofs.Effects as set_effects
 use Rattle.laws_robust.proofs.Invariant as set_invariant
 use Rattle.laws_robust.proofs.Knows as set_knows
 use Rattle.laws_robust.proofs.Stages as set_stages
+use Rattle.lemmas_owners.proofs.Operations as operations
 use Rattle.laws_container.proofs.Core.{count_at}
 use Rattle.laws_container.proofs.HiddenRemoves.{Removing, refused_done, refused_right, total_is, hides_step, end_step}
 use Rattle.laws_container.proofs.HiddenRemoves.{at_stage, IsAtStage}
@@ -44,7 +45,7 @@ module _ {T : Type 0} (removing : Removing T) where
       (knows : set_knows.Knows c (release_at c index owner mode releases.EmptiesCell) (set_stages.now (of_set scene)))
       (few_steps : steps ≤ 0) where
     abbrev load_it : Option Ask
-    load_it = Some (set_stages.loads (count_word c index))
+    load_it = Some (operations.loads (count_word c index))
 
     abbrev number : ℕ
     number = count_in code c (before scene) index

@@ -25,6 +25,7 @@ use Rattle.model.specs.declared.event.Answer.TheVariants as answers
 use Rattle.model.specs.declared.families.container.ContainerStart.TheVariants.{Remove}
 use Rattle.model.specs.declared.families.container.calls.ContainerFlight.TheVariants as calls
 use Rattle.laws_robust.proofs.Effects as set_effects
+use Rattle.lemmas_owners.proofs.Choices as choices
 use Rattle.laws_robust.proofs.HeldRelease.{Releasing, Caller, Ends, held_step}
 use Rattle.laws_robust.proofs.Invariant as set_invariant
 use Rattle.laws_robust.proofs.Knows as set_knows
@@ -49,7 +50,7 @@ use Rattle.laws_container.proofs.SetStays.{moves}
 use Rattle.laws_container.proofs.Terms.{Keeps}
 use Rattle.laws_container.proofs.Turns.{remove_owes, count_in}
 use Rattle.laws_container.proofs.Writing.{even_is, odd_is}
-use Rattle.laws_robust.proofs.Cases.{on_bool}
+use Rattle.lemmas.proofs.Cases.{on_bool}
 
 -- a remove is under way: of the handle with `index` and `owner`, in mode `mode`, by party `p` of the scene
 module _ {T : Type 0} (removing : Removing T) where
@@ -450,7 +451,7 @@ module _ {T : Type 0} (removing : Removing T) where
                   record {
                     within = below;
                     below = low same;
-                    left = λ holds is. fold-append (left_after index) true events written ∙ set_effects.at_same index index true (left_of index events) refl;
+                    left = λ holds is. fold-append (left_after index) true events written ∙ choices.at_same index index true (left_of index events) refl;
                   },
                   hidden_freed (freeing removing this here) index count below (words_after ws ask) party_after same
                       (λ holds i was. absurd (no_more was.before (Frees i owner) was.after (sym none ∙ was.is)))

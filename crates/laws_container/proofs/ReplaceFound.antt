@@ -14,7 +14,7 @@ use Rattle.steps.specs.declared.ask.After.TheVariants.{Done}
 use Rattle.steps.specs.declared.container.replace.ReplaceStage.TheVariants as replaces
 use Rattle.model.specs.declared.event.Answer.TheVariants as answers
 use Rattle.model.specs.declared.families.container.ContainerStart.TheVariants.{Replace}
-use Rattle.laws_robust.proofs.Stages as set_stages
+use Rattle.lemmas_owners.proofs.Operations as operations
 use Rattle.laws_container.proofs.AddWrites.{placed_once}
 use Rattle.laws_container.proofs.Contents.{store_writes}
 use Rattle.laws_container.proofs.Core.{count_at, count_set}
@@ -35,7 +35,7 @@ use Rattle.laws_container.proofs.Writing.{even_is, odd_is, adds_one, stores_to, 
 use Rattle.laws_container.proofs.ReplaceSteps.{Replacing, as_given, calm_step, found_calm, found_then, given_is}
 use Rattle.laws_container.proofs.ReplaceSteps.{stands_if, was_calm, was_going, at_stage, as_replace, first, IsAtStage}
 use Rattle.laws_container.proofs.ReplaceSteps.{then_at, SeesCalmly}
-use Rattle.laws_robust.proofs.Cases.{on_bool}
+use Rattle.lemmas.proofs.Cases.{on_bool}
 
 -- a replace is under way: of the value at `index`, with the handle's `owner`, by party `p` of the scene
 module _ {T : Type 0} (replacing : Replacing T) where
@@ -126,7 +126,7 @@ module _ {T : Type 0} (replacing : Replacing T) where
     -- the replace loads the number of the element
     module _ (here : IsAtStage replacing replaces.LoadsCount) (nothing : done scene ≡ []) (few_steps : steps ≤ 1) where
       abbrev load_it : Ask
-      load_it = set_stages.loads (count_word c i)
+      load_it = operations.loads (count_word c i)
 
       abbrev number : ℕ
       number = count_in code c (before scene) i
@@ -135,7 +135,7 @@ module _ {T : Type 0} (replacing : Replacing T) where
       -- number is odd, and to store its first word if it is even
       pub count_step : StepOf scene start (at_stage replacing replaces.LoadsCount)
       count_step =
-          on_bool (λ b. Leads scene start (Some (set_stages.loads (count_word c i))) false scene.states []
+          on_bool (λ b. Leads scene start (Some (operations.loads (count_word c i))) false scene.states []
           (as_replace replacing (if b then GoOn (at_replace (first replacing) (replaces.Stores 0)) else GoOn
           (at_replace (first replacing) (replaces.Hides number)))))
           (is_even number)

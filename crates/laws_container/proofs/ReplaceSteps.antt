@@ -16,7 +16,7 @@ use Rattle.steps.specs.declared.container.replace.ReplaceStage.TheVariants as re
 use Rattle.model.specs.declared.event.Answer.TheVariants as answers
 use Rattle.model.specs.declared.families.container.ContainerStart.TheVariants.{Replace}
 use Rattle.model.specs.declared.families.container.calls.ContainerFlight.TheVariants as calls
-use Rattle.laws_robust.proofs.Stages as set_stages
+use Rattle.lemmas_owners.proofs.Operations as operations
 use Rattle.laws_container.proofs.Invariant.{Scene, Inv, ActsFor, before, after, inv_of_set, wrote_of, right_end}
 use Rattle.laws_container.proofs.Knows.{View, HasFound, IsPaid, Knows}
 use Rattle.laws_container.proofs.WellFormed.{IsWellFormedSoFar, well_formed_before}
@@ -27,7 +27,7 @@ use Rattle.laws_container.proofs.Stages.{goes_calmly, ends, owes_none}
 use Rattle.laws_container.proofs.CallProgress.{replace_at, replace_number, ReplaceAt, place_is}
 use Rattle.laws_container.proofs.Steps.{loads}
 use Rattle.laws_container.proofs.Turns.{WellFormed, replace_owes}
-use Rattle.laws_robust.proofs.Cases.{on_bool}
+use Rattle.lemmas.proofs.Cases.{on_bool}
 use Rattle.laws_container.proofs.Silent.{silently}
 
 -- a replace by the party of the scene, of a handle whose index is below the capacity, for an owner that is
@@ -187,7 +187,7 @@ module _ {T : Type 0} (replacing : Replacing T) where
   module _ (here : IsAtStage replaces.LoadsCell) (nothing : done scene ≡ []) (paid : IsPaid (sees_now scene))
       (owns : ReplaceOwns scene.terms.by p index owner events) (few_steps : steps ≤ 0) where
     abbrev load_cell : Ask
-    load_cell = set_stages.loads (cell_word index)
+    load_cell = operations.loads (cell_word index)
 
     -- a replace that finds another owner in the cell ends with the answer that its handle is
     -- not the container's
@@ -234,7 +234,7 @@ module _ {T : Type 0} (replacing : Replacing T) where
     -- owner, and ends if it finds another
     pub cell_step : StepOf scene start (at_stage replaces.LoadsCell)
     cell_step =
-        on_bool (λ b. Leads scene start (Some (set_stages.loads (cell_word index))) false scene.states []
+        on_bool (λ b. Leads scene start (Some (operations.loads (cell_word index))) false scene.states []
         (as_replace (if b then GoOn (at_replace first replaces.LoadsCount) else Done (Err ContainerHandleNotOwnedByContainer))))
         (cell ws index == owner)
         (λ t. let has_owner : cell ws index ≡ owner = grind (arith, nat_tests) in finds has_owner)

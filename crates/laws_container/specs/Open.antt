@@ -15,7 +15,7 @@ use Rattle.model.specs.Families.Indices.Robust.Reading.{filled_of, is_dead}
 use Rattle.model.specs.Reading.{Each}
 use Rattle.model.specs.World.{Trace, opening, flight_in}
 use Rattle.laws_robust.specs.Gone.{Word, IsHonest}
-use Rattle.laws_robust.specs.Open.{attempt_open, IsReachedOpen}
+use Rattle.model.specs.Open.{attempt_open, IsReachedOpen}
 use Rattle.laws_container.specs.Gone.{AsksBy, RecoversBy, AnswersBy, acts_for_gone}
 
 module _ {T : Type 0} where

@@ -26,7 +26,7 @@ use Rattle.model.specs.declared.turn.Kind.TheVariants as kinds
 use Rattle.model.specs.Families.Indices.Robust.Steps.{effects, freed}
 use Rattle.laws_robust.proofs.Sound.{reached_sound}
 use Rattle.laws_machine.specs.Questions.{AsksIt, AsksAtOnce}
-use Rattle.laws_robust.proofs.Cases.{by_bool}
+use Rattle.lemmas.proofs.Cases.{by_bool}
 
 module _ {T : Type 0} where
   -- an event `Asked` of the party `q.0` is about the index and the owner of its question `q.1`

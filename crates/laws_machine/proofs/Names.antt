@@ -9,13 +9,15 @@ pub use Rattle.laws_container.proofs.Terms.{dying}
 pub use Rattle.laws_container.proofs.Writing.{adds_one, stores_to}
 pub use Rattle.laws_container.proofs.Written.{all_effects}
 pub use Rattle.laws_robust.proofs.Core.{cell, counter_of}
-pub use Rattle.laws_robust.proofs.Effects.{both_ways, is_shut, unlocked}
+pub use Rattle.lemmas_owners.proofs.Choices.{both_ways}
+pub use Rattle.laws_robust.proofs.Effects.{is_shut, unlocked}
 pub use Rattle.laws_robust.proofs.Invariant.{Inv, IsWorn, Scene}
 pub use Rattle.laws_robust.proofs.Justified.{robust_keeps}
 pub use Rattle.laws_robust.proofs.Knows.{Knows, LockSays}
 pub use Rattle.laws_robust.proofs.Sound.{acquire_asks_none, count_asks_none, lock_asks_none, raise_asks_none}
 pub use Rattle.laws_robust.proofs.Sound.{release_asks_none}
-pub use Rattle.laws_robust.proofs.Stages.{IsHere, Lengthens, all, exchanges, loads, loads_same, now, set_acts_more}
+pub use Rattle.laws_robust.proofs.Stages.{IsHere, Lengthens, all, now, set_acts_more}
+pub use Rattle.lemmas_owners.proofs.Operations.{exchanges, loads, loads_same}
 pub use Rattle.laws_robust.proofs.CallProgress.{AcquireAt, FindAt, LockAt, find_at}
 pub use Rattle.laws_robust.specs.Gone.{Death}
 pub use Rattle.model.proofs.Moments.{held_now, others_begin_none}

@@ -9,7 +9,7 @@ use Rattle.steps.specs.Container.State.{Showing, with_count, with_word, with_val
 use Rattle.model.specs.declared.families.container.calls.LookOf.TheVariants as kinds
 use Rattle.laws_machine.specs.Changes.{Seen, up_to_date}
 use Rattle.laws_machine.proofs.SeenKnows.{Within, HasLoaded, IsToLoad, LookSees}
-use Rattle.laws_robust.proofs.Cases.{on_bool}
+use Rattle.lemmas.proofs.Cases.{on_bool}
 
 module _ {T : Type 0} where
   -- What is to be shown of a step with which the look comes to this and leaves this state. A look that goes

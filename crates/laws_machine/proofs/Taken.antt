@@ -4,8 +4,8 @@ use Rattle.laws_machine.proofs.Names.{Flight, Turn, Begin, is_due, is_question}
 use Rattle.laws_machine.proofs.Names.{want_of, World, flight_in}
 use Rattle.model.specs.Refusals.{call_refusal}
 use Rattle.model.proofs.Rows.{MayStart, possible_on}
-use Rattle.laws_robust.specs.Open.{open_refusal}
-use Rattle.laws_robust.proofs.OpenRuns.{possible_open}
+use Rattle.model.specs.Open.{open_refusal}
+use Rattle.lemmas.proofs.Open.{possible_open}
 use Rattle.laws_container.proofs.Allowed.{IsAllowed, allowed_by, allowed_open}
 
 module _ {T : Type 0} where

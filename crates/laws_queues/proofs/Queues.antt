@@ -9,7 +9,6 @@ pub mod Knows
 pub mod Lengths
 pub mod Pending
 pub mod Roles
-pub mod Runs
 pub mod Sound
 pub mod Stages
 pub mod Steps

@@ -1,3 +1,2 @@
 -- The machines of queues, and runs of them in which no position runs over.
-pub mod Fresh
 pub mod Kinds

@@ -3,7 +3,8 @@
 use Rattle.laws_robust.proofs.Names.{◌≡◌, ℕ, ◌==◌, if◌then◌else◌, Option, Some, None, List, [], ◌∷◌, ◌++◌, refl, sym}
 use Rattle.laws_robust.proofs.Names.{◌∙◌, arith, eq-eqb, fold-append, Event, Begun, Start, NoneTakes}
 use Rattle.laws_robust.proofs.Names.{filled_of, holder_after, holder_of, settled_after, settled_of}
-use Rattle.laws_robust.proofs.Effects.{Keeps, Leaves, at_same, hands_on, same_filled}
+use Rattle.laws_robust.proofs.Effects.{Keeps, Leaves, hands_on, same_filled}
+use Rattle.lemmas_owners.proofs.Choices.{at_same}
 use Rattle.laws_robust.proofs.Invariant.{Scene, Good, Does}
 use Rattle.laws_robust.proofs.Rights.{Right, Settled, By, taken_by, right_after, right_of, IsBy, AreOwned}
 

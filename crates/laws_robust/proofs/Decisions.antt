@@ -20,8 +20,8 @@ use Rattle.laws_robust.proofs.Sound.{scene_of, raise_asks_none, lock_asks_none}
 use Rattle.laws_robust.proofs.Stages.{all, now, any_call}
 use Rattle.laws_robust.proofs.CallProgress.{recover_at, At}
 use Rattle.laws_robust.proofs.Written.{effects_hold}
-use Rattle.laws_robust.proofs.OneTurn.{by_next, by_decision}
-use Rattle.laws_robust.proofs.Lists.{all_both}
+use Rattle.lemmas_owners.proofs.OneTurn.{by_next, by_decision}
+use Rattle.lemmas_owners.proofs.Lists.{all_both}
 
 -- only a question asks about an index of an owner
 asks_owned : (w : Want (Unit {0})) (index owner : ℕ) → owned_by w ≡ Some (index, owner) → is_question w ≡ true

@@ -23,8 +23,8 @@ use Rattle.laws_robust.specs.Gone.{Death}
 use Rattle.laws_robust.proofs.Sound.{scene_of, inv_of, is_there}
 use Rattle.laws_robust.proofs.Stages.{all, now, any_call}
 use Rattle.laws_robust.proofs.Written.{all_effects}
-use Rattle.laws_robust.proofs.OneTurn.{by_next, by_decision}
-use Rattle.laws_robust.proofs.Cases.{by_bool}
+use Rattle.lemmas_owners.proofs.OneTurn.{by_next, by_decision}
+use Rattle.lemmas.proofs.Cases.{by_bool}
 
 -- A turn in which the call of the party `q` gets an answer; the question is whether it ended a find of the
 -- party `p` for this owner with this number.

@@ -10,13 +10,14 @@ use Rattle.steps.specs.declared.indices.robust.find.FindStage.TheVariants as fin
 use Rattle.model.specs.declared.families.indices.robust.RobustStart.TheVariants.{Find}
 use Rattle.model.specs.declared.families.indices.robust.calls.RobustFlight.TheVariants as flights
 use Rattle.laws_robust.proofs.Core.{cell}
-use Rattle.laws_robust.proofs.Counting.{count_next, count_within}
+use Rattle.lemmas_owners.proofs.Counting.{count_next, count_within}
 use Rattle.laws_robust.proofs.Effects.{stays_same, filled_by}
 use Rattle.laws_robust.proofs.Invariant.{Scene, Inv, Good}
 use Rattle.laws_robust.proofs.Knows.{Knows, IsPaid}
 use Rattle.laws_robust.proofs.CallProgress.{find_at, find_number, FindAt}
-use Rattle.laws_robust.proofs.Stages.{IsHere, all, now, sees, loads, loads_same, StepOf, AnswerOf, Leads, goes_quietly, ends_quietly}
-use Rattle.laws_robust.proofs.Cases.{on_bool}
+use Rattle.laws_robust.proofs.Stages.{IsHere, all, now, sees, StepOf, AnswerOf, Leads, goes_quietly, ends_quietly}
+use Rattle.lemmas_owners.proofs.Operations.{loads, loads_same}
+use Rattle.lemmas.proofs.Cases.{on_bool}
 
 -- The party `p` finds for the owner. `c` is the capacity, `ws` the words before the step.
 module _ {T : Type 0} (scene : Scene T) (inv : Inv scene) (owner : ℕ) (fits : owner < empty) where

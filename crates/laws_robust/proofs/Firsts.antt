@@ -10,11 +10,11 @@ use Rattle.model.specs.declared.families.indices.robust.RobustStart.TheVariants 
 use Rattle.model.specs.declared.turn.Kind.TheVariants as kinds
 use Rattle.laws_robust.specs.Gone.{GoneBy, IsCalm}
 use Rattle.laws_robust.proofs.Begins.{taken}
-use Rattle.laws_robust.proofs.Counting.{count_none}
+use Rattle.lemmas_owners.proofs.Counting.{count_none}
 use Rattle.laws_robust.proofs.Gone.{calm_less}
 use Rattle.laws_robust.proofs.Invariant.{view}
 use Rattle.laws_robust.proofs.Knows.{Knows}
-use Rattle.laws_robust.proofs.Past.{since_begun}
+use Rattle.lemmas_owners.proofs.Past.{since_begun}
 use Rattle.laws_robust.proofs.Rights.{AreOwned}
 use Rattle.laws_robust.proofs.CallProgress.{At}
 

@@ -8,7 +8,8 @@ use Rattle.laws_robust.proofs.Names.{is_dead, AreOwn, AreRight}
 use Rattle.model.specs.declared.families.indices.robust.RobustStart.TheVariants.{Acquire}
 use Rattle.laws_robust.specs.Gone.{IsCalm, AnswersBy}
 use Rattle.laws_robust.proofs.Core.{counter_of}
-use Rattle.laws_robust.proofs.Effects.{Keeps, Leaves, at_same, hands_on, same_filled}
+use Rattle.laws_robust.proofs.Effects.{Keeps, Leaves, hands_on, same_filled}
+use Rattle.lemmas_owners.proofs.Choices.{at_same}
 use Rattle.laws_robust.proofs.Effects.{IsRaised, raised_open, raised_stays, raised_more, unlocked}
 use Rattle.laws_robust.proofs.Gone.{calm_less}
 use Rattle.laws_robust.proofs.Invariant.{IsWorn, Scene, Inv, Good, Does}

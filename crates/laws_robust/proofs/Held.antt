@@ -17,16 +17,19 @@ use Rattle.steps.specs.declared.indices.robust.acquire.AcquireStage.TheVariants 
 use Rattle.steps.specs.declared.indices.robust.parts.Raise.TheVariants as raises
 use Rattle.laws_robust.specs.Gone.{IsCalm}
 use Rattle.laws_robust.proofs.Core.{counter_of, cell}
-use Rattle.laws_robust.proofs.Effects.{at_same, IsRaised, unlocked, is_shut, filled_none, filled_some, fills}
+use Rattle.lemmas_owners.proofs.Choices.{at_same}
+use Rattle.laws_robust.proofs.Effects.{IsRaised, unlocked, is_shut, filled_none, filled_some, fills}
 use Rattle.laws_robust.proofs.Gone.{calm_less, lives_granted}
 use Rattle.laws_robust.proofs.Invariant.{IsWorn, worn_at, Scene, Inv, Good, Does}
 use Rattle.laws_robust.proofs.Knows.{Knows, IsPaid, AllOnce}
 use Rattle.laws_robust.proofs.CallProgress.{acquire_at, acquire_number, raise_number, AcquireAt}
 use Rattle.laws_robust.proofs.Parts.{raise_ask, raise_step, none_holds, finds_counter}
 use Rattle.laws_robust.proofs.Rights.{By, right_after, right_of, IsBy}
-use Rattle.laws_robust.proofs.Stages.{all, now, sees, then_sees, backs_then, loads, exchanges, loads_same, fails_same}
-use Rattle.laws_robust.proofs.Stages.{exchange_sets, paid_of, paid_back, holds_on}
-use Rattle.laws_robust.proofs.Cases.{on_bool}
+use Rattle.laws_robust.proofs.Stages.{all, now, sees, then_sees, backs_then}
+use Rattle.lemmas_owners.proofs.Operations.{loads, exchanges, loads_same, fails_same}
+use Rattle.lemmas_owners.proofs.Operations.{exchange_sets}
+use Rattle.laws_robust.proofs.Stages.{paid_of, paid_back, holds_on}
+use Rattle.lemmas.proofs.Cases.{on_bool}
 
 -- what equals `Some` is present
 pub some_is : (o : Option ℕ) (owner : ℕ) → o ≡ Some owner → is_some o ≡ true

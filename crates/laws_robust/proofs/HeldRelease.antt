@@ -28,8 +28,9 @@ use Rattle.laws_robust.proofs.Knows.{Knows, IsPaid, FoundOne}
 use Rattle.laws_robust.proofs.CallProgress.{at_least_one, release_at, release_number, raise_number, lock_number, for_back, ReleaseAt, LockAt}
 use Rattle.laws_robust.proofs.Parts.{raise_ask, lock_ask, raise_step, lock_moves, IsSaid}
 use Rattle.laws_robust.proofs.Rights.{right_of, IsBy}
-use Rattle.laws_robust.proofs.Stages.{all, now, sees, then_sees, backs_then, exchanges, fails_same, exchange_sets}
-use Rattle.laws_robust.proofs.Cases.{on_bool}
+use Rattle.laws_robust.proofs.Stages.{all, now, sees, then_sees, backs_then}
+use Rattle.lemmas_owners.proofs.Operations.{exchanges, fails_same, exchange_sets}
+use Rattle.lemmas.proofs.Cases.{on_bool}
 
 -- a release may take one step in either mode
 first_few : (c index owner backs n : ℕ) (mode : ReleaseMode) → n ≤ 1 → n ≤ most_steps c (Release index owner mode) backs

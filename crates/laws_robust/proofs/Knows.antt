@@ -19,9 +19,9 @@ use Rattle.model.specs.declared.families.indices.robust.calls.RobustFlight.TheVa
 use Rattle.model.specs.declared.families.indices.robust.calls.RobustFlight.TheVariants.{IsLocked}
 use Rattle.laws_robust.proofs.Core.{counter_of}
 use Rattle.laws_robust.specs.Gone.{GoneBy, is_gone, IsHonestBy, IsCalm}
-use Rattle.laws_robust.proofs.Counting.{count_later}
+use Rattle.lemmas_owners.proofs.Counting.{count_later}
 use Rattle.laws_robust.proofs.Gone.{gone_more, gone_less, honest_less, calm_less, stays_lost}
-use Rattle.laws_robust.proofs.Past.{through_less, since_less}
+use Rattle.lemmas_owners.proofs.Past.{through_less, since_less}
 use Rattle.laws_robust.proofs.Rights.{IsBy}
 
 -- ---- what a call sees of the machine

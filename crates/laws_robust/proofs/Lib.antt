@@ -1,10 +1,7 @@
 pub mod Acquires
-pub mod Alive
 pub mod Begins
-pub mod Cases
 pub mod Core
 pub mod Counter
-pub mod Counting
 pub mod Deaths
 pub mod Decisions
 mod Names
@@ -19,7 +16,6 @@ pub mod Held
 pub mod HeldRelease
 pub mod Invariant
 pub mod Justified
-pub mod Lists
 pub mod Kept
 pub mod Knows
 pub mod Living
@@ -29,16 +25,11 @@ pub mod Looks
 pub mod Measured
 pub mod Opening
 pub mod OpenRuns
-pub mod OneTurn
 pub mod Parts
-pub mod Past
 pub mod RecoverSteps
 pub mod Recovers
 pub mod Releases
 pub mod Rights
-pub mod Room
-pub mod RoomCalls
-pub mod RoomStands
 pub mod Sound
 pub mod Stages
 pub mod CallProgress

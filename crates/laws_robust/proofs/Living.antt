@@ -9,9 +9,9 @@ use Rattle.model.specs.declared.families.Registry.TheVariants as registries
 use Rattle.model.specs.declared.families.indices.robust.calls.RobustFlight.TheVariants.{Recover}
 use Rattle.model.proofs.Frame as frame
 use Rattle.laws_robust.specs.Gone.{Word}
-use Rattle.laws_robust.proofs.Alive.{Leaves, AllLive, StepsLeave, end_leaves}
+use Rattle.lemmas_owners.proofs.Alive.{Leaves, AllLive, StepsLeave, end_leaves}
 use Rattle.laws_robust.proofs.Invariant.{family_by}
-use Rattle.laws_robust.proofs.Lists.{all_both}
+use Rattle.lemmas_owners.proofs.Lists.{all_both}
 use Rattle.laws_robust.proofs.Written.{effects_hold}
 
 -- `c` is the capacity, `t` the run so far, and `s` says that the invariant holds after it

@@ -109,19 +109,19 @@ module _ (c : ℕ) (some : 1 ≤ c) where
 -- the calls of the set stand as `Stands` says
 module _ {T : Type 0} (code : Coding T) (Stands : RobustFlight → Type 0) where
   -- a step leaves the registry one of owners
-  pub stays : (words : List ℕ) (beside : Option (ℕ × ℕ)) (p : ℕ) (start : Start T) (flight : Flight T) (old : ℕ) (kept : Registry T)
+  stays : (words : List ℕ) (beside : Option (ℕ × ℕ)) (p : ℕ) (start : Start T) (flight : Flight T) (old : ℕ) (kept : Registry T)
       → AreOfSet Stands start flight → Kept kept → Kept (step_of code words beside p start flight old kept).kept
   stays = grind arith
 
   -- what a step leaves of the call is what the call computes
-  pub told : (words : List ℕ) (beside : Option (ℕ × ℕ)) (p : ℕ) (start : Start T) (flight : Flight T) (old : ℕ) (kept : Registry T)
+  told : (words : List ℕ) (beside : Option (ℕ × ℕ)) (p : ℕ) (start : Start T) (flight : Flight T) (old : ℕ) (kept : Registry T)
       → AreOfSet Stands start flight → Kept kept
       → ((step_of code words beside p start flight old kept).after ≡ after_of code flight old)
       × (goes_of code p flight old kept ≡ after_of code flight old)
   told = grind arith
 
 -- a death leaves the registry one of owners
-pub dies : {T : Type 0} (kept : Registry T) (owner : ℕ) → Kept kept → Kept (kept_after_death kept owner)
+dies : {T : Type 0} (kept : Registry T) (owner : ℕ) → Kept kept → Kept (kept_after_death kept owner)
 dies = grind arith
 
 -- the measure falls with each step, and with each decision

@@ -7,7 +7,8 @@ use Rattle.laws_robust.proofs.Names.{is_dead, wrote_in, others_begin_none, AreRi
 use Rattle.laws_robust.proofs.Names.{span_of-other}
 use Rattle.laws_robust.specs.Gone.{IsCalm, AnswersBy}
 use Rattle.laws_robust.proofs.Core.{counter_of, cell, counter_set, cells_stay}
-use Rattle.laws_robust.proofs.Effects.{Quiet, both_ways, well_formed_less, not_shut, unlocked}
+use Rattle.laws_robust.proofs.Effects.{Quiet, well_formed_less, not_shut, unlocked}
+use Rattle.lemmas_owners.proofs.Choices.{both_ways}
 use Rattle.laws_robust.proofs.Gone.{calm_less, answers_on}
 use Rattle.laws_robust.proofs.Invariant.{IsWorn, worn_on, Scene, Inv, Good, Does}
 use Rattle.laws_robust.proofs.Rights.{right_after, right_of, AreOwned}

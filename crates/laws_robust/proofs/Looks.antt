@@ -8,13 +8,15 @@ use Rattle.steps.specs.declared.indices.robust.parts.Count.TheVariants as counts
 use Rattle.steps.specs.Indices.Robust.Looks.{borrowed_counted}
 use Rattle.model.specs.declared.families.indices.robust.RobustStart.TheVariants.{BorrowedIndices, IsLocked}
 use Rattle.model.specs.declared.families.indices.robust.calls.RobustFlight.TheVariants as flights
-use Rattle.laws_robust.proofs.Counting.{count_none, count_next}
-use Rattle.laws_robust.proofs.Effects.{both_ways, not_shut, unlocked, is_shut, stays_same, stays_raised}
+use Rattle.lemmas_owners.proofs.Counting.{count_none, count_next}
+use Rattle.lemmas_owners.proofs.Choices.{both_ways}
+use Rattle.laws_robust.proofs.Effects.{not_shut, unlocked, is_shut, stays_same, stays_raised}
 use Rattle.laws_robust.proofs.Invariant.{Scene, Inv}
 use Rattle.laws_robust.proofs.Knows.{Knows, Borrowed}
 use Rattle.laws_robust.proofs.CallProgress.{borrowed_at, looking, count_number, CountAt}
 use Rattle.laws_robust.proofs.Parts.{count_ask, count_step, IsSaid}
-use Rattle.laws_robust.proofs.Stages.{IsHere, all, now, loads, loads_same, StepOf, Leads, goes_quietly, ends_quietly}
+use Rattle.laws_robust.proofs.Stages.{IsHere, all, now, StepOf, Leads, goes_quietly, ends_quietly}
+use Rattle.lemmas_owners.proofs.Operations.{loads, loads_same}
 
 -- an option that is None is not present
 is_none : {A : Type 0} (o : Option ℕ) → o ≡ None → is_some o ≡ true → A

@@ -42,7 +42,7 @@ use Rattle.model.specs.Turns.{number_of}
 use Rattle.model.proofs.LockFree.Falls.{same_is, load_leaves, LeavesAll, FallsIn, StepFalls}
 use Rattle.model.proofs.LockFree.Measure.{WordMeasure}
 use Rattle.model.proofs.LockFree.Own.{Outline}
-use Rattle.laws_robust.proofs.Cases.{by_bool}
+use Rattle.lemmas.proofs.Cases.{by_bool}
 
 -- ---- how many steps a call takes at most before its last one, while the counter stays at `now`
 

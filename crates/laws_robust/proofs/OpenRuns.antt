@@ -6,48 +6,24 @@ use Rattle.laws_robust.proofs.Names.{Container, Flight, Party, Idle, Undecided, 
 use Rattle.laws_robust.proofs.Names.{Coding, party_of, is_due, call_refusal, after_turn, Trace, flight_in, row_passed}
 use Rattle.model.specs.declared.families.container.ContainerStart.TheVariants.{Recover}
 use Rattle.model.specs.declared.families.Flight.TheVariants as flights
-use Rattle.model.specs.declared.event.Start.{Start}
 use Rattle.model.specs.declared.turn.Kind.TheVariants as kinds
-use Rattle.model.specs.declared.turn.Refusal.TheVariants.{Busy, WrongCall}
-use Rattle.model.specs.Families.{first_of}
 use Rattle.model.specs.World.{World}
 use Rattle.std.proofs.Common.{is_some, slice_index}
 use Rattle.model.specs.declared.families.Registry.TheVariants as registries
 use Rattle.model.proofs.FamilyLaws.{opening_there}
 use Rattle.model.proofs.Frame as frame
 use Rattle.model.proofs.Rows.{MayStart, MayGoOn, IsPossible, possible_on, not_none, not_some}
+use Rattle.lemmas.proofs.Open.{possible_open, starts_open}
 use Rattle.model.proofs.Scenes.{decides_from, stands_there}
 use Rattle.model.proofs.Reached.{kept_by, reached_by_more}
 use Rattle.laws_robust.specs.Gone.{Word, IsHonest}
-use Rattle.laws_robust.specs.Open.{open_refusal, IsReachedOpen, IsOpenSet}
-use Rattle.laws_robust.proofs.Alive.{AllLive, all_live_on}
+use Rattle.model.specs.Open.{open_refusal, IsReachedOpen}
+use Rattle.laws_robust.specs.Open.{IsOpenSet}
+use Rattle.lemmas_owners.proofs.Alive.{AllLive, all_live_on}
 use Rattle.laws_robust.proofs.Gone.{answers_right}
 use Rattle.laws_robust.proofs.Invariant.{outline, family_by}
 use Rattle.laws_robust.proofs.Living.{steps_leave}
 use Rattle.laws_robust.proofs.Sound.{May, laws_by, all_turns, decides, MayDecideIn}
-
--- ---- the conditions of a turn that an open run takes
-
-module _ {T : Type 0} where
-  -- a begin that an open run does not refuse may start
-  starts_open : (w : World T) (p : ℕ) (start : Start T) → open_refusal w (Begin p start) ≡ None → MayStart w p start
-  starts_open w p (Container (Recover owner mode)) not_refused =
-      let start : Start T = Container (Recover owner mode) in
-      let free = row_passed (is_some (flight_in w p)) Busy _ not_refused in
-      let call = row_passed (is_none (first_of w.kind w.capacity start w.kept)) WrongCall None free.1 in
-      record { free = not_some (flight_in w p) free.0; call = call.0 }
-  starts_open w p start not_refused = possible_on w (Begin p start) not_refused
-
-  -- a turn that an open run does not refuse is possible
-  pub possible_open : (w : World T) (turn : Turn T) → open_refusal w turn ≡ None → IsPossible w turn
-  possible_open w (Begin p start) not_refused = starts_open w p start not_refused
-  possible_open w (Next p) not_refused = possible_on w (Next p) not_refused
-  possible_open w (Decide p said) not_refused =
-      let some = row_passed (is_none (flight_in w p)) Idle _ not_refused in
-      let due = row_passed (not (is_due w.coding (flight_in w p))) Undecided None some.1 in
-      let flies = not_none (flight_in w p) some.0 in
-      (record { flight = flies.0; is = flies.1 }, frame.is_true (is_due w.coding (flight_in w p)) due.0)
-  possible_open w (Die owner) not_refused = absurd (cc)
 
 -- the machine of the robust set, with owners gone by what recoveries are told
 module _ {T : Type 0} (code : Coding T) (c : ℕ) where

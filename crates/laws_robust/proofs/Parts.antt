@@ -22,8 +22,9 @@ use Rattle.laws_robust.proofs.Invariant.{IsWorn, worn_at, worn_then, Scene, Inv,
 use Rattle.laws_robust.proofs.Knows.{unless_last, raise_holds, count_holds, lock_holds, count_scan, lock_scan}
 use Rattle.laws_robust.proofs.Knows.{CountSays, LockSays, IsPaid, Holding, Paid, Scanned}
 use Rattle.laws_robust.proofs.CallProgress.{raise_number, count_number, lock_number, CountAt, LockAt}
-use Rattle.laws_robust.proofs.Stages.{loads, exchanges, loads_same, fails_same, exchange_sets, backs_then, now, sees, paid_of, paid_back, holds_on}
-use Rattle.laws_robust.proofs.Cases.{by_bool, on_bool}
+use Rattle.lemmas_owners.proofs.Operations.{loads, exchanges, loads_same, fails_same, exchange_sets}
+use Rattle.laws_robust.proofs.Stages.{backs_then, now, sees, paid_of, paid_back, holds_on}
+use Rattle.lemmas.proofs.Cases.{by_bool, on_bool}
 
 -- the operation of the next step of a raise
 abbrev pub raise_ask : Raise → Ask

@@ -18,9 +18,10 @@ use Rattle.model.specs.declared.families.indices.robust.RobustStart.TheVariants.
 use Rattle.model.specs.declared.families.indices.robust.calls.RobustFlight.TheVariants as flights
 use Rattle.laws_robust.specs.Gone.{is_gone, MayBeTold, HasRecoveredBy, IsCalm}
 use Rattle.laws_robust.proofs.Core.{counter_of, cell}
-use Rattle.laws_robust.proofs.Counting.{times_below}
+use Rattle.lemmas_owners.proofs.Counting.{times_below}
 use Rattle.laws_robust.proofs.SetActs.{FreedWereAsked}
-use Rattle.laws_robust.proofs.Effects.{Stays, at_same, some_none, one_owner, both_ways, quiet_told, quietly, unlocked}
+use Rattle.laws_robust.proofs.Effects.{Stays, quiet_told, quietly, unlocked}
+use Rattle.lemmas_owners.proofs.Choices.{at_same, some_none, one_owner, both_ways}
 use Rattle.laws_robust.proofs.Effects.{is_shut, stays_same, stays_raised, filled_by, quiet_none}
 use Rattle.laws_robust.proofs.Frees.{frees}
 use Rattle.laws_robust.proofs.Gone.{gone_told, calm_less}
@@ -29,17 +30,19 @@ use Rattle.laws_robust.proofs.Knows.{Knows, IsPaid, GoneBut}
 use Rattle.laws_robust.proofs.CallProgress.{at_least_one, at_least_four, recover_at, raise_number, for_back}
 use Rattle.laws_robust.proofs.CallProgress.{for_index, RecoverAt, IsInCourse, recover_number, lock_number, LockAt}
 use Rattle.laws_robust.proofs.Parts.{raise_ask, raise_step, none_beyond, lock_ask, lock_moves, IsSaid}
-use Rattle.laws_robust.proofs.Past.{through_now}
-use Rattle.laws_robust.proofs.Stages.{IsHere, now, sees, backs_then, loads, exchanges, loads_same, fails_same}
-use Rattle.laws_robust.proofs.Stages.{exchange_sets, StepOf, AnswerOf, Leads, goes_on, goes_quietly, all}
+use Rattle.lemmas_owners.proofs.Past.{through_now}
+use Rattle.laws_robust.proofs.Stages.{IsHere, now, sees, backs_then}
+use Rattle.lemmas_owners.proofs.Operations.{loads, exchanges, loads_same, fails_same}
+use Rattle.lemmas_owners.proofs.Operations.{exchange_sets}
+use Rattle.laws_robust.proofs.Stages.{StepOf, AnswerOf, Leads, goes_on, goes_quietly, all}
 use Rattle.laws_robust.proofs.Recovers.{DoesOneMore, asked_then, comes_quietly, ends_so, good_before, gone_then}
 use Rattle.laws_robust.proofs.Recovers.{open_then, nothing_said, comes_loudly, loads_counter, loads_cell, course_more}
 use Rattle.laws_robust.proofs.Recovers.{does_one_more}
-use Rattle.laws_robust.proofs.Cases.{on_bool}
+use Rattle.lemmas.proofs.Cases.{on_bool}
 use Rattle.steps.specs.declared.indices.robust.parts.Count.TheVariants as counts
 use Rattle.steps.specs.declared.indices.robust.parts.Lock.TheVariants as parts
 use Rattle.laws_robust.proofs.Locks.{locks}
-use Rattle.laws_robust.proofs.Lists.{still_one, by_latest}
+use Rattle.lemmas_owners.proofs.Lists.{still_one, by_latest}
 
 -- The party `p` recovers in this mode. `c` is the capacity, `ws` the words before the step, `done` what the
 -- recovery has done to the set.

@@ -18,18 +18,20 @@ use Rattle.model.specs.declared.families.indices.robust.calls.RobustFlight.TheVa
 use Rattle.laws_robust.specs.Gone.{is_gone, IsHonestBy, AsksBy, AnswersBy}
 use Rattle.laws_robust.proofs.Core.{counter_of, cell}
 use Rattle.laws_robust.proofs.SetActs.{asks_more, freed_more}
-use Rattle.laws_robust.proofs.Effects.{Stays, some_none, one_owner, quiet_asked, quietly, unlocked, is_shut}
+use Rattle.laws_robust.proofs.Effects.{Stays, quiet_asked, quietly, unlocked, is_shut}
+use Rattle.lemmas_owners.proofs.Choices.{some_none, one_owner}
 use Rattle.laws_robust.proofs.Effects.{stays_same, filled_none, filled_some, quiet_none}
 use Rattle.laws_robust.proofs.Gone.{gone_more, honest_less, stays_lost}
 use Rattle.laws_robust.proofs.Invariant.{IsWorn, Scene, Inv, Good, Does, wrote_of}
 use Rattle.laws_robust.proofs.Knows.{Knows, IsPaid, WasOpen, AskedBelow, GoneBut, LockSays}
 use Rattle.laws_robust.proofs.CallProgress.{at_least_four, recover_at, for_back, for_index, IsInCourse}
-use Rattle.laws_robust.proofs.Past.{through_less, through_now}
-use Rattle.laws_robust.proofs.Stages.{IsHere, Lengthens, now, sees, then_sees, backs_then, loads, loads_same}
+use Rattle.lemmas_owners.proofs.Past.{through_less, through_now}
+use Rattle.laws_robust.proofs.Stages.{IsHere, Lengthens, now, sees, then_sees, backs_then}
+use Rattle.lemmas_owners.proofs.Operations.{loads, loads_same}
 use Rattle.laws_robust.proofs.Stages.{set_acts_more, StepOf, Leads, goes_on, goes_quietly, ends_quietly}
 use Rattle.laws_robust.proofs.Stages.{none_lengthens}
-use Rattle.laws_robust.proofs.Cases.{on_bool}
-use Rattle.laws_robust.proofs.Lists.{all_so, still_one, last_one, was_one}
+use Rattle.lemmas.proofs.Cases.{on_bool}
+use Rattle.lemmas_owners.proofs.Lists.{all_so, still_one, last_one, was_one}
 
 -- the bound on the steps of a recovery, in either mode
 most_is : (c backs : ℕ) (mode : ReleaseMode) → most_steps c (Recover mode) backs ≡ 2 + c * for_index c mode + backs * for_back c mode

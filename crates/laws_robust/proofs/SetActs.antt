@@ -2,8 +2,8 @@
 use Rattle.std.proofs.Common.{arith}
 use Rattle.laws_robust.proofs.Names.{◌≡◌, ℕ, ◌<◌, List, [], ◌∷◌, ◌++◌, append-nil, AllByRecursion, flat_map-append}
 use Rattle.laws_robust.proofs.Names.{SetAct, Frees, Asks, index_asked, asked_in, IsOneOf, ⊎_elim}
-use Rattle.laws_robust.proofs.Lists.{all_both, still_one}
-pub use Rattle.laws_robust.proofs.Lists.{was_one}
+use Rattle.lemmas_owners.proofs.Lists.{all_both, still_one}
+pub use Rattle.lemmas_owners.proofs.Lists.{was_one}
 
 -- with one more act each index asked about is below `n`, if its own is
 pub asks_more : (n : ℕ) (d : SetAct) (all : List SetAct) → AllByRecursion (λ i. i < n) (asked_in all)

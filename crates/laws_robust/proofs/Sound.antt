@@ -29,7 +29,7 @@ use Rattle.laws_robust.specs.Gone.{GoneBy, Death, Word, MayBeTold, AsksBy}
 use Rattle.laws_robust.proofs.Acquires.{acquire_step}
 use Rattle.laws_robust.proofs.Begins.{begins}
 use Rattle.laws_robust.proofs.Deaths.{death_good, death_known}
-use Rattle.laws_robust.proofs.Effects.{both_ways}
+use Rattle.lemmas_owners.proofs.Choices.{both_ways}
 use Rattle.laws_robust.proofs.Finds.{find_step, find_decided}
 use Rattle.laws_robust.proofs.Firsts.{IsFirst, first_is, begins_own}
 use Rattle.laws_robust.proofs.Invariant.{outline, Scene, Inv, Shows, HasRoom, room_of_few, family}

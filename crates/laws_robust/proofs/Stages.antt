@@ -2,7 +2,7 @@
 -- that goes on and for one that ends.
 use Rattle.laws_robust.proofs.Names.{◌≡◌, ◌≢◌, ℕ, ◌+◌, ◌≤◌, ◌==◌, ⊎_elim, inl, inr, if◌then◌else◌, Bool, true, false}
 use Rattle.laws_robust.proofs.Names.{Option, Some, None, List, [], ◌∷◌, ◌++◌, get_or, set, fold, refl, sym, ap}
-use Rattle.laws_robust.proofs.Names.{◌∙◌, append-nil, arith, eq-eqb, ne_eqb, nat_tests, set-get_or, flat_map-append}
+use Rattle.laws_robust.proofs.Names.{◌∙◌, append-nil, arith, nat_tests, flat_map-append}
 use Rattle.laws_robust.proofs.Names.{fold-append, Ask, After, GoOn, Done, Answer, Event, Finished, Robust, Flight}
 use Rattle.laws_robust.proofs.Names.{RobustStart, RobustFlight, Over, Party, ask_of, most_steps, want, after}
 use Rattle.laws_robust.proofs.Names.{goes_back, promise, SetAct, set_act, set_acts, settled_after}
@@ -10,7 +10,6 @@ use Rattle.laws_robust.proofs.Names.{set_acts_of, HasDone, effects, Stands, Open
 use Rattle.laws_robust.proofs.Names.{answer_in, one_if, old_of, words_after, change_of, step_count, number_of}
 use Rattle.laws_robust.proofs.Names.{party_after, ending_of, AreOwn, AllFollow, AreRight, span_of-own}
 use Rattle.steps.specs.Ask.{written}
-use Rattle.steps.specs.declared.ask.Op.TheVariants.{Load, Exchange}
 use Rattle.model.specs.declared.families.Flight.TheVariants as flights
 use Rattle.model.specs.declared.families.Registry.TheVariants as registries
 use Rattle.model.proofs.Turns.{kept_words}
@@ -22,7 +21,7 @@ use Rattle.laws_robust.proofs.CallProgress as standing
 use Rattle.laws_robust.proofs.Knows.{View, Knows, IsSeen, IsPaid, PaidUnless, Holding}
 use Rattle.laws_robust.proofs.CallProgress.{At}
 use Rattle.laws_robust.proofs.Rights.{Right, right_after}
-use Rattle.laws_robust.proofs.Cases.{on_bool}
+use Rattle.lemmas.proofs.Cases.{on_bool}
 
 -- a step leaves the words as they are, or the number of changes goes up
 pub is_seen : (words : List ℕ) (ask : Option Ask) (changes : ℕ) → IsSeen words (words_after words ask) changes (changes + change_of words ask)
@@ -34,28 +33,6 @@ is_seen words (Some ask) changes =
     let same : get_or (words_after words (Some ask)) ask.word 0 ≡ get_or words ask.word 0 = grind (arith, nat_tests) in
     inl (kept_words words ask.word (written ask.op (get_or words ask.word 0)) same, omega arith))
     (λ t. inr refl)
-
--- ---- the operations that the calls ask for
-
--- a load of a word
-abbrev pub loads : ℕ → Ask
-loads word = record { word = word; op = Load }
-
--- an exchange of a word
-abbrev pub exchanges : ℕ → ℕ → ℕ → Ask
-exchanges word from to = record { word = word; op = Exchange from to }
-
--- a load leaves the words
-pub loads_same : (words : List ℕ) (word : ℕ) → words_after words (Some (loads word)) ≡ words
-loads_same words word = set-get_or words word 0
-
--- an exchange that finds another value changes nothing
-pub fails_same : (words : List ℕ) (word from to : ℕ) → get_or words word 0 ≢ from → words_after words (Some (exchanges word from to)) ≡ words
-fails_same = grind (arith, set, ne_eqb, set-get_or)
-
--- an exchange whose word has the expected value sets it
-pub exchange_sets : (words : List ℕ) (word from to : ℕ) → get_or words word 0 ≡ from → words_after words (Some (exchanges word from to)) ≡ set words word to
-exchange_sets = grind (arith, set, eq-eqb)
 
 module _ {T : Type 0} where
   -- a call of the set as one of any family

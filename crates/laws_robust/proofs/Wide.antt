@@ -5,7 +5,7 @@ use Rattle.laws_robust.proofs.Names.{length-replicate, empty, Ask, Start, Flight
 use Rattle.laws_robust.proofs.Names.{opening_words, number_of, after_begin, after_answer, after_next, after_decision}
 use Rattle.laws_robust.proofs.Names.{world_after, World, Trace}
 use Rattle.model.specs.declared.turn.Kind.TheVariants as kinds
-use Rattle.laws_robust.specs.Open.{open_refusal, IsReachedOpen}
+use Rattle.model.specs.Open.{open_refusal, IsReachedOpen}
 use Rattle.model.proofs.Counts.{as_long}
 use Rattle.model.proofs.Reached.{kept_by}
 

@@ -3,7 +3,7 @@
 use Rattle.laws_robust.proofs.Names.{◌≡◌, ◌≢◌, ℕ, ◌==◌, Option, Some, List, [], arith, AllByRecursion, Event, Filled}
 use Rattle.laws_robust.proofs.Names.{Granted, FreedOf, Asked, Told, Locked, RobustFlight, Turn, want, owned_by, freed}
 use Rattle.laws_robust.proofs.Names.{effects, IsParty, IsEffectOf}
-use Rattle.laws_robust.proofs.Lists.{all_either}
+use Rattle.lemmas_owners.proofs.Lists.{all_either}
 
 -- `P` holds of each event that a call of the party `p` may write of the set, except `Told`
 pub record HoldsOf {T : Type 0} (P : Event T → Type 0) (p : ℕ) : Type 0 where

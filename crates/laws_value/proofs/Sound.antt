@@ -27,8 +27,8 @@ use Rattle.model.proofs.Frame as frame
 use Rattle.model.proofs.Orders.{Keeps}
 use Rattle.model.proofs.Readings.{Each-nil, AreRight}
 use Rattle.model.proofs.Scenes.{StandsThere, step_from}
-use Rattle.laws_queues.proofs.Queues.Runs.{run_sound}
-use Rattle.laws_queues.proofs.Queues.Sound.{IsFreshTurn, IsFreshRun}
+use Rattle.lemmas.proofs.MayRuns.{run_sound}
+use Rattle.model.specs.Fresh.{IsFreshTurn, IsFreshRun}
 use Rattle.laws_queues.proofs.Queues.Knows.{any_fresh}
 use Rattle.laws_value.proofs.Core.{layout, zeros, Core, Good, same_words}
 use Rattle.laws_value.proofs.Invariant.{Value, outline, family, holds_more}

@@ -14,8 +14,8 @@ use Rattle.model.specs.World.{Trace}
 use Rattle.model.proofs.Family as families
 use Rattle.model.proofs.Frame as frame
 use Rattle.model.proofs.Scenes.{StandsThere}
-use Rattle.laws_queues.proofs.Queues.Knows.{IsFreshCall}
-use Rattle.laws_queues.proofs.Queues.Sound.{IsFreshTurn}
+use Rattle.model.specs.Fresh.{IsFreshCall}
+use Rattle.model.specs.Fresh.{IsFreshTurn}
 use Rattle.laws_value.specs.Stored.{stored}
 use Rattle.laws_value.proofs.Invariant.{Value, outline, family}
 use Rattle.laws_value.proofs.Knows.{At, KnowsFlight, number_of, store_at}

@@ -10,7 +10,7 @@ use Rattle.model.specs.declared.event.Answer.TheVariants as answers
 use Rattle.model.specs.declared.event.Event.TheVariants.{Acted}
 use Rattle.model.specs.declared.families.atomic.AtomicStart.TheVariants as starts
 use Rattle.laws_queues.proofs.Queues.Keeping.{clash}
-use Rattle.laws_queues.proofs.Queues.Knows.{IsFreshStore}
+use Rattle.model.specs.Fresh.{IsFreshStore}
 use Rattle.laws_value.proofs.Core as core
 use Rattle.laws_value.proofs.Core.{Core, Good, IsFilled, layout, free, filled, fills, one_filled}
 use Rattle.laws_value.proofs.Invariant.{Value, outline}

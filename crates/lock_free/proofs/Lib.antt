@@ -2,10 +2,11 @@
 pub use Rattle.lock_free_value.proofs.Versions as ValueVersions
 pub use Rattle.history.proofs.Known as HistoryKnown
 pub use Rattle.history.proofs.OneHolder as HistoryOneHolder
-pub use Rattle.history.proofs.Holders as HistoryHolders
+pub use Rattle.history_queues.proofs.Holders as HistoryHolders
 pub use Rattle.history.proofs.Locks as HistoryLocks
 pub use Rattle.history.proofs.Ranks as HistoryRanks
-pub use Rattle.history.proofs.Acts as HistoryActs
+pub use Rattle.history_bits.proofs.Acts as HistoryActs
+pub use Rattle.lock_free_queues.proofs.Queues
 pub use Rattle.lock_free_queues.proofs.Queues.Peeks as QueuePeeks
 pub use Rattle.lock_free_queues.proofs.Queues.Positions as QueuePositions
 pub use Rattle.lock_free_queues.proofs.Queues.Promised as QueuePromises

@@ -10,10 +10,8 @@ pub mod containers;
 pub mod counts;
 pub mod histories;
 pub mod indices;
-pub mod overflowing;
 pub mod owners;
 
 pub use lock_free_loans::laws::loans;
-pub use lock_free_queues::laws as queues;
 pub use lock_free_sets::laws::pools;
-pub use lock_free_value::laws as value;
+pub use lock_free_sp::laws::{overflowing, queues, value};

@@ -6,4 +6,4 @@ pub mod mpmc;
 pub mod spsc;
 
 pub use lock_free_owners::laws as owner_laws;
-pub use lock_free_sp::{spmc, spsc_laws, value_laws, words};
+pub use lock_free_sp::{spmc, words};

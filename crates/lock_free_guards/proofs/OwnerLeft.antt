@@ -20,7 +20,7 @@ use Rattle.model.specs.Families.Indices.Robust.Promises.{HeldThroughout, StillTo
 use Rattle.model.specs.Families.Indices.Robust.Reading.{SetAct, Frees, Asks, Yes, Locks, IsOneOf, filled_of, set_act, set_acts, set_acts_of, wrote_in}
 use Rattle.model.specs.Reading.{Open, Span, own_after, span_of}
 use Rattle.laws_robust.specs.Gone.{HasRecoveredBy, IsHonest, Word}
-use Rattle.history.specs.Robust.{Came, HasAsked, WasTold, HasFreed, HasLocked, Visit, wrote_to, wrote_of, wrote_by}
+use Rattle.history_owners.specs.Robust.{Came, HasAsked, WasTold, HasFreed, HasLocked, Visit, wrote_to, wrote_of, wrote_by}
 use Rattle.history.specs.declared.view.View.{View}
 use Rattle.history.proofs.CallsIn.{span_since}
 use Rattle.lock_free_owners.specs.Robust.Callable.{was_told}

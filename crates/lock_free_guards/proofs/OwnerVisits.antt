@@ -11,7 +11,7 @@ use Rattle.steps.specs.declared.indices.enums.ReleaseState.{ReleaseState}
 use Rattle.model.specs.declared.event.Answer.TheVariants.{State}
 use Rattle.model.specs.declared.event.Start.TheVariants.{Robust}
 use Rattle.model.specs.declared.families.indices.robust.RobustStart.TheVariants.{Recover}
-use Rattle.history.specs.Robust.{Came, Visit, visit, wrote_to, wrote_of, wrote_by}
+use Rattle.history_owners.specs.Robust.{Came, Visit, visit, wrote_to, wrote_of, wrote_by}
 use Rattle.history.specs.declared.view.View.{View}
 use Rattle.lock_free_owners.specs.Robust.Callable.{asks, freed_of, questions_of, was_freed, was_told}
 use Rattle.lock_free_owners.specs.Robust.Contracts.{HasRecovered}

@@ -7,7 +7,7 @@ use Rattle.model.specs.declared.event.Event.TheVariants.{Begun, Filled, Finished
 use Rattle.model.specs.declared.event.Start.{Start}
 use Rattle.model.specs.declared.event.Start.TheVariants.{Indices}
 use Rattle.model.specs.declared.families.indices.IndexStart.TheVariants.{Acquire}
-use Rattle.history.specs.Robust.{visit, HasAsked, WasTold, HasFreed}
+use Rattle.history_owners.specs.Robust.{visit, HasAsked, WasTold, HasFreed}
 use Rattle.lock_free_guards.specs.Held.{HoldsFor, frees_of, number_freed}
 use Rattle.lock_free_guards.specs.Recovered.{IsToldFor}
 use Rattle.lock_free_guards.specs.Tries.{refused_by}

@@ -24,7 +24,7 @@ use Rattle.model.specs.Families.Indices.Robust.Reading.{Yes, filled_of, set_acts
 use Rattle.laws_robust.specs.Gone.{IsHonest}
 use Rattle.history.specs.History.{Called}
 use Rattle.history.specs.Passes.{HasSplit}
-use Rattle.history.specs.Robust.{visit, HasFreed}
+use Rattle.history_owners.specs.Robust.{visit, HasFreed}
 use Rattle.history.specs.declared.view.View.{View}
 use Rattle.lock_free_owners.specs.Robust.Contracts.{HasGiven}
 use Rattle.lock_free_sets.specs.Unique.Contracts as unique

@@ -13,7 +13,7 @@ use Rattle.model.specs.Families.Indices.Robust.Reading.{Frees, Yes, filled_of, s
 use Rattle.laws_robust.specs.Gone.{IsHonest}
 use Rattle.history.specs.declared.view.View.{View}
 use Rattle.history.specs.History.{Called}
-use Rattle.history.specs.Robust.{Visit, AreVisits, wrote_by}
+use Rattle.history_owners.specs.Robust.{Visit, AreVisits, wrote_by}
 use Rattle.lock_free_owners.specs.Robust.Callable.{was_told}
 use Rattle.lock_free_owners.specs.Robust.Contracts.{Answered}
 

@@ -3,36 +3,36 @@ pub use Rattle.atomic_table.specs.Seated.{TableId}
 pub use Rattle.atomic_table.specs.Table.{Allows, Me, keeps, opening}
 pub use Rattle.history.proofs.Called.{called}
 pub use Rattle.history.proofs.CallsIn.{AsksFor, by_bool, span_since}
-pub use Rattle.history.proofs.ContainerRecoveries.{container_recover_first, container_recover_hears}
-pub use Rattle.history.proofs.ContainerRecoveries.{container_recover_keeps, recover_call, recover_did}
-pub use Rattle.history.proofs.ContainerRests.{Keeps, apart_asked, rested_asks, rested_keeps}
-pub use Rattle.history.proofs.ContainerRests.{rested_words}
-pub use Rattle.history.proofs.Containers.{container_effects, container_words, containers_owe, is_open_container}
+pub use Rattle.history_owners.proofs.ContainerRecoveries.{container_recover_first, container_recover_hears}
+pub use Rattle.history_owners.proofs.ContainerRecoveries.{container_recover_keeps, recover_call, recover_did}
+pub use Rattle.history_owners.proofs.ContainerRests.{Keeps, apart_asked, rested_asks, rested_keeps}
+pub use Rattle.history_owners.proofs.ContainerRests.{rested_words}
+pub use Rattle.history_owners.proofs.Containers.{container_effects, container_words, containers_owe, is_open_container}
 pub use Rattle.history.proofs.Passes.{joins, opens, set_same, splits}
-pub use Rattle.history.proofs.RobustCalls.{acquire_first, acquire_keeps, count_first, count_keeps, look_first}
-pub use Rattle.history.proofs.RobustCalls.{look_keeps, release_first, release_keeps}
-pub use Rattle.history.proofs.RobustRecoveries.{recover_first, recover_hears, recover_tells}
-pub use Rattle.history.proofs.RobustVisits.{came_last, wider, wrote_last}
-pub use Rattle.history.proofs.Robusts.{is_open_set}
+pub use Rattle.history_owners.proofs.RobustCalls.{acquire_first, acquire_keeps, count_first, count_keeps, look_first}
+pub use Rattle.history_owners.proofs.RobustCalls.{look_keeps, release_first, release_keeps}
+pub use Rattle.history_owners.proofs.RobustRecoveries.{recover_first, recover_hears, recover_tells}
+pub use Rattle.history_owners.proofs.RobustVisits.{came_last, wider, wrote_last}
+pub use Rattle.history_owners.proofs.Robusts.{is_open_set}
 pub use Rattle.history.proofs.Rooms.{room_fresh}
-pub use Rattle.history.specs.Container.{adds_value, counts_values, removes_value, replaces_value, sees_lock}
-pub use Rattle.history.specs.ContainerFind.{HasCopied, copies_after, copies_of}
-pub use Rattle.history.specs.ContainerLooks.{BeginsWith, HasLookedAll, KeepsState, RestedLooked, RestedLooks}
-pub use Rattle.history.specs.ContainerLooks.{look_start, looking, state_of_look}
-pub use Rattle.history.specs.ContainerRecovery.{HasFound, IsFreed, IsToFree, MayCome, came_locked, freed, hides}
-pub use Rattle.history.specs.ContainerRecovery.{seen_under, told, told_yet, with_last, wrote_visits}
+pub use Rattle.history_owners.specs.Container.{adds_value, counts_values, removes_value, replaces_value, sees_lock}
+pub use Rattle.history_owners.specs.ContainerFind.{HasCopied, copies_after, copies_of}
+pub use Rattle.history_owners.specs.ContainerLooks.{BeginsWith, HasLookedAll, KeepsState, RestedLooked, RestedLooks}
+pub use Rattle.history_owners.specs.ContainerLooks.{look_start, looking, state_of_look}
+pub use Rattle.history_owners.specs.ContainerRecovery.{HasFound, IsFreed, IsToFree, MayCome, came_locked, freed, hides}
+pub use Rattle.history_owners.specs.ContainerRecovery.{seen_under, told, told_yet, with_last, wrote_visits}
 pub use Rattle.history.specs.History.{Called, IsBeginning, IsHistory, IsMachine, IsRun, LastStep, call_in, refusal_as}
 pub use Rattle.history.specs.Passes.{Goes}
-pub use Rattle.history.specs.Robust.{HasAsked, HasCome, HasLocked, Visit, WasTold, came_to, counts_owned, gives_owned}
-pub use Rattle.history.specs.Robust.{looks_owned, recovers_owned, takes_owned, visit, visits_locked, visits_taken}
-pub use Rattle.history.specs.Robust.{wrote_by, wrote_now, wrote_to}
+pub use Rattle.history_owners.specs.Robust.{HasAsked, HasCome, HasLocked, Visit, WasTold, came_to, counts_owned, gives_owned}
+pub use Rattle.history_owners.specs.Robust.{looks_owned, recovers_owned, takes_owned, visit, visits_locked, visits_taken}
+pub use Rattle.history_owners.specs.Robust.{wrote_by, wrote_now, wrote_to}
 pub use Rattle.history.specs.Rooms.{room_of}
-pub use Rattle.history.specs.Settled.{IsResting, RestsAt, SettledFrom, Waits}
+pub use Rattle.history_owners.specs.Settled.{IsResting, RestsAt, SettledFrom, Waits}
 pub use Rattle.history.specs.Stages.{At, Calling, Ends, IsFirst, IsUnderWay, LeavesState, Since, opened}
-pub use Rattle.history.specs.Value.{value_of_room}
+pub use Rattle.history.specs.Rooms.{value_of_room}
 pub use Rattle.history.specs.Views.{Looks, LooksAt, first_view, joined_view}
 pub use Rattle.history.specs.declared.view.View.{View}
-pub use Rattle.laws_robust.proofs.Counting.{count_later, count_most}
+pub use Rattle.lemmas_owners.proofs.Counting.{count_later, count_most}
 pub use Rattle.laws_robust.specs.Gone.{IsHonest, Word}
 pub use Rattle.model.proofs.Reached.{turn_making}
 pub use Rattle.model.specs.Coding.{Coding, IsCoding, coding_by, one_word}

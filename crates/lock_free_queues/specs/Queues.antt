@@ -1,4 +1,12 @@
--- The words of the contracts of queues.
+-- The words of the contracts of queues: of any kind (Rings), of numbers (Calls), of values (Values), and of overflowing ones.
+pub use Rattle.model.specs.Families.Queues.Reading
+pub use Rattle.model.specs.declared.event.Item
+pub use Rattle.model.specs.declared.event.Answer
+pub use Rattle.model.specs.declared.event.Start
+pub use Rattle.model.specs.declared.families.queues.QueueKind
+pub use Rattle.model.specs.declared.families.queues.QueueStart
+pub use Rattle.steps.specs.declared.queues.roles.Role
+pub use Rattle.history.specs.Views
 pub mod Roles
 pub mod Opened
 pub mod Bounded

@@ -17,6 +17,7 @@ ghost use Rattle.model.specs.Families.Queues.Reading.{published, handed_out, wai
 ghost use Rattle.model.specs.Linearizable.{IsLinearizable};
 ghost use Rattle.model.specs.Linearized.{as_list};
 ghost use Rattle.model.specs.Progress.{KeepsGuarantees};
+ghost use Rattle.model.specs.StronglyLinearizable.{AreStronglyLinearizable, Ordered};
 ghost use Rattle.threaded.specs.Shares.{IsAll};
 ghost use Rattle.history.specs.declared.view.View.{View};
 ghost use Rattle.history.specs.History.{IsBeginning, IsHistory};
@@ -43,6 +44,19 @@ pub fn histories_are_linearizable<T>()
     ensures { (code : Coding T) (kind : QueueKind) (capacity : ℕ) (v : View T)
         → IsHistory code (machine_kind kind) capacity v.seen
         → IsLinearizable (as_list kind capacity) v.seen }
+{}
+
+/// The histories of a queue are strongly linearizable. One function of events gives the order of the calls, and as a history
+/// goes on calls are only added at the end of its order (`strong`). So two looks of one pass agree on the past: what it had
+/// seen at the first begins what it has seen at the second, and so do the orders (`agree`). The lemma is `strong` of
+/// `proofs/Queues/Promised.antt`.
+pub fn histories_are_strongly_linearizable<T>()
+    ensures strong { (code : Coding T) (kind : QueueKind) (capacity : ℕ)
+        → AreStronglyLinearizable (IsHistory code (machine_kind kind) capacity) (as_list kind capacity) }
+    ensures agree { (code : Coding T) (kind : QueueKind) (capacity : ℕ)
+        (all : AreStronglyLinearizable (IsHistory code (machine_kind kind) capacity) (as_list kind capacity)) (old new : View T)
+        → IsBeginning old.seen new.seen
+        → (added : List (Ordered T)) × (all.order new.seen ≡ all.order old.seen ++ added) }
 {}
 
 /// Pops take out what was published, in order, and no more waits than the capacity. A push answers false only

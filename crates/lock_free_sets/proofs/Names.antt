@@ -6,7 +6,7 @@ pub use Rattle.history.proofs.Held.{held_by, holds_once}
 pub use Rattle.history.proofs.Passes.{joins, splits}
 pub use Rattle.history.specs.Held.{Holds, claims, frees}
 pub use Rattle.history.specs.History.{Called, Continues, IsBeginning, IsHistory, IsMachine, IsOfParties}
-pub use Rattle.history.specs.Indices.{counts_out, given_by, gives_index, gives_or_locks, looks_locked, takes_index}
+pub use Rattle.history_indices.specs.Indices.{counts_out, given_by, gives_index, gives_or_locks, looks_locked, takes_index}
 pub use Rattle.history.specs.Known.{events_by}
 pub use Rattle.history.specs.Stages.{At, Calling, Ends}
 pub use Rattle.history.specs.Views.{Looks, LooksOnce, first_view, joined_view}

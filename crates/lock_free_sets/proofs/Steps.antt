@@ -10,9 +10,9 @@ use Rattle.history.specs.History.{started, steps_of, run_of}
 use Rattle.history.specs.Stages.{StepsOnly, taken_by}
 use Rattle.history.specs.Steps.{TakesAtMost}
 use Rattle.history.proofs.KnownRuns.{known_run}
-use Rattle.history.proofs.Indices.{index_pays}
+use Rattle.history_indices.proofs.Indices.{index_pays}
 use Rattle.history.proofs.Paid.{AllowsOne, Pays, TakesBy, takes, progress_of}
-use Rattle.history.proofs.Sets.{bits_pays, counts_pays}
+use Rattle.history_bits.proofs.Sets.{bits_pays, counts_pays}
 use Rattle.lock_free_sets.specs.Sets.Kinds.{SetKind, Flags, Counts, machine_kind}
 use Rattle.lock_free_sets.specs.Sets.Stages.{empties_none}
 

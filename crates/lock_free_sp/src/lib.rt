@@ -1,8 +1,8 @@
-//! The structures of one producer: queues, and a single value of many readers, under the module paths of the Rust crate.
-//! `lock_free` passes them on; who needs no set and no container takes this crate alone.
+//! The structures of one producer: queues, and a single value of many readers, under the module paths of the Rust crate, with
+//! their laws. A crate that needs no set and no container takes this one.
 #![tactic(auto)]
 
-pub use lock_free_queues::{laws as spsc_laws, spsc};
-pub use lock_free_value::{laws as value_laws, spmc};
-pub use steps::words;
-pub use threaded::laws;
+pub mod laws;
+
+pub use lock_free_spsc::{spsc, words};
+pub use lock_free_value::spmc;

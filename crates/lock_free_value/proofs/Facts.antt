@@ -27,14 +27,15 @@ use Rattle.history.specs.Passes.{Goes}
 use Rattle.history.specs.Stages.{Calling, opened, Ends, Over}
 use Rattle.history.specs.Steps.{TakesAtMost}
 use Rattle.model.specs.Progress.{guarantee_of}
-use Rattle.history.specs.Value.{ByProducer, looks_at_producer, looks_at_version}
-use Rattle.history.specs.Value.{releases_producer, store_skips, value_of_room, loads_value}
+use Rattle.history_value.specs.Value.{ByProducer, looks_at_producer, looks_at_version}
+use Rattle.history_value.specs.Value.{releases_producer, store_skips, loads_value}
+use Rattle.history.specs.Rooms.{value_of_room}
 use Rattle.history.proofs.Drives.{called}
 use Rattle.history.proofs.OneHolder.{first_wrote, listed, none_looked, none_since, none_to_end}
-use Rattle.history.proofs.ValueHolders.{history_by_producers, one_holder, value_role}
-use Rattle.history.proofs.ValueLaws.{answers_right, load_tells, last_is, version_is_count}
+use Rattle.history_value.proofs.ValueHolders.{history_by_producers, one_holder, value_role}
+use Rattle.history_value.proofs.ValueLaws.{answers_right, load_tells, last_is, version_is_count}
 use Rattle.history.proofs.Paid.{AllowsOne, TakesBy, takes, left_takes}
-use Rattle.history.proofs.Values.{value_goes_on, value_pays, producer_by}
+use Rattle.history_value.proofs.Values.{value_goes_on, value_pays, producer_by}
 use Rattle.lock_free_value.specs.Calls.{WasAtEnd}
 use Rattle.lock_free_value.specs.Roles.{Moved}
 use Rattle.lock_free_value.specs.ValueContracts.{HasReleased, HasStored, HasLoaded, HasSeenProducer, HasSeenVersion}

@@ -2,7 +2,7 @@
 pub use Rattle.atomic_table.specs.Seated.{TableId}
 pub use Rattle.history.proofs.PassLooks.{owes_look}
 pub use Rattle.history.specs.History.{IsBeginning, IsHistory, IsMachine}
-pub use Rattle.history.specs.Value.{HasProducer, IsLast, gives_producer, last_or, stores_value, takes_producer}
+pub use Rattle.history_value.specs.Value.{HasProducer, IsLast, gives_producer, last_or, stores_value, takes_producer}
 pub use Rattle.history.specs.Views.{Looks, LooksOnce}
 pub use Rattle.history.specs.declared.view.View.{View}
 pub use Rattle.laws_value.specs.Stored.{stored, stores}

@@ -7,10 +7,11 @@ use Rattle.lock_free_value.proofs.Names.{HasProducer}
 use Rattle.std.proofs.lemmas.List.{length-replicate, replicate_more}
 use Rattle.lock_free_value.specs.Roles.{LacksProducer}
 use Rattle.laws_value.proofs.Core.{set_at, zeros as zero_there}
-use Rattle.history.specs.ValueOpened.{first_stores, stored_once, stored_times, opened_view, opened_cells}
+use Rattle.history_value.specs.ValueOpened.{first_stores, stored_once, stored_times, opened_view, opened_cells}
 use Rattle.history.proofs.Calls.{set_left}
 use Rattle.history.proofs.Rooms.{replicate_both}
-use Rattle.history.proofs.ValueOpened.{set_right, mix, mix_step, mix_length, mix_all}
+use Rattle.history_value.proofs.ValueOpened.{set_right}
+use Rattle.history.proofs.Mixed.{mix, mix_step, mix_length, mix_all}
 
 -- A version below 2 is taken for 2; any version is one more than the number of stores that open the
 -- value at it.

@@ -11,9 +11,9 @@ use Rattle.model.specs.Reading.{Each}
 use Rattle.history.proofs.Known.{sum_first}
 use Rattle.lock_free_value.specs.Calls.{MissesNothing}
 use Rattle.history.proofs.Ranks.{same_place, hits_split, before_low, hits_grow}
-use Rattle.history.proofs.ValueHolders.{history_by_producers}
-use Rattle.history.proofs.ValueLaws.{answers_right, load_tells}
-use Rattle.history.proofs.Values.{value_goes_on}
+use Rattle.history_value.proofs.ValueHolders.{history_by_producers}
+use Rattle.history_value.proofs.ValueLaws.{answers_right, load_tells}
+use Rattle.history_value.proofs.Values.{value_goes_on}
 use Rattle.lock_free_value.specs.ValueContracts.{HasStored, HasLoaded, HasSeenVersion}
 use Rattle.lock_free_value.specs.Versions.{IsStored, IsLoaded, IsSound}
 

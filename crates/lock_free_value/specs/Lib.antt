@@ -6,3 +6,4 @@ pub mod Calls
 pub mod Versions
 pub mod Loads
 pub mod Handles
+pub mod Value

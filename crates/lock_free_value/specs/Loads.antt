@@ -9,7 +9,7 @@ use Rattle.threaded.specs.Driver.{Next}
 use Rattle.threaded.specs.Seats.{seen, table_of}
 use Rattle.history.specs.declared.view.View.{View}
 use Rattle.history.specs.Stages.{At, Ends}
-use Rattle.history.specs.Value.{loads_value}
+use Rattle.history_value.specs.Value.{loads_value}
 
 -- the seat is at the table of a value with `size` words: version, role, two cells, and one word more
 abbrev pub IsBoard : {T K Q : Type 0} → ℕ → Seated (View T) K Q → Type 0

@@ -1,7 +1,7 @@
 -- Whether a pass has the producer's role, by what it made.
 use Rattle.std.specs.Prelude.{◌≡◌, ℕ, ◌+◌, List, sum_by}
 use Rattle.model.specs.declared.event.Event.{Event}
-use Rattle.history.specs.Value.{takes_producer, gives_producer}
+use Rattle.history_value.specs.Value.{takes_producer, gives_producer}
 
 module _ {T : Type 0} where
   -- the pass that made these events lacks the producer's role: it gave back each time what it had acquired

@@ -12,7 +12,7 @@ use Rattle.model.specs.Families.Atomic.Reading.{holder_of}
 use Rattle.history.specs.declared.view.View.{View}
 use Rattle.history.specs.History.{Called, IsBeginning}
 pub use Rattle.history.specs.Passes.{HasSplit, HasJoined}
-use Rattle.history.specs.Value.{IsLast}
+use Rattle.history_value.specs.Value.{IsLast}
 
 module _ {T : Type 0} where
   -- A call of the history that tried to acquire the producer's role: it answered whether it took the

@@ -10,7 +10,7 @@ use Rattle.model.specs.Coding.{Coding}
 use Rattle.model.specs.Families.Atomic.Promises.{AnswersRight}
 use Rattle.model.specs.Families.Atomic.Roles.{GrantsRight}
 use Rattle.model.specs.Reading.{Each}
-use Rattle.history.specs.Value.{ByProducer}
+use Rattle.history_value.specs.Value.{ByProducer}
 
 module _ {T : Type 0} where
   -- the party stored this value at this version: the first store makes version 2

@@ -1,6 +1,6 @@
 //! What one history of a value says: laws of every history that a pass has seen. These functions do nothing: the contract
 //! of each is a law, whose proof is a lemma that a client's proof can cite.
-ghost use Rattle.std.specs.Prelude.{◌≡◌, ◌<◌, ◌≤◌, ◌+◌, ℕ, List, length};
+ghost use Rattle.std.specs.Prelude.{◌≡◌, ◌<◌, ◌≤◌, ◌+◌, ◌++◌, ℕ, List, length};
 ghost use Rattle.laws_value.specs.Stored.{stored};
 ghost use Rattle.model.specs.declared.event.Event.{Event};
 ghost use Rattle.model.specs.declared.turn.Kind.TheVariants as kinds;
@@ -8,10 +8,11 @@ ghost use Rattle.model.specs.Coding.{Coding};
 ghost use Rattle.model.specs.Linearizable.{IsLinearizable};
 ghost use Rattle.model.specs.Linearized.{as_value};
 ghost use Rattle.model.specs.Progress.{KeepsGuarantees};
+ghost use Rattle.model.specs.StronglyLinearizable.{AreStronglyLinearizable, Ordered};
 ghost use Rattle.history.specs.declared.view.View.{View};
 ghost use Rattle.history.specs.History.{IsBeginning, IsHistory};
 ghost use Rattle.threaded.specs.Shares.{IsAll};
-ghost use Rattle.history.specs.Value.{IsLast};
+ghost use Rattle.history_value.specs.Value.{IsLast};
 ghost use Rattle.lock_free_value.specs.Calls.{MissesNothing};
 ghost use Rattle.lock_free_value.specs.ValueContracts.{HasStored, HasLoaded, HasSeenVersion};
 ghost use Rattle.lock_free_value.specs.Versions.{IsStored, IsLoaded, IsSound};
@@ -20,6 +21,16 @@ ghost use Rattle.lock_free_value.specs.Versions.{IsStored, IsLoaded, IsSound};
 pub fn histories_are_linearizable<T>()
     ensures { (code : Coding T) (events : List (Event T)) → IsHistory code kinds.Atomic 1 events
         → IsLinearizable (as_value code) events }
+{}
+
+/// The histories of a value are strongly linearizable. One function of events gives the order of the stores and loads, and as a
+/// history goes on calls are only added at the end of its order (`strong`). So two looks of one pass agree on the past: what it
+/// had seen at the first begins what it has seen at the second, and so do the orders (`agree`).
+pub fn histories_are_strongly_linearizable<T>()
+    ensures strong { (code : Coding T) → AreStronglyLinearizable (IsHistory code kinds.Atomic 1) (as_value code) }
+    ensures agree { (code : Coding T) (all : AreStronglyLinearizable (IsHistory code kinds.Atomic 1) (as_value code)) (old new : View T)
+        → IsBeginning old.seen new.seen
+        → (added : List (Ordered T)) × (all.order new.seen ≡ all.order old.seen ++ added) }
 {}
 
 /// Each answer in a history of a value is right, and who stores holds the role.

@@ -7,15 +7,12 @@ use Rattle.model.specs.Fair.{EndsInRounds, EndsInRoundsOf, EndsInRoundsRuns, End
 use Rattle.model.specs.Loads.{EndsLoad, EndsLoadOf, EndsLoadRuns}
 use Rattle.std.proofs.Common.{refl}
 use Rattle.model.specs.Refusals.{refusal_of}
-use Rattle.model.specs.LockFree.{IsBelow, IsLockFree, KeepsEnding, IsDefault, lock_free_bound, default_bound, room_bound, default_container_bound}
+use Rattle.model.specs.LockFree.{IsAmong, KeepsEnding, IsDefault, lock_free_bound, default_bound, default_container_bound, parties_below}
 use Rattle.model.proofs.LockFree.Fairly.{rounds_end, rounds_end_of, rounds_end_runs, fair_end}
 use Rattle.model.proofs.LockFree.Loads.{loads_end, loads_end_of, load_within}
-use Rattle.model.proofs.LockFree.Machines.{all_allowed, one_call_ends, loads_in_runs}
+use Rattle.model.proofs.LockFree.Machines.{all_allowed, loads_in_runs}
 use Rattle.model.proofs.Rows.{possible}
-use Rattle.laws_container.specs.LockFree.{room_container_bound}
-use Rattle.laws_container.proofs.RoomLockFree.{container_keeps_ending as room_container_keeps_ending}
 use Rattle.laws_loan.specs.LockFree.{channel_bound}
-use Rattle.laws_robust.proofs.RoomCalls.{robust_keeps_ending as room_keeps_ending}
 use Rattle.machine.proofs.LockFree.{if_some, keep_ending, robust_keeps_ending, container_keeps_ending, channel_keeps_ending}
 
 -- for each kind with a bound that makes it lock-free: the calls under way and those that begin take at most
@@ -55,19 +52,6 @@ robust_load_ends T = loads_end_of Robust IsDefault default_bound (robust_keeps_e
 pub robust_in_rounds : (T : Type 0) → EndsInRoundsOf T Robust IsDefault default_bound
 robust_in_rounds T = rounds_end_of Robust IsDefault default_bound (robust_load_ends T)
 
--- robust index sets in all runs, also where calls may lock: in more steps than `room_bound` a call ends
-pub room_one_ends : (T : Type 0) → IsLockFree T Robust room_bound
-room_one_ends T = one_call_ends Robust room_bound room_keeps_ending
-
--- robust index sets in all runs: the calls take at most their load in steps, with `room_bound`
-pub room_load_ends : (T : Type 0) → EndsLoad T Robust room_bound
-room_load_ends T = loads_end Robust room_bound room_keeps_ending
-
--- robust index sets in all runs: a party to which the schedule is fair comes to a moment
--- without a call under way
-pub room_if_fair : (T : Type 0) → EndsIfFair T Robust room_bound
-room_if_fair T = fair_end Robust room_bound (room_load_ends T)
-
 -- containers, in runs in which no call may lock: the calls take at most their load in steps
 pub container_load_ends : (T : Type 0) → EndsLoadOf T Container IsDefault default_container_bound
 container_load_ends T = loads_end_of Container IsDefault default_container_bound (container_keeps_ending T)
@@ -77,23 +61,12 @@ container_load_ends T = loads_end_of Container IsDefault default_container_bound
 pub container_in_rounds : (T : Type 0) → EndsInRoundsOf T Container IsDefault default_container_bound
 container_in_rounds T = rounds_end_of Container IsDefault default_container_bound (container_load_ends T)
 
--- containers in all runs, also where calls may lock: in more steps than `room_container_bound` a call ends
-pub room_container_one_ends : (T : Type 0) → IsLockFree T Container room_container_bound
-room_container_one_ends T = one_call_ends Container room_container_bound room_container_keeps_ending
-
--- containers in all runs: the calls take at most their load in steps, with `room_container_bound`
-pub room_container_load_ends : (T : Type 0) → EndsLoad T Container room_container_bound
-room_container_load_ends T = loads_end Container room_container_bound room_container_keeps_ending
-
--- containers in all runs: a party to which the schedule is fair comes to a moment without a call under way
-pub room_container_if_fair : (T : Type 0) → EndsIfFair T Container room_container_bound
-room_container_if_fair T = fair_end Container room_container_bound (room_container_load_ends T)
-
 -- loan channels, as their machines run: the calls take at most their load in steps, with `channel_bound`
 pub channel_load_ends : (T : Type 0) → EndsLoadRuns T Loan channel_bound
 channel_load_ends T t is r turns all =
     let n = t.world.parties in
-    load_within refusal_of possible n (IsBelow n) (λ turn below. below) (channel_bound n t.world.capacity t.world.coding.size) t turns all
+    load_within refusal_of possible (parties_below n) (IsAmong (parties_below n)) (λ turn below. below)
+    (channel_bound n t.world.capacity t.world.coding.size) t turns all
     (all_allowed t turns n refl all).1 (λ turns all below. channel_keeps_ending T t is r turns all)
 
 -- loan channels, as their machines run: a party that steps in each of more rounds than the load has no call

@@ -1,7 +1,7 @@
 -- Two releases that would lock a robust index set make each other begin again, in as many rounds as its counter has room for, and
 -- no call ends in them.
 use Rattle.std.proofs.Common.{◌≡◌, ℕ, zero, suc, ◌+◌, ◌*◌, ◌-◌, ◌^◌, ◌%◌, ◌<◌, ◌==◌, true, false, None, List, []}
-use Rattle.std.proofs.Common.{◌∷◌, ◌++◌, refl, sym, subst, ◌∙◌, append-nil, arith}
+use Rattle.std.proofs.Common.{◌∷◌, ◌++◌, inl, inr, refl, sym, subst, ◌∙◌, append-nil, arith}
 use Rattle.std.proofs.lemmas.Bool.Decides.{nat_tests}
 use Rattle.std.specs.List.{AllByRecursion}
 use Rattle.steps.specs.declared.indices.enums.ReleaseMode.TheVariants.{LockIfLastIndex}
@@ -22,7 +22,7 @@ use Rattle.model.specs.declared.turn.Kind.TheVariants.{Robust}
 use Rattle.model.specs.declared.turn.Turn.{Turn}
 use Rattle.model.specs.declared.turn.Turn.TheVariants.{Next}
 use Rattle.model.specs.Coding.{one_word, IsCoding}
-use Rattle.model.specs.LockFree.{Bound, IsLockFree, IsBelow, ends, steps_of, steps_in}
+use Rattle.model.specs.LockFree.{Bound, IsLockFree, IsAmong, IsOneIn, ends, parties_below, steps_of, steps_in}
 use Rattle.model.specs.Refusals.{call_refusal}
 use Rattle.model.specs.Turns.{run_on, after_turn, after_turns, AreAllowedOn, IsReachedOn}
 use Rattle.model.specs.World.{Trace, opening}
@@ -270,20 +270,20 @@ both_counted =
 stands_so : started ≡ both_counted
 stands_so = refl
 
-zero_below : 0 < 2
-zero_below = omega arith
+first_of_two : IsOneIn (parties_below 2) 0
+first_of_two = inr (inl refl)
 
-one_below : 1 < 2
-one_below = omega arith
+second_of_two : IsOneIn (parties_below 2) 1
+second_of_two = inl refl
 
 -- the turns of the rounds are of the two parties alone
-below : (k : ℕ) → AllByRecursion (IsBelow 2) (rounds k)
+below : (k : ℕ) → AllByRecursion (IsAmong (parties_below 2)) (rounds k)
 below zero = tt
 below (suc k) = (
-  zero_below,
+  first_of_two,
   (
-    zero_below,
-    (zero_below, (zero_below, (zero_below, (one_below, (one_below, (one_below, (one_below, (one_below, below k)))))))),
+    first_of_two,
+    (first_of_two, (first_of_two, (first_of_two, (second_of_two, (second_of_two, (second_of_two, (second_of_two, (second_of_two, below k)))))))),
   ),
 )
 
@@ -301,7 +301,7 @@ no_bound k room bound few free =
     let went : Went (rounds k) started (steps_of_rounds k) =
     subst (λ (t : Trace ℕ). Went (rounds k) t (steps_of_rounds k)) (sym stands_so) (endless started.events k 6 5 (omega arith) room _ _ 10 27) in
     let far = many (bound 2 2 1) k (steps_in started (rounds k)) (went.steps ∙ ten_each k) few in
-    let less = free started refl reached 2 (rounds k) went.allowed (below k) far in
+    let less = free started refl reached (parties_below 2) (rounds k) went.allowed (below k) far in
     no_end (ends (after_turns started (rounds k)).events) (ends started.events) (ap_ends went.same) less
   where
     ap_ends : {a b : List (Event ℕ)} → a ≡ b → ends a ≡ ends b

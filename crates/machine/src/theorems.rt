@@ -41,8 +41,8 @@ pub fn looks_change_nothing<T>()
 
 /// Index queues, overflowing queues, queues, the single value, bit sets, counting bit sets and unique index
 /// sets are lock-free, each with the bound that the table `lock_free_bound` says. Wherever turns have led,
-/// and whatever turns n parties take from there while the others have stopped anywhere, in more steps than
-/// the bound one of their calls ends, and calls go on ending as often as the steps have that bound. The third
+/// and whatever turns some parties take from there while the others have stopped anywhere, in more steps than
+/// the bound for that many parties one of their calls ends, and calls go on ending as often as the steps have that bound. The third
 /// clause says what the first one says of the machines as they run, where n is the number of parties. A turn
 /// that is refused is in no such list, a call that waits for a decision takes no step, and nothing says that
 /// a party takes turns. The proof is `keep_ending` of `proofs/LockFree.antt`, by a measure of each call in

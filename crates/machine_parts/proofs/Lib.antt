@@ -1,2 +1,3 @@
+pub mod Behind
 mod Going
 mod Steps

@@ -1,7 +1,8 @@
 -- The machine that a program's parts make, and what a turn of one party makes of its parts.
-use Rattle.std.specs.Prelude.{◌≡◌, ◌⊎◌, ℕ, zero, suc, ◌+◌, Bool, not, Option, Some, None, is_none, List, ◌∷◌, ◌++◌}
+use Rattle.std.specs.Prelude.{◌≡◌, ◌⊎◌, ℕ, zero, suc, ◌+◌, Bool, if◌then◌else◌, not, Option, Some, None, is_none, List, ◌∷◌, ◌++◌}
 use Rattle.steps.specs.declared.ask.Ask.{Ask}
 use Rattle.model.specs.declared.event.Event.{Event}
+use Rattle.model.specs.declared.event.Start.{Start}
 use Rattle.model.specs.declared.families.Flight.{Flight}
 use Rattle.model.specs.declared.families.Registry.{Registry}
 use Rattle.model.specs.declared.party.Doing.{Doing}
@@ -11,7 +12,7 @@ use Rattle.model.specs.declared.turn.Refusal.{Refusal}
 use Rattle.model.specs.declared.turn.Refusal.TheVariants.{Idle, Undecided, NoMemory}
 use Rattle.model.specs.Coding.{Coding}
 use Rattle.model.specs.Families.{want_of, ask_of, step_of, going_rows, beside_of}
-use Rattle.model.specs.Parties.{flight_of}
+use Rattle.model.specs.Parties.{flight_of, is_over}
 use Rattle.model.specs.Refusals.{is_due}
 use Rattle.model.specs.Rows.{first_row}
 use Rattle.model.specs.Step.{Step}
@@ -39,6 +40,11 @@ abbrev pub trace_of : {T : Type 0} → Coding T → Parts T → Trace T
 trace_of code m = trace_in code (state_of m)
 
 module _ {T : Type 0} where
+  -- the call that a party has under way
+  abbrev pub start_of : Option (Party T) → Option (Start T)
+  start_of None = None
+  start_of (Some x) = if is_over x.doing then None else Some x.start
+
   -- The rows of refusals for the call that is to go on by a step (None) or by a decision: there is no call, a
   -- decision is due or none is, and what its family forbids.
   abbrev pub turn_rows : Coding T → Registry T → Option (Flight T) → Option Bool → List (Bool × Refusal)

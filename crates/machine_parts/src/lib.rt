@@ -1,4 +1,5 @@
-//! The parts of a machine: what a turn tests, and what it makes of them. No promise is proved here.
+//! A machine: what a turn tests, and what it makes of the parts of a machine. No promise of every run is proved here.
 #![tactic(auto)]
 
 pub mod parts;
+pub mod running;

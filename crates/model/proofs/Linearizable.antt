@@ -4,3 +4,4 @@ pub mod Kinds
 pub mod Members
 pub mod Order
 pub mod Spans
+pub mod Strong

@@ -1,4 +1,5 @@
 -- From a measure of each call under way to lock-freedom, and from it to finite loads that end.
+pub mod Apart
 pub mod Counted
 pub mod Fairly
 pub mod Falls

@@ -14,7 +14,7 @@ pub use Rattle.model.specs.Families.Queues.Calls.{as_it_is, kept_at}
 pub use Rattle.model.specs.Families.Queues.Objects.{bounded_list}
 pub use Rattle.model.specs.Families.Queues.Reading.{waiting}
 pub use Rattle.model.specs.Linearizable.{Call, IsLinearizable, Response}
-pub use Rattle.model.specs.LockFree.{AreWithinEnds, Bound, IsBelow, KeepsEnding, ends, steps_in, stretch}
+pub use Rattle.model.specs.LockFree.{AreWithinEnds, Bound, IsAmong, KeepsEnding, ends, steps_in, stretch}
 pub use Rattle.model.specs.Moments.{BeginsNone, HeldSometime, SinceBegin}
 pub use Rattle.model.specs.Objects.{IsLegal, answers_from}
 pub use Rattle.model.specs.Parties.{doing_of, flight_of, party_of, progress_after}

@@ -1,12 +1,12 @@
 -- Loads at small sizes, and the calls that are under way in a small machine.
-use Rattle.std.proofs.Common.{◌≡◌, ◌<◌, ◌≤◌, ℕ, ◌+◌, ◌*◌, ◌^◌, Option, Some, None, List, [], ◌∷◌, ◌++◌, refl, arith}
+use Rattle.std.proofs.Common.{◌≡◌, ◌<◌, ◌≤◌, ℕ, ◌+◌, ◌*◌, Option, Some, None, List, [], ◌∷◌, ◌++◌, refl, arith}
 use Rattle.model.specs.declared.event.Start.TheVariants as starts
 use Rattle.model.specs.declared.families.queues.QueueStart.TheVariants as queues
 use Rattle.model.specs.declared.turn.Kind.TheVariants.{IndexQueue, Overflow, Queue, Atomic, Bits, Counts, Indices}
 use Rattle.model.specs.declared.turn.Turn.{Turn}
 use Rattle.model.specs.declared.turn.Turn.TheVariants.{Begin}
 use Rattle.model.specs.Coding.{one_word}
-use Rattle.model.specs.LockFree.{Bound, lock_free_bound, default_bound, default_container_bound, room_bound, ends, steps_in}
+use Rattle.model.specs.LockFree.{Bound, lock_free_bound, default_bound, default_container_bound, ends, parties_below, steps_in}
 use Rattle.model.specs.Turns.{run_on, after_turns}
 use Rattle.model.specs.World.{Trace, opening}
 use Rattle.model.proofs.Runs.{nexts, begins}
@@ -46,11 +46,11 @@ abbrev both : List (Turn ℕ)
 both = nexts 0 4 ++ nexts 1 4
 
 -- Before these steps two calls are under way.
-pending_before : pending 2 started.world ≡ 2
+pending_before : pending (parties_below 2) started.world ≡ 2
 pending_before = refl
 
 -- After these steps no call is under way.
-pending_after : pending 2 (after_turns started both).world ≡ 0
+pending_after : pending (parties_below 2) (after_turns started both).world ≡ 0
 pending_after = refl
 
 -- None of these turns begins a call.
@@ -76,18 +76,13 @@ push_met : (steps_in (from Overflow 1 1 full) (nexts 0 6) ≡ 6) × (at (lock_fr
 push_met = (refl, refl)
 
 -- After these six steps no call is under way.
-push_ends : pending 1 (after_turns (from Overflow 1 1 full) (nexts 0 6)).world ≡ 0
+push_ends : pending (parties_below 1) (after_turns (from Overflow 1 1 full) (nexts 0 6)).world ≡ 0
 push_ends = refl
 
 -- no bound below 5 holds there
 no_less : (bound : Bound) → bound 1 1 1 < 5 → EndsLoad ℕ Overflow bound → ⊥
 no_less bound few loads =
     let most : 6 ≤ 1 * (bound 1 1 1 + 1) =
-    loads (from Overflow 1 1 full) refl (record { coded = one_word_codes; admitted = refl; turns = full; is = refl }) 1 (nexts 0 6)
+    loads (from Overflow 1 1 full) refl (record { coded = one_word_codes; admitted = refl; turns = full; is = refl }) (parties_below 1) (nexts 0 6)
     (all_allowed (from Overflow 1 1 full) (nexts 0 6) refl) (all_below 1 (nexts 0 6) refl) in
     absurd (omega arith)
-
--- Of a robust set in all its runs, with one party and one index, and with two of each. For two of each no bound below
--- 92233720368547758030 holds.
-robust_room : (room_bound 1 1 1 ≡ 9 * (2 ^ 64 + 1)) × (room_bound 2 2 1 ≡ 700976274800962961446)
-robust_room = (refl, refl)

@@ -1,15 +1,17 @@
 -- Worked runs in which no call ends. For six kinds they take as many steps as the bound says, so that none is less at that
 -- number of parties and that capacity.
-use Rattle.model.proofs.Names.{AllByRecursion, AreAllowedOn, Begin, Bool, Bound, Decide, Die, IsBelow, IsCoding}
+use Rattle.model.proofs.Names.{AllByRecursion, AreAllowedOn, Begin, Bool, Bound, Decide, Die, IsAmong, IsCoding}
 use Rattle.model.proofs.Names.{Kind, List, Next, None, Option, QueueStart, Refusal, Some, Trace, Turn, []}
-use Rattle.model.proofs.Names.{after_turn, after_turns, arith, call_refusal, capacity_error, ends, false, nat_lt, nat_tests}
+use Rattle.model.proofs.Names.{after_turn, after_turns, arith, call_refusal, capacity_error, ends, false, length, nat_lt, nat_tests}
 use Rattle.model.proofs.Names.{one_word, opening, refl, run_on, steps_in, true, ℕ, ◌&&◌, ◌++◌, ◌<◌, ◌∷◌, ◌≡◌}
 use Rattle.model.specs.declared.event.Start.TheVariants as starts
 use Rattle.model.specs.declared.families.atomic.AtomicStart.TheVariants as atomics
 use Rattle.model.specs.declared.families.bits.BitsStart.TheVariants as bits
 use Rattle.model.specs.declared.families.queues.QueueStart.TheVariants as queues
 use Rattle.model.specs.declared.turn.Kind.TheVariants.{IndexQueue, Overflow, Queue, Atomic, Bits, Counts}
-use Rattle.model.specs.LockFree.{IsLockFree}
+use Rattle.model.specs.LockFree.{IsLockFree, parties_below}
+use Rattle.model.proofs.LockFree.Apart.{below_in}
+use Rattle.model.proofs.LockFree.Machines.{length_below}
 use Rattle.model.proofs.Reached.{run_making, run_reached, reached_on_opening}
 use Rattle.model.proofs.Runs.{nexts, begins}
 
@@ -27,7 +29,7 @@ abbrev are_taken : Trace ℕ → List (Turn ℕ) → Bool
 are_taken t [] = true
 are_taken t (turn ∷ turns) = may (call_refusal t.world turn) && are_taken (after_turn t turn) turns
 
--- Whether the turn is of a party below n, as `IsBelow` says.
+-- Whether the turn is of a party below n.
 abbrev is_below : ℕ → Turn ℕ → Bool
 is_below n (Begin p start) = nat_lt p n
 is_below n (Next p) = nat_lt p n
@@ -58,11 +60,14 @@ low : (p n : ℕ) → nat_lt p n ≡ true → p < n
 low = grind (arith, nat_tests)
 
 -- If the test `is_below` says so of a turn, then it is of a party below n.
-one_below : (n : ℕ) (turn : Turn ℕ) → is_below n turn ≡ true → IsBelow n turn
-one_below = grind (arith, low)
+one_below : (n : ℕ) (turn : Turn ℕ) → is_below n turn ≡ true → IsAmong (parties_below n) turn
+one_below n (Begin p start) is = below_in n p (low p n is)
+one_below n (Next p) is = below_in n p (low p n is)
+one_below n (Decide p said) is = below_in n p (low p n is)
+one_below n (Die owner) is = tt
 
 -- If the test `are_below` says so of turns, then each is of a party below n.
-pub all_below : (n : ℕ) (turns : List (Turn ℕ)) → are_below n turns ≡ true → AllByRecursion (IsBelow n) turns
+pub all_below : (n : ℕ) (turns : List (Turn ℕ)) → are_below n turns ≡ true → AllByRecursion (IsAmong (parties_below n)) turns
 all_below n [] are_below_true = tt
 all_below n (turn ∷ turns) are_below_true =
     let here = both (is_below n turn) (are_below n turns) are_below_true in
@@ -109,10 +114,12 @@ no_less : (r : Run) → IsEndless r → (bound : Bound) → bound r.n r.capacity
 no_less r endless bound few free =
     let made = run_making r.before (opening one_word r.kind r.capacity r.parties) in
     let reached = run_reached r.before (reached_on_opening one_word r.kind r.capacity r.parties one_word_codes endless.admitted) in
-    let low : bound r.n (first r).world.capacity (first r).world.coding.size < r.steps = rw (made.capacity, made.coding) few in
+    let low : bound (length (parties_below r.n)) (first r).world.capacity (first r).world.coding.size < r.steps =
+    rw (length_below r.n, made.capacity, made.coding) few in
     none_more (ends (first r).events) (ends (after_turns (first r) r.turns).events) r.ended endless.before endless.after
-    (free (first r) made.kind reached r.n r.turns (all_allowed (first r) r.turns endless.taken) (all_below r.n r.turns endless.below)
-    (more_steps (bound r.n (first r).world.capacity (first r).world.coding.size) (steps_in (first r) r.turns) r.steps endless.many low))
+    (free (first r) made.kind reached (parties_below r.n) r.turns (all_allowed (first r) r.turns endless.taken) (all_below r.n r.turns endless.below)
+    (more_steps (bound (length (parties_below r.n)) (first r).world.capacity (first r).world.coding.size)
+    (steps_in (first r) r.turns) r.steps endless.many low))
 
 -- ---- two lengths of an index queue, and of a queue, whose write position has moved
 

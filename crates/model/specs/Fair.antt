@@ -6,7 +6,7 @@ use Rattle.model.specs.declared.event.Start.{Start}
 use Rattle.model.specs.declared.turn.Kind.{Kind}
 use Rattle.model.specs.declared.turn.Turn.{Turn}
 use Rattle.model.specs.declared.turn.Turn.TheVariants.{Next}
-use Rattle.model.specs.LockFree.{Bound, BeginsSuch, IsBelow, steps_of}
+use Rattle.model.specs.LockFree.{Bound, BeginsSuch, IsAmong, parties_below, steps_of}
 use Rattle.model.specs.Refusals.{call_refusal}
 use Rattle.model.specs.Turns.{after_turn, after_turns, AreAllowed, AreAllowedOn, IsReached, IsReachedOn}
 use Rattle.model.specs.World.{World, Trace, flight_in}
@@ -64,26 +64,26 @@ module _ {T : Type 0} where
     pub goes : (k : ℕ) → (flight_in (moment t turns (at k)).world p ≡ None)
         ⊎ (own_step p (moment t turns (at k)).world (turns (at k)) ≡ 1)
 
--- Let n parties take turns in rounds, more of them than the load (the steps that the calls under
+-- Let some parties take turns in rounds, more of them than the load (the steps that the calls under
 -- way and those that begin may take in all). Then a party that takes a step in each round has no
 -- call under way as one of the rounds begins.
 abbrev pub EndsInRounds : Type 0 → Kind → Bound → Type 0
 EndsInRounds T kind bound =
-    (t : Trace T) → t.world.kind ≡ kind → IsReachedOn t → (n p : ℕ) (rounds : List (List (Turn T)))
-    → AreAllowedOn t (turns_of rounds) → AllByRecursion (IsBelow n) (turns_of rounds)
+    (t : Trace T) → t.world.kind ≡ kind → IsReachedOn t → (parties : List ℕ) (p : ℕ) (rounds : List (List (Turn T)))
+    → AreAllowedOn t (turns_of rounds) → AllByRecursion (IsAmong parties) (turns_of rounds)
     → StepsInEach p t rounds
-    → load (bound n t.world.capacity t.world.coding.size) (pending n t.world + begins_in (turns_of rounds)) < length rounds
+    → load (bound (length parties) t.world.capacity t.world.coding.size) (pending parties t.world + begins_in (turns_of rounds)) < length rounds
     → RestsInOne p t rounds
 
 -- `EndsInRounds` for runs in which `Such` holds for each call that begins, before and during the rounds.
 abbrev pub EndsInRoundsOf : (T : Type 0) → Kind → (Start T → Type 0) → Bound → Type 0
 EndsInRoundsOf T kind Such bound =
     (t : Trace T) → t.world.kind ≡ kind → (r : IsReachedOn t) → AllByRecursion (BeginsSuch Such) r.turns
-    → (n p : ℕ) (rounds : List (List (Turn T)))
-    → AreAllowedOn t (turns_of rounds) → AllByRecursion (IsBelow n) (turns_of rounds)
+    → (parties : List ℕ) (p : ℕ) (rounds : List (List (Turn T)))
+    → AreAllowedOn t (turns_of rounds) → AllByRecursion (IsAmong parties) (turns_of rounds)
     → AllByRecursion (BeginsSuch Such) (turns_of rounds)
     → StepsInEach p t rounds
-    → load (bound n t.world.capacity t.world.coding.size) (pending n t.world + begins_in (turns_of rounds)) < length rounds
+    → load (bound (length parties) t.world.capacity t.world.coding.size) (pending parties t.world + begins_in (turns_of rounds)) < length rounds
     → RestsInOne p t rounds
 
 -- `EndsInRounds` for a machine as it runs, which has a number of parties and refuses turns past its last one.
@@ -93,16 +93,16 @@ EndsInRoundsRuns T kind bound =
     → AreAllowed t (turns_of rounds)
     → StepsInEach p t rounds
     → load (bound t.world.parties t.world.capacity t.world.coding.size)
-    (pending t.world.parties t.world + begins_in (turns_of rounds)) < length rounds
+    (pending (parties_below t.world.parties) t.world + begins_in (turns_of rounds)) < length rounds
     → RestsInOne p t rounds
 
--- On whatever endless schedule of n parties on which at most `calls` calls begin: each party to which the
+-- On whatever endless schedule of these parties on which at most `calls` calls begin: each party to which the
 -- schedule is fair comes to a moment at which it has no call under way.
 abbrev pub EndsIfFair : Type 0 → Kind → Bound → Type 0
 EndsIfFair T kind bound =
-    (t : Trace T) → t.world.kind ≡ kind → IsReachedOn t → (n calls : ℕ) (turns : ℕ → Turn T)
+    (t : Trace T) → t.world.kind ≡ kind → IsReachedOn t → (parties : List ℕ) (calls : ℕ) (turns : ℕ → Turn T)
     → ((k : ℕ) → call_refusal (moment t turns k).world (turns k) ≡ None)
-    → ((k : ℕ) → IsBelow n (turns k))
+    → ((k : ℕ) → IsAmong parties (turns k))
     → ((k : ℕ) → begins_by turns k ≤ calls)
     → (p : ℕ) → IsFair t turns p
     → (k : ℕ) × (flight_in (moment t turns k).world p ≡ None)

@@ -18,5 +18,8 @@ pub mod Rows
 pub mod Small
 pub mod Shape
 pub mod Step
+pub mod StronglyLinearizable
 pub mod Turns
 pub mod World
+pub mod Fresh
+pub mod Open

@@ -1,6 +1,6 @@
--- Lock-freedom, as a statement about lists of turns: whichever of n parties take turns, in more
--- steps than a bound a call ends.
-use Rattle.std.specs.Prelude.{◌≡◌, ◌<◌, ◌≤◌, ℕ, ◌+◌, ◌-◌, ◌*◌, ◌^◌, max, Option, Some, None, List, [], ◌∷◌}
+-- Lock-freedom, as a statement about lists of turns: whichever turns some parties take, in more
+-- steps than a bound for that many parties a call ends.
+use Rattle.std.specs.Prelude.{◌≡◌, ◌<◌, ◌≤◌, ◌⊎◌, ℕ, zero, suc, ◌+◌, ◌-◌, ◌*◌, max, Option, Some, None, List, [], ◌∷◌, length}
 use Rattle.std.specs.List.{AllByRecursion, sum_by}
 use Rattle.steps.specs.Bits.Words.{elements}
 use Rattle.steps.specs.declared.indices.enums.ReleaseMode.TheVariants.{LockIfLastIndex}
@@ -17,6 +17,16 @@ use Rattle.model.specs.declared.turn.Turn.TheVariants.{Begin, Next, Decide, Die}
 use Rattle.model.specs.Promises.Turns.{ask_in}
 use Rattle.model.specs.Turns.{step_count, after_turn, after_turns, AreAllowed, AreAllowedOn, IsReached, IsReachedOn}
 use Rattle.model.specs.World.{World, Trace}
+
+-- the party is one of these
+abbrev pub IsOneIn : List ℕ → ℕ → Type 0
+IsOneIn [] p = ⊥
+IsOneIn (q ∷ parties) p = (p ≡ q) ⊎ IsOneIn parties p
+
+-- the parties with the numbers below n
+abbrev pub parties_below : ℕ → List ℕ
+parties_below zero = []
+parties_below (suc n) = n ∷ parties_below n
 
 module _ {T : Type 0} where
   -- ---- a stretch of a run: turns from a machine that turns have reached, of which none is refused
@@ -39,12 +49,12 @@ module _ {T : Type 0} where
   steps_in t [] = 0
   steps_in t (turn ∷ turns) = steps_of t.world turn + steps_in (after_turn t turn) turns
 
-  -- the turn is of a party below n; a death is of none
-  abbrev pub IsBelow : ℕ → Turn T → Type 0
-  IsBelow n (Begin p start) = p < n
-  IsBelow n (Next p) = p < n
-  IsBelow n (Decide p said) = p < n
-  IsBelow n (Die owner) = Unit {0}
+  -- the turn is of one of these parties; a death is of none
+  abbrev pub IsAmong : List ℕ → Turn T → Type 0
+  IsAmong parties (Begin p start) = IsOneIn parties p
+  IsAmong parties (Next p) = IsOneIn parties p
+  IsAmong parties (Decide p said) = IsOneIn parties p
+  IsAmong parties (Die owner) = Unit {0}
 
   -- if the turn begins a call, then `Such` holds of it
   abbrev pub BeginsSuch : (Start T → Type 0) → Turn T → Type 0
@@ -57,27 +67,27 @@ module _ {T : Type 0} where
 abbrev pub Bound : Type 0
 Bound = ℕ → ℕ → ℕ → ℕ
 
--- Lock-freedom with a bound: from any state that turns reach, whatever turns n parties take while
--- the others stand still, in more steps than the bound (for n parties, the capacity and the words
--- of a value) a call ends.
+-- Lock-freedom with a bound: from any state that turns reach, whatever turns these parties take while
+-- the others stand still, in more steps than the bound (for that many parties, the capacity and the
+-- words of a value) a call ends. A party that stands in the list twice counts twice.
 abbrev pub IsLockFree : Type 0 → Kind → Bound → Type 0
 IsLockFree T kind bound =
-    (t : Trace T) → t.world.kind ≡ kind → IsReachedOn t → (n : ℕ) (turns : List (Turn T))
-    → AreAllowedOn t turns → AllByRecursion (IsBelow n) turns
-    → bound n t.world.capacity t.world.coding.size < steps_in t turns
+    (t : Trace T) → t.world.kind ≡ kind → IsReachedOn t → (parties : List ℕ) (turns : List (Turn T))
+    → AreAllowedOn t turns → AllByRecursion (IsAmong parties) turns
+    → bound (length parties) t.world.capacity t.world.coding.size < steps_in t turns
     → ends t.events < ends (after_turns t turns).events
 
 -- If k calls have ended between `before` and `after`, then at most (k + 1) * bound + k steps were taken.
 abbrev pub AreWithinEnds : ℕ → ℕ → (before after : ℕ) → Type 0
 AreWithinEnds bound steps before after = steps + before * (bound + 1) ≤ bound + after * (bound + 1)
 
--- Lock-freedom over a whole stretch of turns: of n parties' steps at most the bound are taken
+-- Lock-freedom over a whole stretch of turns: of these parties' steps at most the bound are taken
 -- between two ends of calls, so k ends allow at most (k + 1) * bound + k steps.
 abbrev pub KeepsEnding : Type 0 → Kind → Bound → Type 0
 KeepsEnding T kind bound =
-    (t : Trace T) → t.world.kind ≡ kind → IsReachedOn t → (n : ℕ) (turns : List (Turn T))
-    → AreAllowedOn t turns → AllByRecursion (IsBelow n) turns
-    → AreWithinEnds (bound n t.world.capacity t.world.coding.size) (steps_in t turns) (ends t.events)
+    (t : Trace T) → t.world.kind ≡ kind → IsReachedOn t → (parties : List ℕ) (turns : List (Turn T))
+    → AreAllowedOn t turns → AllByRecursion (IsAmong parties) turns
+    → AreWithinEnds (bound (length parties) t.world.capacity t.world.coding.size) (steps_in t turns) (ends t.events)
     (ends (after_turns t turns).events)
 
 -- ---- of runs in which `Such` holds for each call that begins
@@ -87,9 +97,9 @@ KeepsEnding T kind bound =
 abbrev pub IsLockFreeOf : (T : Type 0) → Kind → (Start T → Type 0) → Bound → Type 0
 IsLockFreeOf T kind Such bound =
     (t : Trace T) → t.world.kind ≡ kind → (r : IsReachedOn t) → AllByRecursion (BeginsSuch Such) r.turns
-    → (n : ℕ) (turns : List (Turn T))
-    → AreAllowedOn t turns → AllByRecursion (IsBelow n) turns → AllByRecursion (BeginsSuch Such) turns
-    → bound n t.world.capacity t.world.coding.size < steps_in t turns
+    → (parties : List ℕ) (turns : List (Turn T))
+    → AreAllowedOn t turns → AllByRecursion (IsAmong parties) turns → AllByRecursion (BeginsSuch Such) turns
+    → bound (length parties) t.world.capacity t.world.coding.size < steps_in t turns
     → ends t.events < ends (after_turns t turns).events
 
 -- As `KeepsEnding`, of runs in which `Such` holds for each call that begins:
@@ -97,9 +107,9 @@ IsLockFreeOf T kind Such bound =
 abbrev pub KeepsEndingOf : (T : Type 0) → Kind → (Start T → Type 0) → Bound → Type 0
 KeepsEndingOf T kind Such bound =
     (t : Trace T) → t.world.kind ≡ kind → (r : IsReachedOn t) → AllByRecursion (BeginsSuch Such) r.turns
-    → (n : ℕ) (turns : List (Turn T))
-    → AreAllowedOn t turns → AllByRecursion (IsBelow n) turns → AllByRecursion (BeginsSuch Such) turns
-    → AreWithinEnds (bound n t.world.capacity t.world.coding.size) (steps_in t turns) (ends t.events)
+    → (parties : List ℕ) (turns : List (Turn T))
+    → AreAllowedOn t turns → AllByRecursion (IsAmong parties) turns → AllByRecursion (BeginsSuch Such) turns
+    → AreWithinEnds (bound (length parties) t.world.capacity t.world.coding.size) (steps_in t turns) (ends t.events)
     (ends (after_turns t turns).events)
 
 -- ---- of machines as they run
@@ -134,12 +144,6 @@ lock_free_bound kind = None
 -- the bound of a robust index set in which no call may lock
 abbrev pub default_bound : Bound
 default_bound n capacity size = stretch n capacity (4 * capacity + 1)
-
--- The bound of a robust index set in all its runs: for each number that its counter can still take, and once more, what
--- a call takes at most while the counter stays. As a number of steps it says little. It says that no calls make each
--- other begin again for ever.
-abbrev pub room_bound : Bound
-room_bound n capacity size = stretch n 0 ((2 ^ 64 + 1) * (capacity * (capacity + 7) + 1))
 
 -- the bound of a container in which no call may lock
 abbrev pub default_container_bound : Bound

@@ -242,7 +242,7 @@ one_answer capacity items (Queues (Push value)) own =
 one_answer capacity items (Queues Pop) own = front items
 one_answer capacity items other own = absurd (cc)
 
-is_list : (c : ℕ) → IsObject reading (as_list queue_kinds.Overflow c) (page.overflowing_list c)
+pub is_list : (c : ℕ) → IsObject reading (as_list queue_kinds.Overflow c) (page.overflowing_list c)
 is_list c = record { state = map number; opens = refl; after = one_after c; answer = one_answer c }
 
 -- ---- every list of turns

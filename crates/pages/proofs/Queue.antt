@@ -254,7 +254,7 @@ one_answer capacity items (Queues (Push value)) own = pushed_answer capacity ite
 one_answer capacity items (Queues Pop) own = number_front items
 one_answer capacity items other own = absurd (cc)
 
-is_list : (c : ℕ) → IsObject reading (as_list queue_kinds.IndexQueue c) (page.bounded_list c)
+pub is_list : (c : ℕ) → IsObject reading (as_list queue_kinds.IndexQueue c) (page.bounded_list c)
 is_list c = record { state = map number; opens = refl; after = one_after c; answer = one_answer c }
 
 -- ---- every list of turns

@@ -213,7 +213,7 @@ one_answer held (Atomic (starts.Store value)) own = refl
 one_answer held (Atomic starts.Load) own = refl
 one_answer held other own = absurd (cc)
 
-is_register : IsObject reading (as_value one_word) page.register
+pub is_register : IsObject reading (as_value one_word) page.register
 is_register = record { state = λ held. held; opens = refl; after = one_after; answer = one_answer }
 
 -- ---- behind the acquire

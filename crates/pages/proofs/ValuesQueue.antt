@@ -393,7 +393,7 @@ module _ {T : Type 0} (how : page.Written T) where
   one_answer capacity items (Queues Pop) own = front items
   one_answer capacity items other own = absurd (cc)
 
-  is_list : (c : ℕ) → IsObject (reading how) (as_list queue_kinds.Queue c) (page.bounded_list c)
+  pub is_list : (c : ℕ) → IsObject (reading how) (as_list queue_kinds.Queue c) (page.bounded_list c)
   is_list c = record { state = map held_in; opens = refl; after = one_after c; answer = one_answer c }
 
   -- ---- every list of turns

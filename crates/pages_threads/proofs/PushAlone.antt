@@ -25,7 +25,7 @@ use Rattle.history.specs.declared.view.View.{View}
 use Rattle.history.specs.History.{Knows, run_of}
 use Rattle.history.specs.Known.{events_by, own_of}
 use Rattle.history.proofs.KnownRuns.{known_run}
-use Rattle.history.proofs.Reached.{queue_run}
+use Rattle.history_queues.proofs.QueueRuns.{queue_run}
 use Rattle.pages.specs.IndexQueue.{index_queue}
 use Rattle.pages.specs.IndexQueueBridge.{answer_seen, by_role, call_seen}
 use Rattle.pages.specs.Machine as machine

@@ -1,5 +1,6 @@
 -- What a pass knows is a run of a page's machine.
-use Rattle.std.specs.Prelude.{◌≡◌, ℕ, ◌<◌, ◌^◌, Option, List, ◌++◌, fold, length}
+use Rattle.std.specs.Prelude.{◌≡◌, ℕ, Option, List, ◌++◌, fold, map}
+use Rattle.model.specs.declared.event.Event.{Event}
 use Rattle.model.specs.declared.turn.Kind.{Kind}
 use Rattle.model.specs.declared.turn.Kind.TheVariants.{Atomic, IndexQueue, Overflow, Queue}
 use Rattle.model.specs.Coding.{Coding, one_word}
@@ -8,7 +9,8 @@ use Rattle.history.specs.declared.view.View.{View}
 use Rattle.history.specs.History.{Continues, Knows}
 use Rattle.pages.specs.IndexQueue as index
 use Rattle.pages.specs.IndexQueueBridge as index_bridge
-use Rattle.pages.specs.Machine.{IsLinearizable, Object, Structure, Turn, World, opening, turned}
+use Rattle.pages.specs.Machine as machine
+use Rattle.pages.specs.Machine.{Called, IsLinearizable, Object, Structure, Turn, World, opening, turned}
 use Rattle.pages.specs.OverflowingQueue as overflowing
 use Rattle.pages.specs.OverflowingQueueBridge as overflowing_bridge
 use Rattle.pages.specs.Queue as values
@@ -16,6 +18,24 @@ use Rattle.pages.specs.QueueBridge as values_bridge
 use Rattle.pages.specs.RolesBridge.{Naming, all_told, turns_taken}
 use Rattle.pages.specs.Value as single
 use Rattle.pages.specs.ValueBridge as single_bridge
+
+-- A call as it stands in an order: where it was invoked in the history, who made it, and its answer. Its response is left out,
+-- since the call may still be pending.
+pub record Ordered (Call Answer : Type 0) : Type 0 where
+  pub place : ℕ
+  pub party : ℕ
+  pub call : Call
+  pub answer : Answer
+
+module _ {Call Answer : Type 0} where
+  abbrev pub ordered : Called Call Answer × Answer → Ordered Call Answer
+  ordered x = record { place = x.0.place; party = x.0.party; call = x.0.call; answer = x.1 }
+
+  -- linearizable by the page's definition, with the calls in this order
+  pub record IsLinearizedBy {State : Type 0} (object : Object Call Answer State) (order : List (Ordered Call Answer))
+      (history : List (machine.Event Call Answer)) : Type 0 where
+    pub by : IsLinearizable object history
+    pub is : map ordered by.sequence ≡ order
 
 -- a page, and the tables of threads that run it
 pub record Paged (T Call Stage Answer : Type 0) : Type 0 where
@@ -49,11 +69,17 @@ module _ {T Call Stage Answer : Type 0} (page : Paged T Call Stage Answer) where
     pub known : (v : View T) → Knows page.code page.kind page.capacity v → RunsThePage v
     pub later : (old new : View T) → Continues page.code page.kind page.capacity old new → RunsOn old new
 
-  -- what a pass has seen in fewer turns than positions are is linearizable, by the page's definition
+  -- what a pass has seen is linearizable, by the page's definition
   abbrev pub PassesAreLinearizable : {State : Type 0} → Object Call Answer State → Type 0
   PassesAreLinearizable object =
-      (v : View T) → Knows page.code page.kind page.capacity v → length (turns_of v) < 2 ^ 63
-      → IsLinearizable object (all_told page.by v.seen)
+      (v : View T) → Knows page.code page.kind page.capacity v → IsLinearizable object (all_told page.by v.seen)
+
+  -- One function of events orders the calls that a pass has seen. What it sees later only adds calls at the end of this order.
+  pub record PassesAreStronglyLinearizable {State : Type 0} (object : Object Call Answer State) : Type 0 where
+    pub order : List (Event T) → List (Ordered Call Answer)
+    pub each : (v : View T) → Knows page.code page.kind page.capacity v
+        → IsLinearizedBy object (order v.seen) (all_told page.by v.seen)
+    pub grows : (seen more : List (Event T)) → (added : List (Ordered Call Answer)) × (order (seen ++ more) ≡ order seen ++ added)
 
 -- ---- the structures that have pages
 

@@ -9,9 +9,10 @@ ghost use Rattle.pages.specs.OverflowingQueue.{overflowing_list};
 ghost use Rattle.pages.specs.Queue.{Written};
 ghost use Rattle.pages.specs.Queue as values;
 ghost use Rattle.pages.specs.Value.{register};
-ghost use Rattle.pages_threads.specs.Known.{PassesAreLinearizable, PassesRun, index_page, overflowing_page, queue_page, value_page};
+ghost use Rattle.pages_threads.specs.Known.{PassesAreLinearizable, PassesAreStronglyLinearizable, PassesRun};
+ghost use Rattle.pages_threads.specs.Known.{index_page, overflowing_page, queue_page, value_page};
 
-use pages::{index_queue, overflowing_queue, queue_of_values, roles_change_hands, single_value};
+use pages::roles_change_hands;
 
 /// What a pass of real threads has seen of pushes and pops, or of stores and loads, invocations and responses alone and
 /// whoever made them, is the history of the page's machine over a list of turns (`known`): those of the table's one run that
@@ -28,8 +29,9 @@ pub fn passes_run_the_pages<T>()
     roles_change_hands::<T>();
 }
 
-/// What a pass has seen of pushes and pops, or of stores and loads, in fewer than 2^63 turns of the page, is linearizable as
-/// the page says: Herlihy and Wing's definition of `Machine.antt`, and the list or the register of the page.
+/// What a pass has seen of pushes and pops, or of stores and loads, is linearizable as the page says: Herlihy and Wing's
+/// definition of `Machine.antt`, and the list or the register of the page. There is no premise on how many turns others have
+/// taken: a push at the last position and a store at the last version are outside of what a pass has seen.
 pub fn passes_are_linearizable<T>()
     ensures index { (capacity : ℕ) → PassesAreLinearizable (index_page capacity) (bounded_list capacity) }
     ensures overflowing { (capacity : ℕ) → 0 < capacity
@@ -38,9 +40,18 @@ pub fn passes_are_linearizable<T>()
     ensures values { (how : Written T) (capacity : ℕ)
         → PassesAreLinearizable (queue_page how capacity) (values.bounded_list capacity) }
 {
+    passes_are_strongly_linearizable::<T>();
+}
+
+/// What a pass has seen is strongly linearizable as the page says. One function of events gives the order of the calls, for all
+/// passes. What a pass sees later only adds calls at the end of this order.
+pub fn passes_are_strongly_linearizable<T>()
+    ensures index { (capacity : ℕ) → PassesAreStronglyLinearizable (index_page capacity) (bounded_list capacity) }
+    ensures overflowing { (capacity : ℕ) → 0 < capacity
+        → PassesAreStronglyLinearizable (overflowing_page capacity) (overflowing_list capacity) }
+    ensures value { PassesAreStronglyLinearizable value_page register }
+    ensures values { (how : Written T) (capacity : ℕ)
+        → PassesAreStronglyLinearizable (queue_page how capacity) (values.bounded_list capacity) }
+{
     passes_run_the_pages::<T>();
-    index_queue();
-    overflowing_queue();
-    single_value();
-    queue_of_values::<T>();
 }

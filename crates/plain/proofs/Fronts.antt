@@ -7,7 +7,7 @@ use Rattle.plain.proofs.Names.{by_test, Want, After}
 use Rattle.steps.specs.declared.ask.Op.{Op}
 use Rattle.steps.specs.declared.ask.Op.TheVariants.{Load, Store, Swap, Add, Sub, And, Or, Exchange}
 use Rattle.steps.specs.declared.ask.Want.TheVariants as wants
-use Rattle.plain.specs.Alone.{written_by, answer_in, words_then, stepped}
+use Rattle.plain_queues.specs.Alone.{written_by, answer_in, words_then, stepped}
 use Rattle.plain.proofs.Walks.{WalksFrom, OnEnd, Walks, LowThen}
 
 -- the later list is as long as the list before, and has the same words from place k on

@@ -1,9 +1,7 @@
-pub mod Alone
 pub mod Elements
 pub mod Emptied
 pub mod Found
 pub mod Fronts
-pub mod Lists
 mod Names
 pub mod Places
 pub mod Robust
@@ -13,4 +11,3 @@ pub mod States
 pub mod Values
 pub mod Visits
 pub mod Walks
-pub mod Words

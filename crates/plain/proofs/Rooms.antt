@@ -3,10 +3,10 @@ use Rattle.std.proofs.Common.{arith}
 use Rattle.std.proofs.Common.{ℕ, zero, suc, ◌^◌, ◌-◌, ◌≤◌, List, refl}
 use Rattle.plain.proofs.Names.{Want, After, GoOn, Done}
 use Rattle.steps.specs.declared.ask.Want.TheVariants as wants
-use Rattle.plain.specs.declared.drive.Stop.{Stop}
-use Rattle.plain.specs.declared.drive.Stop.TheVariants.{Asked, Ended}
-use Rattle.plain.specs.Alone.{answer_in, words_then, room_then, stepped, StopsFrom, StopsIn}
-use Rattle.plain.proofs.Alone.{Runs, Halts}
+use Rattle.plain_queues.specs.declared.drive.Stop.{Stop}
+use Rattle.plain_queues.specs.declared.drive.Stop.TheVariants.{Asked, Ended}
+use Rattle.plain_queues.specs.Alone.{answer_in, words_then, room_then, stepped, StopsFrom, StopsIn}
+use Rattle.plain_queues.proofs.Alone.{Runs, Halts}
 use Rattle.plain.proofs.Walks.{WalksFrom, Walks, OnEnd}
 
 module _ {C M E : Type 0} where

@@ -13,12 +13,12 @@ use Rattle.steps.specs.declared.atomic.Store.{Store}
 use Rattle.steps.specs.declared.atomic.StoreStage.TheVariants as stores
 use Rattle.steps.specs.declared.atomic.Load.{Load}
 use Rattle.steps.specs.declared.atomic.LoadStage.TheVariants as loads
-use Rattle.plain.specs.Alone.{EndsFrom, EndsIn, BehavesAs}
-use Rattle.plain.specs.Queues.{words_from}
+use Rattle.plain_queues.specs.Alone.{EndsFrom, EndsIn, BehavesAs}
+use Rattle.plain_queues.specs.Queues.{words_from}
 use Rattle.plain.specs.Value.{value_in, Represents}
-use Rattle.plain.proofs.Alone.{Runs}
-use Rattle.plain.proofs.Words as words
-use Rattle.plain.proofs.Words.{Room, words_same, words_all, stored_length, stored_other, stored_words, read_in, value_read}
+use Rattle.plain_queues.proofs.Alone.{Runs}
+use Rattle.plain_queues.proofs.Words as words
+use Rattle.plain_queues.proofs.Words.{Room, words_same, words_all, stored_length, stored_other, stored_words, read_in, value_read}
 
 -- a cell lies within the words
 cell_within : (size p : ℕ) → cell_word size p + size ≤ 2 + 2 * size

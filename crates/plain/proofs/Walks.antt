@@ -2,10 +2,10 @@
 -- call within another gives that of the outer call, and a walk gives `Halts` or `Runs`.
 use Rattle.std.proofs.Common.{◌≡◌, ℕ, zero, suc, ◌+◌, ◌^◌, ◌-◌, ◌≤◌, List, refl, sym, subst, arith}
 use Rattle.plain.proofs.Names.{Want, After, GoOn, Done}
-use Rattle.plain.specs.declared.drive.Stop.{Stop}
-use Rattle.plain.specs.declared.drive.Stop.TheVariants.{Asked, Ended}
-use Rattle.plain.specs.Alone.{answer_in, words_then, room_then, goes, stepped, StopsFrom, StopsIn}
-use Rattle.plain.proofs.Alone.{Runs, Halts}
+use Rattle.plain_queues.specs.declared.drive.Stop.{Stop}
+use Rattle.plain_queues.specs.declared.drive.Stop.TheVariants.{Asked, Ended}
+use Rattle.plain_queues.specs.Alone.{answer_in, words_then, room_then, goes, stepped, StopsFrom, StopsIn}
+use Rattle.plain_queues.proofs.Alone.{Runs, Halts}
 
 -- a sum that computes in its first number, as a number of steps has to
 abbrev pub plus : ℕ → ℕ → ℕ

@@ -14,7 +14,7 @@ use Rattle.steps.specs.declared.container.enums.ContainerAddFailure.{ContainerAd
 use Rattle.steps.specs.declared.container.enums.ContainerRemoveError.{ContainerRemoveError}
 use Rattle.steps.specs.declared.container.enums.ContainerRemoveError.TheVariants.{ContainerHandleNotOwnedByContainer}
 use Rattle.steps.specs.declared.container.handle.ContainerHandle.{ContainerHandle}
-use Rattle.plain.specs.Queues.{words_from}
+use Rattle.plain_queues.specs.Queues.{words_from}
 use Rattle.plain.specs.Robust.{owners_in}
 
 -- what a container has at one moment

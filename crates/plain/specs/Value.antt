@@ -2,7 +2,7 @@
 use Rattle.std.specs.Prelude.{◌≡◌, ◌<◌, ℕ, ◌+◌, ◌*◌, ◌^◌, List, length, slice_index}
 use Rattle.steps.specs.Atomic.{before_version, cell_word}
 use Rattle.steps.specs.Objects.Values.{Versioned}
-use Rattle.plain.specs.Queues.{words_from}
+use Rattle.plain_queues.specs.Queues.{words_from}
 
 -- the value that the words say, with its version: it stands in the cell of the version before
 abbrev pub value_in : {V : Type 0} → (List ℕ → V) → ℕ → List ℕ → Versioned V

@@ -3,12 +3,12 @@ ghost use Rattle.std.specs.Prelude.{◌≡◌, ◌<◌, ◌-◌, ◌^◌, ◌⊎
 ghost use Rattle.steps.specs.Enums.{capacity_refusal};
 ghost use Rattle.steps.specs.Objects.Places.{Places, unset, has, with_place, standing, next_place, after_next, emptied};
 ghost use Rattle.steps.specs.declared.enums.UniqueIndexCreationError.TheVariants.{NoMemory};
-ghost use Rattle.plain.specs.Alone.{BehavesAs};
+ghost use Rattle.plain_queues.specs.Alone.{BehavesAs};
 ghost use Rattle.plain.specs.Bits.{places_in, Represents};
 ghost use Rattle.plain.specs.Visits.{Takes, WasCalled};
 
-use crate::drive::drive;
 use crate::swaps::{end_of_element, swap_next, visit_element};
+use plain_queues::drive::drive;
 use std::alloc::Global;
 use std::marker::Model;
 use steps::bits::bit_set::{ResetNext, Set};

@@ -2,12 +2,12 @@
 ghost use Rattle.std.specs.Prelude.{◌≡◌, ◌⊎◌, ◌↔◌, IsTrue, IsFalse, not, None, IfOk, IfErr, OnOk, ◌-◌, ◌==◌, ◌^◌, Some};
 ghost use Rattle.steps.specs.Enums.{capacity_refusal};
 ghost use Rattle.steps.specs.declared.enums.UniqueIndexCreationError.TheVariants.{NoMemory};
-ghost use Rattle.plain.specs.Alone.{BehavesAs};
+ghost use Rattle.plain_queues.specs.Alone.{BehavesAs};
 ghost use Rattle.plain.specs.Contents.{Contents, opened, capacity, is_locked, number, counted, added, after_add};
 ghost use Rattle.plain.specs.Contents.{removed, after_remove, replaced, after_replace, contents_in, Holds};
 ghost use Rattle.plain.specs.States.{snapshot_of, blank, IsStateOf, IsSettled, updated, Brought};
 
-use crate::drive::drive;
+use plain_queues::drive::drive;
 use std::alloc::Global;
 use std::marker::{Model, PhantomData};
 use steps::container::add::{Add, Owned};

@@ -5,8 +5,8 @@ ghost use Rattle.steps.specs.Objects.Counts.{counted, states, uncounted};
 ghost use Rattle.steps.specs.declared.enums.UniqueIndexCreationError.TheVariants.{NoMemory};
 ghost use Rattle.plain.specs.Visits.{Takes, WasCalled};
 
-use crate::drive::drive;
 use crate::swaps::{call_counted, swap_next};
+use plain_queues::drive::drive;
 use std::alloc::Global;
 use std::marker::Model;
 use steps::bits::counting_bit_set::{BitState, MAX_COUNT, Set};

@@ -4,12 +4,12 @@ ghost use Rattle.steps.specs.Enums.{capacity_refusal};
 ghost use Rattle.steps.specs.declared.enums.UniqueIndexCreationError.TheVariants.{NoMemory};
 ghost use Rattle.steps.specs.Objects.Owners.{Owners, opened_at, capacity, is_locked, state_of, raised, indices_of};
 ghost use Rattle.steps.specs.Objects.Owners.{to_recover, borrowed, acquired, after_acquire, released, after_release};
-ghost use Rattle.plain.specs.Alone.{BehavesAs};
+ghost use Rattle.plain_queues.specs.Alone.{BehavesAs};
 ghost use Rattle.plain.specs.Callable.{TakesIndices, HasFound, TakesQuestions, TakesFreed, HasRecovered};
 ghost use Rattle.plain.specs.Robust.{owners_in, Represents};
 
 use crate::answers::{as_answer, as_yes, index_in};
-use crate::drive::{Stop, drive, drive_to_stop};
+use plain_queues::drive::{Stop, drive, drive_to_stop};
 use std::alloc::Global;
 use std::marker::Model;
 use steps::ask::{After, Question};

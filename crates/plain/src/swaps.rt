@@ -4,7 +4,7 @@ ghost use Rattle.std.specs.List.{FoldsTo};
 ghost use Rattle.plain.specs.Bits.{standing_in};
 ghost use Rattle.plain.specs.Visits.{Takes};
 
-use crate::drive::step;
+use plain_queues::drive::step;
 use steps::ask::After;
 use steps::bits::counting_bit_set::BitState;
 use steps::bits::flags::{has_flag, without_flag};

@@ -4,10 +4,10 @@ ghost use Rattle.steps.specs.Enums.{capacity_refusal};
 ghost use Rattle.steps.specs.Objects.Stacks.{Stack, IsOut, is_free, opened, acquired, after_acquire, released, released_or_locked, release_state, out};
 ghost use Rattle.steps.specs.declared.enums.UniqueIndexCreationError.TheVariants.{NoMemory};
 ghost use Rattle.steps.specs.declared.indices.enums.ReleaseState.TheVariants.{Unlocked};
-ghost use Rattle.plain.specs.Alone.{BehavesAs};
+ghost use Rattle.plain_queues.specs.Alone.{BehavesAs};
 ghost use Rattle.plain.specs.Unique.{stack_in, Represents};
 
-use crate::drive::drive;
+use plain_queues::drive::drive;
 use std::alloc::{AllocError, Global};
 use std::marker::Model;
 use steps::enums::{UniqueIndexCreationError, capacity_refusal};

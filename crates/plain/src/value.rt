@@ -2,10 +2,10 @@
 ghost use Rattle.std.specs.Prelude.{◌≡◌, ◌≤◌, IfOk, IfErr, slice_index};
 ghost use Rattle.steps.specs.Objects.Values.{Versioned, has_version, stored};
 ghost use Rattle.steps.specs.declared.enums.UniqueIndexCreationError.TheVariants.{NoMemory};
-ghost use Rattle.plain.specs.Alone.{BehavesAs};
+ghost use Rattle.plain_queues.specs.Alone.{BehavesAs};
 ghost use Rattle.plain.specs.Value.{value_in, Represents};
 
-use crate::drive::drive;
+use plain_queues::drive::drive;
 use std::alloc::Global;
 use std::marker::{Model, PhantomData};
 use steps::atomic::version::Version;

@@ -1,13 +1,12 @@
 -- What holds of a run over bytes that were read, for a caller that knows the input, and what is told on the
 -- errors' writer.
 use Rattle.std.proofs.Common.{◌≡◌, ℕ, Option, Some, None, Result, Ok, Err, List, [], subst, IfSome}
-use Rattle.std.specs.Io.KnownBytes.{Appends}
 use Rattle.std.proofs.KnownBytes.{Appends-nil}
 use Rattle.texts.specs.declared.error.ScheduleError.{ScheduleError}
 use Rattle.texts.specs.declared.error.ScheduleError.TheVariants.{Malformed, ReadFailed, WriteFailed, NoMemory}
 use Rattle.schedule.specs.Run.{IsRun}
 use Rattle.schedule.specs.Told.{TellsMore}
-use Rattle.schedule.specs.Written.{AppendsPart, Writes, IsUnread}
+use Rattle.schedule.specs.Written.{AppendsPart, IsUnread}
 
 -- bytes equal to the known ones, if they are known, are equal to what those are equal to
 same_input : (known : Option (List ℕ)) (one other : List ℕ) → IfSome known (λ bytes. bytes ≡ one) → one ≡ other → IfSome known (λ bytes. bytes ≡ other)
@@ -32,9 +31,3 @@ run_unread known (Malformed line cause) p = absurd p
 -- a line of which a beginning was written, and nothing behind it, is told
 pub told_alone : (old new : Option (List ℕ)) (line : List ℕ) → AppendsPart old new line → TellsMore old new line
 told_alone old new line p = (new, p, [], Appends-nil new)
-
--- a write of a text, whether it succeeds or fails, has written some bytes behind those that stood
-pub wrote_some : (old new : Option (List ℕ)) (r : Result (Unit {0}) ScheduleError) (text : List ℕ)
-    → Writes old new r text → (more : List ℕ) × Appends old new more
-wrote_some old new (Ok u) text p = (text, p)
-wrote_some old new (Err e) text p = (p.1.0, p.1.3)

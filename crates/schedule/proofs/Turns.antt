@@ -17,9 +17,8 @@ use Rattle.model.specs.World.{World, Trace, flight_in}
 use Rattle.model.specs.Refusals.{refusal_of, IsRefusal, is_going, is_due, goes}
 use Rattle.model.specs.Turns.{world_after, events_of, after_turn, after_turns, AreAllowed}
 use Rattle.model.proofs.Rows.{passes, row_passed}
-use Rattle.machine.specs.declared.Stopped.{Stopped}
+use Rattle.machine_parts.specs.declared.running.Stopped.{Stopped}
 use Rattle.texts.specs.declared.error.ScheduleError.{ScheduleError}
-use Rattle.texts.specs.declared.error.ScheduleError.TheVariants.{WriteFailed}
 use Rattle.texts.specs.Print.{event_text, events_text, refusal_text}
 use Rattle.schedule.specs.Written.{AppendsPart, Writes}
 use Rattle.schedule.specs.Output.{Outcome, outcome, outcome_as, refusal_where, State, Printed, after_text, printed, goes_on, nexts, commanded}

@@ -5,7 +5,7 @@ use Rattle.std.proofs.KnownBytes.{Appends-trans, Appends-nil, Appends-kept}
 use Rattle.std.proofs.lemmas.List.{at_drop_more}
 use Rattle.model.specs.declared.event.Event.{Event}
 use Rattle.texts.specs.Print.{event_text, events_text}
-use Rattle.schedule.specs.Written.{AppendsPart}
+use Rattle.schedule.specs.Written.{AppendsPart, GrowsBySome}
 
 -- all of a first text was written and a beginning of a second one: together a beginning of both
 pub AppendsPart_then : (a b c : Option (List ℕ)) (done text : List ℕ) → Appends a b done → AppendsPart b c text → AppendsPart a c (done ++ text)
@@ -18,6 +18,10 @@ AppendsPart_more a b text more q = (q.0, q.1 ++ more, sym (append_assoc q.0 q.1 
 -- a writer that has grown by nothing has grown by a beginning of any text
 pub AppendsPart_nil : (a : Option (List ℕ)) (text : List ℕ) → AppendsPart a a text
 AppendsPart_nil a text = ([], text, refl, Appends-nil a)
+
+-- a writer that has grown twice has grown by both together
+pub grows_then : (a b c : Option (List ℕ)) → GrowsBySome a b → GrowsBySome b c → GrowsBySome a c
+grows_then a b c p q = (p.0 ++ q.0, Appends-trans a b c p.0 q.0 p.1 q.1)
 
 -- ---- a write that took `count` bytes of what is left, and one that failed
 

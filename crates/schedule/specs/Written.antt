@@ -9,6 +9,10 @@ abbrev pub AppendsPart : Option (List ℕ) → Option (List ℕ) → List ℕ �
 AppendsPart old new text =
     (part : List ℕ) × (rest : List ℕ) × (part ++ rest ≡ text) × Appends old new part
 
+-- some bytes were written, if any
+abbrev pub GrowsBySome : Option (List ℕ) → Option (List ℕ) → Type 0
+GrowsBySome old new = (more : List ℕ) × Appends old new more
+
 -- all of the text was written, or a write failed after a beginning of it
 abbrev pub Writes : Option (List ℕ) → Option (List ℕ) → Result (Unit {0}) ScheduleError
     → List ℕ → Type 0

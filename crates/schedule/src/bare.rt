@@ -3,10 +3,10 @@
 use crate::explained::run_and_explain;
 use crate::runs::{self, machine_of, run_and_tell, run_in};
 use crate::told::status;
-use machine::event::Event;
-use machine::party::Progress;
-use machine::turn::{Kind, Refusal, Shape, Turn};
-use machine::{Machine, Stopped};
+use machine_parts::running::Running;
+use model::event::{Event, Start};
+use model::party::Progress;
+use model::turn::{Kind, Refusal, Shape, Turn};
 use std::alloc::{Allocator, Global};
 use std::io::{Read, Write};
 use std::str;
@@ -20,6 +20,8 @@ use texts::line::Line;
 /// What takes turns: a machine, as a bound. A function over a type parameter with this bound is proved
 /// without the types of which a machine is made.
 pub trait TakesTurns<T: Words> {
+    fn forget(&mut self);
+
     fn step(&mut self, turn: Turn<T>) -> Result<(), Refusal>;
 
     fn words(&self) -> &[u64];
@@ -28,34 +30,44 @@ pub trait TakesTurns<T: Words> {
 
     fn under_way(&self, party: u32) -> Option<Progress>;
 
+    fn start(&self, party: u32) -> Option<Start<T>>;
+
     fn is_going(&self, party: u32) -> bool;
 
     fn state(&self, party: u32) -> Option<&ContainerState<T>>;
 }
 
-impl<T: Words> TakesTurns<T> for Machine<T> {
+impl<T: Words> TakesTurns<T> for Running<T> {
+    fn forget(&mut self) {
+        Running::forget(self)
+    }
+
     fn step(&mut self, turn: Turn<T>) -> Result<(), Refusal> {
-        step(self, turn)
+        Running::step(self, turn)
     }
 
     fn words(&self) -> &[u64] {
-        Machine::words(self)
+        Running::words(self)
     }
 
     fn events(&self) -> &[Event<T>] {
-        Machine::events(self)
+        Running::events(self)
     }
 
     fn under_way(&self, party: u32) -> Option<Progress> {
-        under_way(self, party)
+        Running::under_way(self, party)
+    }
+
+    fn start(&self, party: u32) -> Option<Start<T>> {
+        Running::start(self, party)
     }
 
     fn is_going(&self, party: u32) -> bool {
-        is_going(self, party)
+        Running::is_going(self, party)
     }
 
     fn state(&self, party: u32) -> Option<&ContainerState<T>> {
-        state(self, party)
+        Running::state(self, party)
     }
 }
 
@@ -64,54 +76,13 @@ pub fn made_of<T: Words>(
     alloc: Global,
     shape: Shape,
     parties: u32,
-) -> Result<Machine<T>, UniqueIndexCreationError> {
-    Machine::new(alloc, shape, parties)
-}
-
-/// The machine of a first line that was read, or None where its capacity is not admitted or there is no memory.
-pub fn made(alloc: Global, setup: Setup) -> Option<Machine<u128>> {
-    made_of(alloc, setup.shape, setup.parties).ok()
+) -> Result<Running<T>, UniqueIndexCreationError> {
+    Running::new(alloc, shape, parties)
 }
 
 /// The machine of a first line that was read. The error says why there is none.
-pub fn opened(alloc: Global, setup: Setup) -> Result<Machine<u128>, ScheduleError> {
+pub fn opened(alloc: Global, setup: Setup) -> Result<Running<u128>, ScheduleError> {
     runs::opened(alloc, setup)
-}
-
-/// Takes one turn. The error says why it was refused.
-pub fn step<T: Words>(machine: &mut Machine<T>, turn: Turn<T>) -> Result<(), Refusal> {
-    machine.step(turn)
-}
-
-/// Takes the turns up to the first that is refused, and answers how many these are.
-pub fn run<T: Words>(machine: &mut Machine<T>, turns: &[Turn<T>]) -> usize {
-    machine.run(turns)
-}
-
-/// Takes the turns up to the first that is refused. The error says how many were taken, and why the next was refused.
-pub fn run_all<T: Words>(machine: &mut Machine<T>, turns: &[Turn<T>]) -> Result<(), Stopped> {
-    machine.run_all(turns)
-}
-
-/// Takes up to `most` turns of the party's call. The error says how many were taken, and why
-/// the next was refused.
-pub fn nexts<T: Words>(machine: &mut Machine<T>, party: u32, most: u64) -> Result<(), Stopped> {
-    machine.nexts(party, most)
-}
-
-/// Whether the party has a call under way that needs no decision.
-pub fn is_going<T: Words>(machine: &Machine<T>, party: u32) -> bool {
-    machine.is_going(party)
-}
-
-/// How far the party's latest call has come.
-pub fn under_way<T: Words>(machine: &Machine<T>, party: u32) -> Option<Progress> {
-    machine.under_way(party)
-}
-
-/// What the party's state of a container shows.
-pub fn state<T: Words>(machine: &Machine<T>, party: u32) -> Option<&ContainerState<T>> {
-    machine.state(party)
 }
 
 /// Reads the first line, whatever the capacity is.

@@ -2,13 +2,14 @@
 ghost use Rattle.std.specs.Prelude.{◌≡◌, IfErr};
 ghost use Rattle.std.specs.Io.KnownBytes.{Keeps};
 ghost use Rattle.texts.specs.Print.{events_text, refusal_text};
-ghost use Rattle.schedule.specs.Written.{Writes};
+ghost use Rattle.schedule.specs.Written.{Writes, GrowsBySome};
 
-use machine::event::Event;
-use machine::turn::Refusal;
+use model::event::Event;
+use model::turn::Refusal;
 use std::io::{ErrorKind, Write};
 use texts::error::ScheduleError;
 use texts::line::Line;
+use texts::pen::Pen;
 
 /// Writes all of the bytes. A write that was interrupted is tried again; any other failure, and a write that takes
 /// nothing, is `WriteFailed`, after a beginning of the bytes.
@@ -31,6 +32,25 @@ pub fn put<W: Write>(writer: &mut W, bytes: &[u8]) -> Result<(), ScheduleError>
         }
     }
     Err(ScheduleError::WriteFailed)
+}
+
+/// Writes what the pen has, and empties it, once that is more than `least` bytes. Where memory was refused to the pen
+/// nothing is written.
+pub fn put_pen<W: Write>(writer: &mut W, pen: &mut Pen, least: usize) -> Result<(), ScheduleError>
+    ensures { GrowsBySome (W.contents writer.old) (W.contents writer.new) }
+{
+    let Ok(text) = pen.text() else {
+        return Err(ScheduleError::NoMemory);
+    };
+    if text.len() <= least {
+        return Ok(());
+    }
+    match put(writer, text.as_bytes()) {
+        Ok(()) => {}
+        Err(e) => return Err(e),
+    }
+    pen.clear();
+    Ok(())
 }
 
 /// Writes the lines of the events, or a beginning of them where a write fails. Each is made in the room of `line`.

@@ -13,9 +13,9 @@ ghost use Rattle.texts.specs.declared.error.ScheduleError.{ScheduleError};
 use crate::input::whole_input;
 use crate::output::{flush, put_events, put_refusal};
 use crate::told::status;
-use machine::Machine;
-use machine::event::Event;
-use machine::turn::{Kind, Turn, shape_error};
+use machine_parts::running::Running;
+use model::event::Event;
+use model::turn::{Kind, Turn, shape_error};
 use std::alloc::{Allocator, Global};
 use std::io::{BufWriter, Read, Write};
 use steps::enums::UniqueIndexCreationError;
@@ -27,7 +27,7 @@ use texts::text::{Rest, lines};
 // Takes one turn, and prints its events, each made in the room of `line`, or why it was refused.
 #[inline(always)]
 fn take_turn<W: Write>(
-    machine: &mut Machine<u128>,
+    machine: &mut Running<u128>,
     turn: Turn<u128>,
     line: &mut Line,
     writer: &mut W,
@@ -53,7 +53,7 @@ fn events_from(events: &[Event<u128>], from: usize) -> &[Event<u128>]
 // Takes up to `most` turns of the party's call. It prints their events once all are taken,
 // and why one was refused.
 fn take_nexts<W: Write>(
-    machine: &mut Machine<u128>,
+    machine: &mut Running<u128>,
     party: u32,
     most: u64,
     line: &mut Line,
@@ -81,7 +81,7 @@ fn take_nexts<W: Write>(
 
 // Does what a line asks for.
 fn do_command<W: Write>(
-    machine: &mut Machine<u128>,
+    machine: &mut Running<u128>,
     command: Command,
     line: &mut Line,
     writer: &mut W,
@@ -89,6 +89,7 @@ fn do_command<W: Write>(
     ensures { Prints (commanded command) (world_of machine.old) (world_of machine.new)
         (W.contents writer.old) (W.contents writer.new) result }
 {
+    machine.forget();
     match command {
         Command::Once(turn) => take_turn(machine, turn, line, writer),
         Command::Times(party, most) => take_nexts(machine, party, most, line, writer),
@@ -99,7 +100,7 @@ fn do_command<W: Write>(
 fn do_lines<W: Write>(
     kind: Kind,
     lines: Rest<'_>,
-    machine: &mut Machine<u128>,
+    machine: &mut Running<u128>,
     writer: &mut W,
 ) -> Result<(), ScheduleError>
     requires { length (words_left lines) < 2 ^ 63 }
@@ -141,12 +142,12 @@ fn capacity_cause(error: UniqueIndexCreationError) -> Option<Cause>
 }
 
 /// Makes the machine of a first line that was read. It is here that its capacity is tested.
-pub fn opened(alloc: Global, setup: Setup) -> Result<Machine<u128>, ScheduleError>
+pub fn opened(alloc: Global, setup: Setup) -> Result<Running<u128>, ScheduleError>
     ensures ok { IfOk result (λ machine. world_of machine ≡ (trace_of setup).world) }
     ensures admitted { OnOk result (setup_error setup ≡ None) }
     ensures refused { IfErr result (IsUnopened setup) }
 {
-    match Machine::new(alloc, setup.shape, setup.parties) {
+    match Running::new(alloc, setup.shape, setup.parties) {
         Ok(machine) => Ok(machine),
         Err(error) => match capacity_cause(error) {
             Some(cause) => Err(ScheduleError::Malformed(1, cause)),
@@ -189,6 +190,21 @@ fn do_text<W: Write>(alloc: Global, input: &[u8], writer: &mut W) -> Result<(), 
     }
 }
 
+// Runs a whole text.
+fn run_text<W: Write>(alloc: Global, input: &[u8], writer: &mut W) -> Result<(), ScheduleError>
+    requires { length input.now < 2 ^ 63 }
+    ensures { IsRun (Some input.now) (W.contents writer.old) (W.contents writer.new) result }
+{
+    match do_text(alloc, input, writer) {
+        Ok(()) => flush(writer),
+        Err(ScheduleError::Malformed(line, cause)) => match flush(writer) {
+            Ok(()) => Err(ScheduleError::Malformed(line, cause)),
+            Err(e) => Err(e),
+        },
+        Err(e) => Err(e),
+    }
+}
+
 /// The same as `run`, with the input kept in the memory of `buffers`, and the machine in that of `alloc`.
 pub fn run_in<A: Allocator, R: Read, W: Write>(
     buffers: A,
@@ -203,14 +219,7 @@ pub fn run_in<A: Allocator, R: Read, W: Write>(
         Ok(input) => input,
         Err(e) => return Err(e),
     };
-    match do_text(alloc, &input, writer) {
-        Ok(()) => flush(writer),
-        Err(ScheduleError::Malformed(line, cause)) => match flush(writer) {
-            Ok(()) => Err(ScheduleError::Malformed(line, cause)),
-            Err(e) => Err(e),
-        },
-        Err(e) => Err(e),
-    }
+    run_text(alloc, &input, writer)
 }
 
 /// Reads a schedule to its end, and then writes what each of its turns did, line by line.
@@ -247,6 +256,27 @@ pub fn run_and_tell<A: Allocator, R: Read, W: Write, E: Write>(
 {
     let ran = match BufWriter::new(buffers, output) {
         Ok(mut writer) => run(alloc, reader, &mut writer),
+        Err(_) => Err(ScheduleError::NoMemory),
+    };
+    status(&ran, errors)
+}
+
+/// The same for a text that was read.
+pub fn run_text_and_tell<A: Allocator, W: Write, E: Write>(
+    buffers: A,
+    alloc: Global,
+    input: &[u8],
+    output: &mut W,
+    errors: &mut E,
+) -> u8
+    requires { length input.now < 2 ^ 63 }
+    ensures { (ran : Result (Unit {0}) ScheduleError)
+        × (before : Option (List ℕ)) × (after : Option (List ℕ))
+        × IsRun (Some input.now) before after ran × (result ≡ exit_of ran)
+        × AppendsPart (E.contents errors.old) (E.contents errors.new) (message_text ran) }
+{
+    let ran = match BufWriter::new(buffers, output) {
+        Ok(mut writer) => run_text(alloc, input, &mut writer),
         Err(_) => Err(ScheduleError::NoMemory),
     };
     status(&ran, errors)

@@ -2,7 +2,7 @@
 ghost use Rattle.std.specs.Prelude.{◌≡◌, None, MatchOption};
 ghost use Rattle.schedule.specs.Wrong.{cause_of, IsWrong};
 
-use machine::turn::Kind;
+use model::turn::Kind;
 use texts::error::Cause;
 use texts::grammar::{command_of, setup_of};
 

@@ -26,10 +26,13 @@ fn publish(rt: &impl Wait, publisher: &mut Publisher<'_, Vec<u8>>) -> u8 {
 fn receive(rt: &impl Wait, subscriber: &mut Subscriber<'_, Vec<u8>>) -> Option<u8> {
     for _ in rt.forever() {
         if let Some(sample) = subscriber.receive(rt) {
-            let first = *subscriber.read(&sample).ok()?.get().first()?;
+            let first = match subscriber.read(&sample) {
+                Ok(reading) => reading.get().first().copied(),
+                Err(_) => None,
+            };
             subscriber.give_back(sample);
-            if first == 9 {
-                return Some(first);
+            if first? == 9 {
+                return first;
             }
         }
     }

@@ -1,7 +1,7 @@
 //! Buses with few and with many subscribers, and with more slots than a byte or a word has bits. Each
 //! subscriber reads each record just as it was published, and all records and slots come back. Who joins in a
 //! freed lane finds nothing of the one who had it before.
-use crate::rooms::{publish, read};
+use crate::rooms::{finds_none, publish, read};
 use crate::stage::{Failure, Plays, check, on_new_bus, some};
 use crate::words::Words;
 use lock_free::mpmc::container::OwnerId;
@@ -55,7 +55,7 @@ fn go_round(
     for subscriber in all.iter_mut() {
         check(read(rt, subscriber, first, WORDS) == Some(first))?;
         check(read(rt, subscriber, second, WORDS) == Some(second))?;
-        check(subscriber.receive(rt).is_none())?;
+        check(finds_none(rt, subscriber))?;
     }
     publisher.collect();
     Ok(publisher.borrowed())
@@ -79,7 +79,7 @@ fn leave_all(
     check(right && publisher.is_free() && publisher.borrowed() == 0)?;
     let mut others = join_all(rt, alloc, publisher, lanes)?;
     for subscriber in others.iter_mut() {
-        right &= subscriber.receive(rt).is_none();
+        right &= finds_none(rt, subscriber);
         right &= subscriber.expected() == publisher.next_number();
     }
     check(go_round(rt, publisher, &mut others)? == 0 && right)

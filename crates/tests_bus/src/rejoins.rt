@@ -5,6 +5,7 @@ ghost use Rattle.std.specs.Prelude.{◌≡◌, IfSome};
 ghost use Rattle.zero_copy_bus.specs.Ends.{place_at, receives_queue, IsOfLane};
 ghost use Rattle.zero_copy_bus.specs.Relays.{HasPublished};
 
+use crate::rooms::finds_none;
 use crate::stage::{Failure, Plays, check, on_new_bus, some};
 use crate::words::Words;
 use lock_free::mpmc::container::OwnerId;
@@ -39,7 +40,9 @@ fn take_two(rt: &impl Wait, subscriber: &mut Subscriber<'_, Words>) -> bool
         return false;
     };
     let is_back = subscriber.give_back(sample);
-    let _kept = subscriber.receive(rt);
+    if let Some(kept) = subscriber.receive(rt) {
+        kept.keep();
+    }
     is_back
 }
 
@@ -125,7 +128,7 @@ impl Plays for ComesBackLate {
         let Err((_failure, mut again)) = subscriber.leave(rt) else {
             return Err(Failure::Wrong);
         };
-        let has_received = again.receive(rt).is_some();
+        let has_received = !finds_none(rt, &mut again);
         publisher.update(rt);
         let is_out = !publisher.is_free();
         drop(again);

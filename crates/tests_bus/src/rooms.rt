@@ -10,6 +10,7 @@ use zero_copy_bus::bus::Sizes;
 use zero_copy_bus::error::LoanFailure;
 use zero_copy_bus::publisher::{Loan, Publisher};
 use zero_copy_bus::subscriber::Subscriber;
+use zero_copy_slots::Keeps;
 
 /// The two subscribers of a bus of these tests.
 #[derive(Clone, Copy)]
@@ -139,23 +140,40 @@ pub fn read(
     }
 }
 
+/// Whether no record waits. One that does is received and never given back.
+pub fn finds_none<K: Keeps<Words>>(
+    rt: &impl Wait,
+    subscriber: &mut Subscriber<'_, Words, K>,
+) -> bool {
+    match subscriber.receive(rt) {
+        Some(sample) => {
+            sample.keep();
+            false
+        }
+        None => true,
+    }
+}
+
 /// Receives a record, forgets its reading, and gives it back. The reading then holds the slot for good. False
 /// where none of this succeeds.
 fn forget_reading(rt: &impl Wait, subscriber: &mut Subscriber<'_, Words>) -> bool {
     let Some(sample) = subscriber.receive(rt) else {
         return false;
     };
-    let Ok(reading) = subscriber.read(&sample) else {
-        return false;
+    let is_read = match subscriber.read(&sample) {
+        Ok(reading) => {
+            forget(reading);
+            true
+        }
+        Err(_) => false,
     };
-    forget(reading);
-    subscriber.give_back(sample)
+    subscriber.give_back(sample) && is_read
 }
 
 /// Whether a loan is refused because this slot is still read.
 fn is_still_read(rt: &impl Wait, publisher: &mut Publisher<'_, Words>, slot: u32) -> bool {
     match publisher.loan(rt) {
-        Err(LoanFailure::StillRead(found)) => found == slot,
+        Err(LoanFailure::StillRead(found, _)) => found == slot,
         _ => false,
     }
 }
@@ -220,10 +238,12 @@ fn read_on(rt: &impl Wait, publisher: &mut Publisher<'_, Words>, room: &mut Room
         return false;
     };
     let slot = sample.slot();
-    let Ok(reading) = other.read(&sample) else {
+    let read = other.read(&sample);
+    let is_back = one.give_back(sample);
+    let Ok(reading) = read else {
         return false;
     };
-    if !one.give_back(sample) {
+    if !is_back {
         return false;
     }
     publisher.collect();
@@ -251,7 +271,13 @@ impl<'a> Room<'a> {
                 None => false,
             },
             Step::Gets(who, tries, some) => match self.subscriber(who) {
-                Some(subscriber) => subscriber.receive_within(rt, tries).is_some() == some,
+                Some(subscriber) => match subscriber.receive_within(rt, tries) {
+                    Some(sample) => {
+                        sample.keep();
+                        some
+                    }
+                    None => !some,
+                },
                 None => false,
             },
             Step::Forgets(who) => match self.subscriber(who) {

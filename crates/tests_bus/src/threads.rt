@@ -236,9 +236,11 @@ fn receive_all(
     let (mut number, mut numbers) = (0u64, Sequence::from(0));
     for _ in 0..RECORDS {
         let sample = subscriber.receive_within(rt, TURNS)?;
-        let found = number_still(subscriber, &sample, looks)?;
+        let found = number_still(subscriber, &sample, looks);
+        let is_back = subscriber.give_back(sample);
+        let found = found?;
         numbers.follow(found)?;
-        if !subscriber.give_back(sample) {
+        if !is_back {
             return None;
         }
         number = number.wrapping_add(1);
@@ -282,7 +284,7 @@ fn die(
     let mut subscriber = seat.join(rt, owner).ok()?;
     shared.joined.fetch_add(1, Ordering::SeqCst);
     for _ in 0..KEPT {
-        subscriber.receive_within(rt, TURNS)?;
+        subscriber.receive_within(rt, TURNS)?.keep();
     }
     drop(subscriber);
     shared.dead.fetch_add(1, Ordering::SeqCst);

@@ -58,7 +58,9 @@ fn receive_early(
     right &= first.number() == 0 && second.number() == 1 && second.slot() != slot;
     right &= subscriber.give_back(first);
     let third = subscriber.receive_waiting(rt);
-    right && third.number() == 2 && third.slot() == slot
+    right &= third.number() == 2 && third.slot() == slot;
+    right &= subscriber.give_back(second);
+    right & subscriber.give_back(third)
 }
 
 /// Runs the publisher and the subscriber in two threads, and says whether both went well. `join` calls its
@@ -146,10 +148,11 @@ fn receive_in_turn(
         let Some(sample) = subscriber.receive_within(rt, TURNS) else {
             return number;
         };
-        if sample.number() != number || !wait_and_rest(loans, number.wrapping_add(1)) {
+        let is_right = sample.number() == number && wait_and_rest(loans, number.wrapping_add(1));
+        subscriber.give_back(sample);
+        if !is_right {
             return number;
         }
-        subscriber.give_back(sample);
     }
     ROUNDS
 }

@@ -183,7 +183,7 @@ fn values_of<T: Numbered>(rt: &impl Wait, block: &mut Block<'_>) -> Made {
         let list: plain::Queue<T> = list(block)?;
         return play_on(rt, block, Some(list));
     }
-    of_capacity!(typed::<T>, block.capacity, rt, block; 0 1 2 3 5 9 63 64 65 130 1000 5000 4_294_967_296)
+    of_capacity!(typed::<T>, block.capacity, rt, block; 0 1 2 3 5 9 63 64 65 128 130 1000 5000 4_294_967_296)
 }
 
 /// Plays the block on a queue of values between threads whose type has the capacity `N`. Its positions begin

@@ -137,11 +137,16 @@ fn wait_for_buffer<'a>(
     lender.acquire_waiting(rt)
 }
 
-/// Takes the pool's buffer `VALUES` times, adds 1 to the number that lies there, and gives it back. False
-/// where a buffer was refused or could not be given back.
-fn add_to_each(rt: &impl Wait, lender: &mut Lender<'_, u64>) -> bool {
+/// Takes the pool's buffer `VALUES` times, by a call that waits or by one that tries very often, adds 1 to the
+/// number that lies there, and gives it back. False where a buffer was refused or could not be given back.
+fn add_to_each(rt: &impl Wait, lender: &mut Lender<'_, u64>, waits: bool) -> bool {
     for _ in 0..VALUES {
-        let Ok(mut buffer) = wait_for_buffer(rt, lender) else {
+        let taken = if waits {
+            wait_for_buffer(rt, lender)
+        } else {
+            lender.acquire_within(rt, u64::MAX)
+        };
+        let Ok(mut buffer) = taken else {
             return false;
         };
         buffer.value = match buffer.value {
@@ -164,8 +169,8 @@ fn share<R: Threads + Wait + Sync>(rt: &R, alloc: Global) -> Option<bool> {
     let mut other = one.split()?;
     let added = thread::join(
         rt,
-        || add_to_each(rt, &mut one),
-        || add_to_each(rt, &mut other),
+        || add_to_each(rt, &mut one, true),
+        || add_to_each(rt, &mut other, false),
     );
     let buffer = one.acquire_within(rt, 3).ok()?;
     let mut right = added == (true, true) && buffer.value == Some(2 * VALUES);

@@ -110,6 +110,17 @@ fn forget_reading(receiver: &Receiver<'_, u64>, sample: &Sample) -> bool {
     }
 }
 
+/// Whether no value waits. One that does is received and given back.
+pub fn finds_none(rt: &impl Wait, receiver: &mut Receiver<'_, u64>) -> bool {
+    match receiver.receive(rt) {
+        Some(sample) => {
+            receiver.give_back(sample);
+            false
+        }
+        None => true,
+    }
+}
+
 /// Receives the next value, and gives it back. True if it has this number and is this value. With `forgets` a
 /// reading of it is forgotten before.
 fn read(
@@ -136,7 +147,7 @@ pub fn is_refused(rt: &impl Wait, sender: &mut Sender<'_, u64>, step: Step) -> b
         Step::HasNoPlace => matches!(&failure, LoanFailure::NoPlace(_)),
         Step::HasNoValue => matches!(&failure, LoanFailure::NoValue),
         Step::IsStillRead(place) => match &failure {
-            LoanFailure::StillRead(found) => *found == place,
+            LoanFailure::StillRead(found, _) => *found == place,
             _ => false,
         },
         _ => false,
@@ -206,7 +217,7 @@ impl<'a> Room<'a> {
             Step::Reads(number, value) => read(rt, &mut self.receiver, number, value, false),
             Step::ReadsOfRound(value) => read(rt, &mut self.receiver, round, value, false),
             Step::Forgets(number, value) => read(rt, &mut self.receiver, number, value, true),
-            Step::FindsNone => self.receiver.receive(rt).is_none(),
+            Step::FindsNone => finds_none(rt, &mut self.receiver),
             Step::TakesBack(place) => self.sender.take_back() == place,
             Step::IsNext(number) => self.sender.next_number() == number,
             Step::HasNoPlace | Step::HasNoValue | Step::IsStillRead(_) => is_refused(

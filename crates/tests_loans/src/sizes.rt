@@ -3,6 +3,7 @@
 ghost use Rattle.lock_free_loans.specs.Loan.Sender.{IsSame};
 ghost use Rattle.zero_copy_loans.specs.Ends.{sender_of, IsSameReceiver};
 
+use crate::rooms::finds_none;
 use std::alloc::Global;
 use std::sync::Wait;
 use std::test::Fail;
@@ -115,40 +116,44 @@ fn receive_next(rt: &impl Wait, receiver: &mut Receiver<'_, u64>, number: u64) -
     if is_right && sample.number() == number {
         Some(sample)
     } else {
+        receiver.give_back(sample);
         None
     }
 }
 
+/// Receives the values of the next `left` numbers, all of them before it gives one back, and the last one back first. True if they
+/// came in order, and none waits behind them.
+fn hold(rt: &impl Wait, receiver: &mut Receiver<'_, u64>, left: u64, number: u64) -> bool {
+    if left == 0 {
+        return finds_none(rt, receiver);
+    }
+    let Some(sample) = receive_next(rt, receiver, number) else {
+        return false;
+    };
+    let rest = hold(rt, receiver, left - 1, number.wrapping_add(1));
+    receiver.give_back(sample) && rest
+}
+
 /// Sends a value by each place, with the numbers from `first` on, and receives all of them before it gives
 /// one back. True if no further loan comes while all places are out, the values come in order, and each place
-/// is taken back. None where a value did not come or memory was refused.
+/// is taken back.
 fn go_round(
     rt: &impl Wait,
-    alloc: Global,
     sender: &mut Sender<'_, u64>,
     receiver: &mut Receiver<'_, u64>,
     places: u64,
     first: u64,
-) -> Option<bool> {
+) -> bool {
     let mut right = true;
     for _ in 0..places {
         right &= send_next(rt, sender);
     }
     right &= !send_next(rt, sender);
-    let mut samples = Vec::new(alloc);
-    for at in 0..places {
-        samples
-            .push(receive_next(rt, receiver, first.wrapping_add(at))?)
-            .ok()?;
-    }
-    right &= receiver.receive(rt).is_none();
-    for sample in samples {
-        right &= receiver.give_back(sample);
-    }
+    right &= hold(rt, receiver, places, first);
     for _ in 0..places {
         right &= sender.take_back().is_some();
     }
-    Some(right & sender.take_back().is_none())
+    right & sender.take_back().is_none()
 }
 
 /// Writes three times the number with which the value is sent.
@@ -229,8 +234,8 @@ fn through(rt: &impl Wait, alloc: Global, places: u32, room: u32) -> Option<bool
         return receive_each(rt, alloc, &mut sender, &mut receiver, room);
     }
     let many = places as u64;
-    let one = go_round(rt, alloc, &mut sender, &mut receiver, many, 0)?;
-    let other = go_round(rt, alloc, &mut sender, &mut receiver, many, many)?;
+    let one = go_round(rt, &mut sender, &mut receiver, many, 0);
+    let other = go_round(rt, &mut sender, &mut receiver, many, many);
     Some(one & other)
 }
 
@@ -305,7 +310,7 @@ fn go_on(rt: &impl Wait, alloc: Global) -> Option<bool> {
     let (sends_of, receives_of) = channel.open()?;
     let (_sender, mut receiver) = channel.ends_with(alloc, Vec::new(alloc), sends_of, receives_of)?;
     right &= give_back_next(rt, &mut receiver, 7)?;
-    Some(right & receiver.receive(rt).is_none())
+    Some(right & finds_none(rt, &mut receiver))
 }
 
 /// Numbers go on with the next ends of a channel, and a value that waited comes with its own number. If they

@@ -129,7 +129,9 @@ fn is_kept_by_another(rt: &impl Wait, room: &mut Room<'_>, another: &mut Room<'_
     let Some(sample) = another.receiver.receive(rt) else {
         return false;
     };
-    let Ok(reading) = room.receiver.read(&sample) else {
+    let read = room.receiver.read(&sample);
+    another.receiver.give_back(sample);
+    let Ok(reading) = read else {
         return false;
     };
     let mut right = *reading.get() == 11;

@@ -1,9 +1,9 @@
 //! The player of bare lines: the words of a structure, what its family keeps beside them, the calls of
 //! parties, and the lines that change or show them. Unlike a machine it lets a line write any word.
-use machine::event::{Event, Start};
-use machine::families::Registry;
-use machine::party::Progress;
-use machine::turn::{Kind, Refusal, Shape, Turn};
+use model::event::{Event, Start};
+use model::families::Registry;
+use model::party::Progress;
+use model::turn::{Kind, Refusal, Shape, Turn};
 use schedule::bare::{line_of, line_of_refusal, read_command, read_words, text_of};
 use schedule::grammar::Command;
 use schedule::pen::Pen;

@@ -1,9 +1,9 @@
 //! What a call that is stopped would do next, as the questions of bare lines ask (`tell`).
-use machine::families::Flight;
-use machine::families::bits::calls::BitsFlight;
-use machine::families::indices::calls::IndexFlight;
-use machine::families::indices::robust::calls::RobustFlight;
-use machine::families::queues::calls::{OverflowCall, QueueFlight};
+use model::families::Flight;
+use model::families::bits::calls::BitsFlight;
+use model::families::indices::calls::IndexFlight;
+use model::families::indices::robust::calls::RobustFlight;
+use model::families::queues::calls::{OverflowCall, QueueFlight};
 use schedule::pen::Pen;
 use steps::ask::{Ask, Op, Question, Want};
 use steps::indices::unique::AcquireStage;

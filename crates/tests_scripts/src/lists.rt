@@ -1,10 +1,9 @@
 //! Lists of thousands of turns that a machine takes in one run, and a run that stops at a
 //! turn that is refused.
-use machine::event::{Event, Start};
-use machine::families::queues::QueueStart;
-use machine::turn::{Kind, Refusal, Shape, Turn};
 use machine::{Machine, Stopped};
-use schedule::bare::{made_of, run, run_all};
+use model::event::{Event, Start};
+use model::families::queues::QueueStart;
+use model::turn::{Kind, Refusal, Shape, Turn};
 use std::alloc::Global;
 
 /// How often a number goes through the queue.
@@ -39,7 +38,7 @@ fn rounds(alloc: Global) -> Option<Vec<Turn<u128>>> {
 /// Whether the machine takes all turns of the list in one run. In the end 1,000 numbers have gone through,
 /// the cells hold the last three, and 8,004 events were written down.
 fn take_all(machine: &mut Machine<u128>, list: &[Turn<u128>]) -> bool {
-    run(machine, list) == list.len()
+    machine.run(list) == list.len()
         && machine.words() == [ROUNDS, ROUNDS, 0, 0, 999, 997, 998].as_slice()
         && machine.events().len() == 8004
 }
@@ -49,18 +48,18 @@ fn take_all(machine: &mut Machine<u128>, list: &[Turn<u128>]) -> bool {
 fn stop_right(machine: &mut Machine<u128>) -> bool {
     let busy = [Turn::Begin(1, POP), Turn::Begin(1, POP)];
     let idle = [Turn::Next(1), Turn::Next(1), Turn::Next(1)];
-    let last = Event::Finished(1, POP, machine::event::Answer::PoppedNone);
-    run(machine, &[Turn::Next(1), Turn::Begin(1, POP)]) == 0
+    let last = Event::Finished(1, POP, model::event::Answer::PoppedNone);
+    machine.run(&[Turn::Next(1), Turn::Begin(1, POP)]) == 0
         && stops(machine, &busy, 1, Refusal::Busy)
-        && run(machine, &busy) == 0
+        && machine.run(&busy) == 0
         && stops(machine, &idle, 2, Refusal::Idle)
         && machine.events().last() == Some(&last)
-        && run_all(machine, &[]).is_ok()
+        && machine.run_all(&[]).is_ok()
 }
 
 /// Whether the list stops after `taken` turns by this refusal.
 fn stops(machine: &mut Machine<u128>, list: &[Turn<u128>], taken: usize, refusal: Refusal) -> bool {
-    match run_all(machine, list) {
+    match machine.run_all(list) {
         Ok(()) => false,
         Err(stopped) => is_so(stopped, taken, refusal),
     }
@@ -77,7 +76,7 @@ pub fn are_taken(alloc: Global) -> bool {
     let Some(list) = rounds(alloc) else {
         return false;
     };
-    match made_of(alloc, Shape::Of(Kind::IndexQueue, 3), 2) {
+    match Machine::new(alloc, Shape::Of(Kind::IndexQueue, 3), 2) {
         Ok(mut machine) => take_all(&mut machine, &list) && stop_right(&mut machine),
         Err(_) => false,
     }

@@ -2,10 +2,10 @@
 //! all families, so their proofs contain the types of all of them.
 use crate::bare::{Calls, World};
 use crate::calls::tell;
-use machine::event::{Event, Start};
-use machine::families::{Beside, Registry};
-use machine::party::{Doing, Latest, Party, Progress, Seat};
-use machine::turn::{Kind, Refusal};
+use model::event::{Event, Start};
+use model::families::{Beside, Registry};
+use model::party::{Doing, Latest, Party, Progress, Seat};
+use model::turn::{Kind, Refusal};
 use schedule::pen::Pen;
 use std::alloc::Global;
 use std::collections::BTreeMap;

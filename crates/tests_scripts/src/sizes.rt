@@ -1,9 +1,8 @@
 //! Machines of a container, over values of one word, of two and of 128.
-use machine::Machine;
-use machine::event::{Answer, Event, Start};
-use machine::families::container::ContainerStart;
-use machine::turn::{Kind, Shape, Turn};
-use schedule::bare::{made_of, state, step};
+use model::event::{Answer, Event, Start};
+use model::families::container::ContainerStart;
+use model::turn::{Kind, Shape, Turn};
+use schedule::bare::{TakesTurns, made_of};
 use std::alloc::Global;
 use steps::enums::OwnerId;
 use steps::words::Words;
@@ -11,22 +10,24 @@ use tests_calls::long_values::Greatest;
 
 /// Whether the call takes `turns` turns after its begin, and the last event is its end with this answer.
 fn answers<T: Words + PartialEq>(
-    machine: &mut Machine<T>,
+    machine: &mut impl TakesTurns<T>,
     start: ContainerStart<T>,
     turns: usize,
     answer: Answer<T>,
 ) -> bool {
-    let mut taken = step(machine, Turn::Begin(0, Start::Container(start))).is_ok();
+    let mut taken = machine
+        .step(Turn::Begin(0, Start::Container(start)))
+        .is_ok();
     for _ in 0..turns {
-        taken &= step(machine, Turn::Next(0)).is_ok();
+        taken &= machine.step(Turn::Next(0)).is_ok();
     }
     let last = Event::Finished(0, Start::Container(start), answer);
     taken && machine.events().last() == Some(&last)
 }
 
 /// Whether the state of party 0 shows these two values at the indices 0 and 1.
-fn shows<T: Words + PartialEq>(machine: &Machine<T>, first: &T, second: &T) -> bool {
-    match state(machine, 0) {
+fn shows<T: Words + PartialEq>(machine: &impl TakesTurns<T>, first: &T, second: &T) -> bool {
+    match machine.state(0) {
         Some(state) => state.get(0) == Some(first) && state.get(1) == Some(second),
         None => false,
     }
@@ -36,7 +37,7 @@ fn shows<T: Words + PartialEq>(machine: &Machine<T>, first: &T, second: &T) -> b
 /// one step more for each further word of a value that it copies. A state shows the replaced value
 /// only after its update.
 fn goes_on<T: Words + PartialEq>(
-    machine: &mut Machine<T>,
+    machine: &mut impl TakesTurns<T>,
     first: T,
     second: T,
     owner: OwnerId,

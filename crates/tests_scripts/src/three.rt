@@ -1,10 +1,9 @@
 //! Machines over a type of three words: the queue of values, and the single value.
-use machine::Machine;
-use machine::event::{Answer, Event, Item, Start};
-use machine::families::atomic::AtomicStart;
-use machine::families::queues::QueueStart;
-use machine::turn::{Kind, Shape, Turn};
-use schedule::bare::{is_going, made_of, step};
+use model::event::{Answer, Event, Item, Start};
+use model::families::atomic::AtomicStart;
+use model::families::queues::QueueStart;
+use model::turn::{Kind, Shape, Turn};
+use schedule::bare::{TakesTurns, made_of};
 use std::alloc::Global;
 use tests_calls::long_values::Three;
 
@@ -124,19 +123,21 @@ const TOLD: [Event<Three>; 4] = [
 ];
 
 /// Whether this many turns of the party's call are taken.
-fn go(machine: &mut Machine<Three>, party: u32, turns: u64) -> bool {
+fn go(machine: &mut impl TakesTurns<Three>, party: u32, turns: u64) -> bool {
     let mut taken = true;
     for _ in 0..turns {
-        taken &= step(machine, Turn::Next(party)).is_ok();
+        taken &= machine.step(Turn::Next(party)).is_ok();
     }
     taken
 }
 
 /// Whether the row comes out as it says. A call that is under way goes on; otherwise the row's call begins.
-fn come_out(machine: &mut Machine<Three>, row: &Row) -> bool {
+fn come_out(machine: &mut impl TakesTurns<Three>, row: &Row) -> bool {
     let (party, start, turns, last, words) = row;
-    let begins = is_going(machine, *party)
-        || step(machine, Turn::Begin(*party, Start::Queues(*start))).is_ok();
+    let begins = machine.is_going(*party)
+        || machine
+            .step(Turn::Begin(*party, Start::Queues(*start)))
+            .is_ok();
     begins
         & go(machine, *party, *turns)
         & (machine.events().last() == Some(last))
@@ -144,7 +145,7 @@ fn come_out(machine: &mut Machine<Three>, row: &Row) -> bool {
 }
 
 /// The place of the first row that does not come out as it says, if any.
-fn wrong_row(machine: &mut Machine<Three>) -> Option<usize> {
+fn wrong_row(machine: &mut impl TakesTurns<Three>) -> Option<usize> {
     for (at, row) in ROWS.iter().enumerate() {
         if !come_out(machine, row) {
             return Some(at);
@@ -155,7 +156,7 @@ fn wrong_row(machine: &mut Machine<Three>) -> Option<usize> {
 
 /// The place of the first row that does not come out as it says. It is the number of rows if only the last
 /// events are wrong, and None if all is right.
-fn wrong_of_queue(machine: &mut Machine<Three>) -> Option<usize> {
+fn wrong_of_queue(machine: &mut impl TakesTurns<Three>) -> Option<usize> {
     match wrong_row(machine) {
         Some(at) => Some(at),
         None if machine.events().ends_with(&TOLD) => None,
@@ -181,20 +182,22 @@ const THREE_WORDS: [(u32, AtomicStart<Three>, u64, Answer<Three>); 6] = [
 
 /// Whether the call takes this many turns after its begin, and the last event is its end with this answer.
 fn answers(
-    machine: &mut Machine<Three>,
+    machine: &mut impl TakesTurns<Three>,
     party: u32,
     start: AtomicStart<Three>,
     turns: u64,
     answer: Answer<Three>,
 ) -> bool {
     let last = Event::Finished(party, Start::Atomic(start), answer);
-    step(machine, Turn::Begin(party, Start::Atomic(start))).is_ok()
+    machine
+        .step(Turn::Begin(party, Start::Atomic(start)))
+        .is_ok()
         & go(machine, party, turns)
         & (machine.events().last() == Some(&last))
 }
 
 /// The place of the first call of `THREE_WORDS` that does not come out as it says, if any.
-fn wrong_answer(machine: &mut Machine<Three>) -> Option<usize> {
+fn wrong_answer(machine: &mut impl TakesTurns<Three>) -> Option<usize> {
     for (at, (party, start, turns, answer)) in THREE_WORDS.iter().enumerate() {
         if !answers(machine, *party, *start, *turns, *answer) {
             return Some(at);
@@ -205,7 +208,7 @@ fn wrong_answer(machine: &mut Machine<Three>) -> Option<usize> {
 
 /// The place of the first call that does not come out as it says. It is the number of calls if only the words
 /// are wrong, and None if all is right.
-fn wrong_of_value(machine: &mut Machine<Three>) -> Option<usize> {
+fn wrong_of_value(machine: &mut impl TakesTurns<Three>) -> Option<usize> {
     match wrong_answer(machine) {
         Some(at) => Some(at),
         None if machine.words() == [2, 0, 0, 0, 0, 7, u64::MAX, 9].as_slice() => None,
@@ -214,7 +217,7 @@ fn wrong_of_value(machine: &mut Machine<Three>) -> Option<usize> {
 }
 
 /// What is wrong on the machine of this kind, the queue of values or the single value.
-fn wrong_of(machine: &mut Machine<Three>, kind: Kind) -> Option<usize> {
+fn wrong_of(machine: &mut impl TakesTurns<Three>, kind: Kind) -> Option<usize> {
     match kind {
         Kind::Queue => wrong_of_queue(machine),
         _ => wrong_of_value(machine),

@@ -1,12 +1,12 @@
 //! Calls that a machine of another kind does not have, which it has to refuse, and the numbers of refusals.
-use machine::event::Start;
-use machine::families::atomic::AtomicStart;
-use machine::families::bits::BitsStart;
-use machine::families::indices::IndexStart;
-use machine::families::indices::robust::RobustStart;
-use machine::families::queues::QueueStart;
-use machine::turn::{Kind, Refusal, Shape, Turn};
-use schedule::bare::{made_of, step};
+use model::event::Start;
+use model::families::atomic::AtomicStart;
+use model::families::bits::BitsStart;
+use model::families::indices::IndexStart;
+use model::families::indices::robust::RobustStart;
+use model::families::queues::QueueStart;
+use model::turn::{Kind, Refusal, Shape, Turn};
+use schedule::bare::{TakesTurns, made_of};
 use std::alloc::Global;
 use steps::enums::OwnerId;
 
@@ -47,7 +47,7 @@ const WRONG: [(Kind, Start<u128>); 17] = [
 fn is_wrong(alloc: Global, kind: Kind, start: Start<u128>) -> bool {
     match made_of(alloc, Shape::Of(kind, 1), 2) {
         Ok(mut machine) => {
-            step(&mut machine, Turn::Begin(0, start)) == Err(Refusal::WrongCall)
+            TakesTurns::step(&mut machine, Turn::Begin(0, start)) == Err(Refusal::WrongCall)
                 && machine.events().is_empty()
         }
         Err(_) => false,
@@ -58,8 +58,8 @@ fn is_wrong(alloc: Global, kind: Kind, start: Start<u128>) -> bool {
 fn is_busy(alloc: Global) -> bool {
     match made_of(alloc, Shape::Of(Kind::IndexQueue, 1), 2) {
         Ok(mut machine) => {
-            step(&mut machine, Turn::Begin(0, LEN)).is_ok()
-                && step(&mut machine, Turn::Begin(0, PUSH)) == Err(Refusal::Busy)
+            TakesTurns::step(&mut machine, Turn::Begin(0, LEN)).is_ok()
+                && TakesTurns::step(&mut machine, Turn::Begin(0, PUSH)) == Err(Refusal::Busy)
         }
         Err(_) => false,
     }

@@ -9,7 +9,7 @@ use std::thread::Threads;
 use zero_copy_loans::receiver::Reads;
 use zero_copy_loans::sender::Writes;
 use zero_copy_slots::Anything;
-use zero_copy_streams::error::{ReadAllFailure, SendFailure};
+use zero_copy_streams::error::{ReadAllFailure, SendFailure, StreamError};
 use zero_copy_streams::receiver::{Found, Receiver};
 use zero_copy_streams::sender::Sender;
 use zero_copy_streams::stream::Stream;
@@ -125,20 +125,12 @@ const ENDED: Option<(bool, [Option<Found<u64>>; 2])> = Some((
 /// Each call of `play` answered right, and after the values nothing came: the stream has no end yet.
 const NOT_ENDED: Option<(bool, [Option<Found<u64>>; 2])> = Some((true, [None, None]));
 
-/// Sends values on a stream of two slots whose queue of tickets has one place. True if the second
-/// value is refused since the queue is full, also by a call that waits for a slot, and comes after
-/// the first one was read.
-fn wait_for_the_queue(rt: &impl Wait, alloc: Global) -> Option<bool> {
-    let (stream, passes) = Stream::<u64, 1, Anything>::new(alloc, 2).ok()?;
-    let spares = vec![in alloc; 0u64; 3].ok()?;
-    let (mut sender, mut receiver) = stream.ends(passes, spares)?;
-    let mut all = Triples { below: u64::MAX };
-    let mut right = sender.send(&mut all).is_ok();
-    right &= matches!(&sender.send(&mut all), Err(SendFailure::Full));
-    right &= matches!(&sender.send_waiting(rt, &mut all), Err(SendFailure::Full));
-    right &= empties(&mut receiver, 0, 1);
-    right &= sender.send(&mut all).is_ok();
-    Some(right & empties(&mut receiver, 1, 2))
+/// Makes a stream of as many slots as its queues have room for, and one of one slot more. True if the second is refused
+/// since it has too many.
+fn is_refused<const CAPACITY: usize>(alloc: Global, slots: u32) -> bool {
+    let is_made = Stream::<u64, CAPACITY, Anything>::new(alloc, slots).is_ok();
+    let more = Stream::<u64, CAPACITY, Anything>::new(alloc, slots.saturating_add(1));
+    is_made && matches!(&more, Err(StreamError::TooManySlots))
 }
 
 /// The receiver reads one of two values and leaves, or is dropped. True if the sender uses the slot that came
@@ -301,11 +293,10 @@ fn a_dropped_sender_ends_the_stream_of_slots_where_there_is_room(
     Ok(())
 }
 
-/// A value waits for a place in the queue of tickets. If the queue took a ticket too many, a
-/// value would be lost.
+/// A stream has at most as many slots as its queues have room for. If it had more, a slot that comes back could be lost.
 #[test]
-fn a_value_waits_for_the_queue_of_tickets(rt: HostRuntime) -> Result<(), Fail> {
-    assert!(rt; wait_for_the_queue(&rt, rt.alloc()) == Some(true));
+fn more_slots_than_room_are_refused(rt: HostRuntime) -> Result<(), Fail> {
+    assert!(rt; is_refused::<1>(rt.alloc(), 1) && is_refused::<5>(rt.alloc(), 5));
     Ok(())
 }
 

@@ -1,86 +1,44 @@
-//! Bit sets and counting bit sets between three threads. What two threads set at a place, a third takes out,
-//! or it is left there: nothing is lost, and nothing comes twice.
-use crate::rests::Rests;
-use crate::tasks::{Beside, Turn, Turns, User, run_three};
+//! Bit sets and counting bit sets: threads set places, take them out, and look at them.
 use lock_free::mpmc::bit_set::BitSet;
 use lock_free::mpmc::counting_bit_set::CountingBitSet;
 use lock_free::mpmc::{bit_set, counting_bit_set};
-use std::alloc::{AllocError, Global};
 use std::sync::Wait;
-use std::sync::atomic::{AtomicU64, Ordering};
-use std::test::Fail;
 use std::thread::Threads;
+use tests_rows::desk::Desk;
+use tests_rows::play::{Maker, Role, Turn, in_vain, play};
+use tests_rows::row::{Part, Row};
+use tests_rows::shared::Shared;
 
-/// How often the third thread takes all places out.
-const ROUNDS: u64 = 100;
-
-/// For each place how much was set there and not yet taken out, as the threads note it.
-#[derive(Drop)]
-struct Tally {
-    of: Vec<AtomicU64>,
-}
-
-impl Tally {
-    /// A tally of this many places, each 0.
-    fn new(alloc: Global, places: usize) -> Result<Tally, AllocError> {
-        let mut of = Vec::with_capacity(alloc, places)?;
-        for _ in 0..places {
-            of.push(AtomicU64::new(0))?;
-        }
-        Ok(Tally { of })
-    }
-
-    /// Notes that `number` was set at the place.
-    fn add(&self, place: usize, number: u64) {
-        if let Some(sum) = self.of.get(place) {
-            sum.fetch_add(number, Ordering::SeqCst);
-        }
-    }
-
-    /// Notes that `number` was taken out of the place. The word wraps, since it may be noted
-    /// before what was set is.
-    fn take(&self, place: usize, number: u64) {
-        if let Some(sum) = self.of.get(place) {
-            sum.fetch_sub(number, Ordering::SeqCst);
-        }
-    }
-
-    /// Whether as much was taken out as was set, at each place. Only asked when all threads have ended.
-    fn is_even(&self) -> bool {
-        let mut well = true;
-        for sum in self.of.iter() {
-            well &= sum.load(Ordering::SeqCst) == 0;
-        }
-        well
-    }
-}
-
-/// Somebody who sets places of a set and takes them out.
+/// A handle of a set of places.
 trait Places: Drop + Sized {
-    /// Another one, by a handle of its own. None where there is no further handle.
+    /// Another one. None where no further pass can be counted.
     fn another(&mut self) -> Option<Self>;
 
     /// How many places there are.
     fn number(&self) -> usize;
 
-    /// Sets a place, and returns how much that added: 1 or 0.
+    /// Sets a place, and returns what the call answers: the count before, or 1 if the flag stood.
     fn set(&mut self, rt: &impl Wait, place: usize) -> u64;
 
-    /// Takes out all that stands, and notes it. At the first place it rests inside the call, where there are
-    /// rests. `Nothing` where nothing stood.
-    fn reset(&mut self, tally: &Tally, rests: Option<&Rests>) -> Turn;
+    /// What stands at a place: a count, or 1 for a flag.
+    fn look(&mut self, place: usize) -> u64;
 
-    /// Takes out what stands at one place, where the structure has such a call, and notes it.
-    fn reset_one(&mut self, rt: &impl Wait, tally: &Tally);
+    /// How much a `set` that answered this has added.
+    fn added(answer: u64) -> u64;
+
+    /// Takes out all that stands, meets the others at the first place, and writes each place down.
+    fn reset(&mut self, desk: &mut Desk<'_>);
+
+    /// Takes out what stands at one place, where the structure has such a call.
+    fn reset_one(&mut self, rt: &impl Wait) -> Option<usize>;
 }
 
-/// What a `reset` came to at one more place. At its first place it rests, where there are rests, and is wrong
-/// if the rest reached its limit.
-fn come_to_place(rests: Option<&Rests>, before: Turn) -> Turn {
-    match (before, rests) {
-        (Turn::Nothing, Some(rests)) => Turn::of(rests.rest()),
-        (Turn::Nothing, None) => Turn::Right,
-        _ => before,
+/// Writes down that a number was taken out of a place, and meets the others where that is due.
+fn note(desk: &mut Desk<'_>, place: usize, number: u64) {
+    desk.meet();
+    desk.end("out", place as u64, Some(number));
+    for _ in 0..number {
+        desk.take(place as u64);
     }
 }
 
@@ -94,26 +52,23 @@ impl<'a> Places for bit_set::Handle<'a> {
     }
 
     fn set(&mut self, rt: &impl Wait, place: usize) -> u64 {
-        if place < self.capacity() && self.set(rt, place) {
-            1
-        } else {
-            0
-        }
+        (place < self.capacity() && !self.set(rt, place)) as u64
     }
 
-    fn reset(&mut self, tally: &Tally, rests: Option<&Rests>) -> Turn {
-        let mut turn = Turn::Nothing;
-        self.reset_all(&mut |place| {
-            tally.take(place, 1);
-            turn = come_to_place(rests, turn);
-        });
-        turn
+    fn look(&mut self, place: usize) -> u64 {
+        (place < self.capacity() && self.is_set(place)) as u64
     }
 
-    fn reset_one(&mut self, rt: &impl Wait, tally: &Tally) {
-        if let Some(place) = self.reset_next(rt) {
-            tally.take(place, 1);
-        }
+    fn added(answer: u64) -> u64 {
+        (answer == 0) as u64
+    }
+
+    fn reset(&mut self, desk: &mut Desk<'_>) {
+        self.reset_all(&mut |place| note(desk, place, 1));
+    }
+
+    fn reset_one(&mut self, rt: &impl Wait) -> Option<usize> {
+        self.reset_next(rt)
     }
 }
 
@@ -126,120 +81,140 @@ impl<'a> Places for counting_bit_set::Handle<'a> {
         self.capacity()
     }
 
-    /// Adds 1 to the count of the place, whatever it was.
     fn set(&mut self, _rt: &impl Wait, place: usize) -> u64 {
         if place < self.capacity() {
-            self.set(place);
-            1
+            self.set(place)
         } else {
             0
         }
     }
 
-    fn reset(&mut self, tally: &Tally, rests: Option<&Rests>) -> Turn {
-        let mut turn = Turn::Nothing;
-        self.reset_all(&mut |state| {
-            tally.take(state.bit(), state.count());
-            turn = come_to_place(rests, turn);
-        });
-        turn
-    }
-
-    /// A counting bit set has no call that takes out one place.
-    fn reset_one(&mut self, _rt: &impl Wait, _tally: &Tally) {}
-}
-
-/// Sets each place, one after another, in each turn, and notes what that added.
-#[derive(Drop)]
-struct SetsAll<'s, P: Places> {
-    user: P,
-    tally: &'s Tally,
-}
-
-impl<'s, P: Places> User for SetsAll<'s, P> {
-    fn turn(&mut self, rt: &impl Wait, _at: u64) -> Turn {
-        for place in 0..self.user.number() {
-            let number = self.user.set(rt, place);
-            self.tally.add(place, number);
+    fn look(&mut self, place: usize) -> u64 {
+        if place < self.capacity() {
+            self.count(place)
+        } else {
+            0
         }
-        Turn::Right
+    }
+
+    fn added(_answer: u64) -> u64 {
+        1
+    }
+
+    fn reset(&mut self, desk: &mut Desk<'_>) {
+        self.reset_all(&mut |state| note(desk, state.bit(), state.count()));
+    }
+
+    fn reset_one(&mut self, _rt: &impl Wait) -> Option<usize> {
+        None
     }
 }
 
-/// Takes out up to four places one by one, and then all at once with a rest, in each turn.
+/// What somebody does with places.
+#[derive(Clone, Copy)]
+enum Does {
+    Sets,
+    ResetsAll,
+    ResetsNext,
+    Looks,
+}
+
+/// Somebody with a part and a handle.
 #[derive(Drop)]
-struct TakesOut<'s, P: Places> {
+struct Seat<P: Places> {
+    does: Does,
     user: P,
-    tally: &'s Tally,
-    rests: &'s Rests,
 }
 
-impl<'s, P: Places> User for TakesOut<'s, P> {
-    fn turn(&mut self, rt: &impl Wait, _at: u64) -> Turn {
-        for _ in 0..4 {
-            self.user.reset_one(rt, self.tally);
+impl<P: Places> Role for Seat<P> {
+    fn turn(&mut self, rt: &impl Wait, desk: &mut Desk<'_>) -> Turn {
+        let place = (desk.at as usize)
+            .checked_rem(self.user.number())
+            .unwrap_or(0);
+        desk.begin();
+        match self.does {
+            Does::Sets => {
+                let answer = self.user.set(rt, place);
+                desk.meet();
+                desk.end("set", place as u64, Some(answer));
+                for _ in 0..P::added(answer) {
+                    desk.put(place as u64);
+                }
+            }
+            Does::ResetsAll => {
+                self.user.reset(desk);
+                desk.meet();
+                desk.end_in_vain("reset", 0);
+            }
+            Does::ResetsNext => {
+                let Some(place) = self.user.reset_one(rt) else {
+                    desk.end_in_vain("next", 0);
+                    return in_vain(desk);
+                };
+                note(desk, place, 1);
+            }
+            Does::Looks => {
+                let answer = self.user.look(place);
+                desk.meet();
+                desk.end("look", place as u64, Some(answer));
+            }
         }
-        self.user.reset(self.tally, Some(self.rests))
+        Turn::Counts
     }
 }
 
-/// Two threads set places, and a third takes them out or leaves them to the end. During each `reset` of the
-/// third, one of the two sets all places. None where there are no further handles; otherwise whether what was
-/// set and what was taken out are equal at each place.
-fn set_and_reset<R: Threads + Wait + Sync, P: Places + Send>(
-    rt: &R,
-    mut user: P,
-    tally: &Tally,
-) -> Option<bool> {
-    let rests = Rests::of(3, 2);
-    let ((one, two), out) = user.another().zip(user.another()).zip(user.another())?;
-    let one = SetsAll { user: one, tally };
-    let two = SetsAll { user: two, tally };
-    let out = TakesOut {
-        user: out,
-        tally,
-        rests: &rests,
-    };
-    let mut well = run_three(
-        rt,
-        Turns::of(out, ROUNDS, &rests),
-        Beside::of(one, &rests),
-        Beside::of(two, &rests),
-    );
-    well &= rests.crossed() >= ROUNDS;
-    user.reset(tally, None);
-    Some(well && tally.is_even())
+/// A handle by which others are made.
+#[derive(Drop)]
+struct Sets<P: Places> {
+    user: P,
 }
 
-/// Plays `set_and_reset` on a new bit set of this capacity.
-fn use_bits<R: Threads + Wait + Sync>(
-    rt: &R,
-    alloc: Global,
-    capacity: usize,
-) -> Result<bool, Fail> {
-    let tally = Tally::new(alloc, capacity)?;
-    let (set, pass) = BitSet::new(alloc, capacity)?;
-    Ok(set_and_reset(rt, set.handle(pass), &tally) == Some(true))
-}
+impl<P: Places> Maker for Sets<P> {
+    type Role = Seat<P>;
 
-/// Plays `set_and_reset` on a new counting bit set of this capacity.
-fn use_counts<R: Threads + Wait + Sync>(
-    rt: &R,
-    alloc: Global,
-    capacity: usize,
-) -> Result<bool, Fail> {
-    let tally = Tally::new(alloc, capacity)?;
-    let (set, pass) = CountingBitSet::new(alloc, capacity)?;
-    Ok(set_and_reset(rt, set.handle(pass), &tally) == Some(true))
-}
-
-/// Plays sets whose places fill less than a word, a word, just more than a word, and many words. A failure
-/// says that something that was set was lost or taken out twice.
-#[test]
-fn sets_between_threads(rt: HostRuntime) -> Result<(), Fail> {
-    for capacity in [9, 64, 65, 1000] {
-        let well = use_bits(&rt, rt.alloc(), capacity)? && use_counts(&rt, rt.alloc(), capacity)?;
-        assert!(rt; well, "{capacity}");
+    fn before(&mut self, _rt: &impl Wait, _desk: &mut Desk<'_>) -> Option<()> {
+        Some(())
     }
-    Ok(())
+
+    fn role(&mut self, _rt: &impl Wait, part: Part<'_>, _desk: &mut Desk<'_>) -> Option<Seat<P>> {
+        Some(Seat {
+            does: match part.role {
+                "set" => Does::Sets,
+                "reset" => Does::ResetsAll,
+                "next" => Does::ResetsNext,
+                _ => Does::Looks,
+            },
+            user: self.user.another()?,
+        })
+    }
+
+    /// Takes out all that is left.
+    fn after(&mut self, _rt: &impl Wait, desk: &mut Desk<'_>) {
+        desk.begin();
+        self.user.reset(desk);
+    }
+}
+
+/// Plays a round on a set with this handle.
+fn play_places<R: Wait + Threads + Sync, P: Places + Send>(
+    rt: &R,
+    row: &mut Row<'_>,
+    user: P,
+) -> Option<()> {
+    let shared = Shared::new(row.alloc, 0)?;
+    let logs = play(rt, row, &shared, &mut Sets { user })?;
+    row.told.round(logs.as_slice());
+    Some(())
+}
+
+/// Plays a round on a new bit set.
+pub fn play_bits<R: Wait + Threads + Sync>(rt: &R, row: &mut Row<'_>) -> Option<()> {
+    let (set, pass) = BitSet::new(row.alloc, row.capacity).ok()?;
+    play_places(rt, row, set.handle(pass))
+}
+
+/// Plays a round on a new counting bit set.
+pub fn play_counts<R: Wait + Threads + Sync>(rt: &R, row: &mut Row<'_>) -> Option<()> {
+    let (set, pass) = CountingBitSet::new(row.alloc, row.capacity).ok()?;
+    play_places(rt, row, set.handle(pass))
 }

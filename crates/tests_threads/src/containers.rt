@@ -1,70 +1,134 @@
-//! Containers of pairs with equal halves between three threads. Pairs are added and removed, and states,
-//! `find` and `recover` show them whole; no pair is added once the container is locked.
-use crate::indices::{EVERY, Guest, Outcome, Part, VISITS, further_visits};
-use crate::owners::{Owner, play};
-use crate::rests::Rests;
-use crate::room::{Place, Room, rest_once};
-use crate::tasks::{Beside, Turn, User, run_three};
+//! Containers of pairs: threads add, replace and remove them, and states, `find` and `recover` show them
+//! whole.
+use crate::indices::{Guest, Refusal, play_guests};
+use crate::robust::MOST;
 use lock_free::mpmc::container::{
     CallbackProgression, Container, ContainerAddFailure, ContainerHandle, ContainerState, Handle,
     OwnerId,
 };
 use lock_free::mpmc::unique_index_set_enums::{ReleaseMode, ReleaseState};
-use std::alloc::Global;
 use std::sync::Wait;
-use std::test::Fail;
 use std::thread::Threads;
+use tests_rows::desk::Desk;
+use tests_rows::pairs::{Pair, TORN, number_of_pair, pair_of};
+use tests_rows::play::Turn;
+use tests_rows::row::Row;
 
-/// A value of two numbers, which are equal. Both are 9 as the value is added, and then the
-/// number of its index.
-type Pair = (u64, u64);
+/// The number of a pair that is added, before it is replaced by one of its index.
+const ADDED: u64 = 1 << 32;
 
-/// The pair that is added, before it is replaced by one of its index.
-const ADDED: Pair = (9, 9);
-
-/// Whether a pair at this index has equal halves, and is `ADDED` or the pair of its index.
-fn is_whole(pair: &Pair, index: usize) -> bool {
-    pair.0 == pair.1 && (pair.0 == ADDED.0 || pair.0 == index as u64)
+/// Whether a pair at this index is whole: as it was added, or that of its index.
+fn is_whole(pair: Pair, index: usize) -> bool {
+    let number = number_of_pair(pair);
+    number != TORN && (number == ADDED || number == index as u64)
 }
 
-/// A handle of a container, with the owner for which it adds pairs.
+/// A handle of a container, an owner for whom it adds pairs, and a state once it looks.
+#[derive(Drop)]
 struct PairOwner<'a> {
     container: Handle<'a, Pair>,
     owner: OwnerId,
+    /// Whether it looks, and does not die, at a turn of its own.
+    looks: bool,
+    state: Option<ContainerState<Pair>>,
 }
 
-impl<'a> Drop for PairOwner<'a> {
-    fn drop(self) {
-        let Self {
-            container: _container,
-            owner: _,
-        } = self;
+impl<'a> PairOwner<'a> {
+    /// Brings the state up to date, and checks that each pair that it shows is whole. It writes down how many
+    /// pairs it shows, at a turn at which something has changed.
+    fn look(&mut self, rt: &impl Wait, desk: &mut Desk<'_>) -> Turn {
+        if self.state.is_none() {
+            self.state = self.container.get_state(rt).ok();
+        }
+        let Some(state) = &mut self.state else {
+            return Turn::Nothing;
+        };
+        if !self.container.is_state_of(state) {
+            desk.check(false);
+            return Turn::Last;
+        }
+        desk.begin();
+        let has_changed = self.container.update_state(rt, state);
+        desk.meet();
+        let mut well = true;
+        state.for_each(|index, pair| {
+            well = well && is_whole(*pair, index);
+            CallbackProgression::Continue
+        });
+        desk.check(well);
+        desk.end_if(has_changed, "look", 0, Some(state.number() as u64));
+        Turn::Counts
+    }
+
+    /// Adds pairs for the owner of this turn, dies with them, and is recovered: as many pairs come as were
+    /// added, whole, each noted as free before it is.
+    fn die(&mut self, rt: &impl Wait, desk: &mut Desk<'_>) -> Turn {
+        let Ok(owner) = OwnerId::new(desk.at.wrapping_add(100)) else {
+            return Turn::Last;
+        };
+        self.owner = owner;
+        let mut kept = 0u64;
+        for _ in 0..MOST {
+            desk.begin();
+            if let Ok(handle) = self.take(rt) {
+                desk.end("take", owner.value(), Some(handle.index() as u64));
+                desk.check(desk.shared.swap(handle.index(), 1));
+                desk.check(
+                    self.container
+                        .replace(handle, pair_of(handle.index() as u64))
+                        .is_ok(),
+                );
+                kept = kept.wrapping_add(1);
+            }
+        }
+        if kept == 0 {
+            return Turn::Nothing;
+        }
+        let mut number = 0u64;
+        desk.begin();
+        let state = self.container.recover(
+            rt,
+            owner,
+            &mut |pair| {
+                desk.meet();
+                let index = number_of_pair(pair);
+                desk.end("free", owner.value(), Some(index));
+                desk.check(desk.shared.swap(index as usize, 0));
+                number = number.wrapping_add(1);
+                true
+            },
+            ReleaseMode::Default,
+        );
+        desk.end("recover", owner.value(), Some(number));
+        desk.check(state == ReleaseState::Unlocked && number == kept);
+        desk.check(
+            self.container
+                .find(owner, &mut |_, _| CallbackProgression::Stop)
+                == 0,
+        );
+        Turn::Counts
     }
 }
 
 impl<'a> Guest for PairOwner<'a> {
     type Held = ContainerHandle;
 
-    // Each of the three threads may be told of the lock.
-    const LOCKS: u64 = 3;
-
     fn another(&mut self, owner: u64) -> Option<PairOwner<'a>> {
         let owner = OwnerId::new(owner).ok()?;
         let container = self.container.split()?;
-        Some(PairOwner { container, owner })
+        Some(PairOwner {
+            container,
+            owner,
+            looks: owner.value() == 0,
+            state: None,
+        })
     }
 
-    /// Adds a pair, and replaces it by the pair of its index. `Wrong` where it cannot be replaced.
-    fn take(&mut self, rt: &impl Wait) -> Result<ContainerHandle, Outcome> {
-        let handle = match self.container.add(rt, ADDED, self.owner) {
-            Ok(handle) => handle,
-            Err(ContainerAddFailure::OutOfSpace) => return Err(Outcome::Full),
-            Err(ContainerAddFailure::IsLocked) => return Err(Outcome::Closed),
-        };
-        let index = handle.index() as u64;
-        match self.container.replace(handle, (index, index)) {
-            Ok(_) => Ok(handle),
-            Err(_) => Err(Outcome::Wrong),
+    fn take(&mut self, rt: &impl Wait) -> Result<ContainerHandle, Refusal> {
+        match self.container.add(rt, pair_of(ADDED), self.owner) {
+            Ok(handle) => Ok(handle),
+            Err(ContainerAddFailure::OutOfSpace) => Err(Refusal::Full),
+            Err(ContainerAddFailure::IsLocked) => Err(Refusal::Locked),
         }
     }
 
@@ -72,23 +136,24 @@ impl<'a> Guest for PairOwner<'a> {
         held.index()
     }
 
-    /// Finds the owner's pairs, and rests in the callback of the first. True if one at least comes, each is
-    /// whole and the owner's, and no more come than the call says.
-    fn find(&mut self, place: Place<'_>, at: u64) -> bool {
-        let owner = self.owner;
-        let (mut visited, mut well) = (0usize, true);
-        let found = self.container.find(
-            owner,
-            &mut |pair, handle| {
-                well &= is_whole(&pair, handle.index()) && handle.owner == owner;
-                if visited == 0 {
-                    well &= place.rest(at);
-                }
-                visited = visited.wrapping_add(1);
-                CallbackProgression::Continue
-            },
-        );
-        well && 1 <= visited && visited <= found
+    /// Replaces the pair by that of its index, and finds the owner's pairs now and then: at least one comes,
+    /// each is whole and the owner's.
+    fn use_it(&mut self, _rt: &impl Wait, held: &ContainerHandle, desk: &mut Desk<'_>) {
+        let index = held.index();
+        desk.check(self.container.replace(*held, pair_of(index as u64)).is_ok());
+        if desk.at % 16 == 0 {
+            let owner = self.owner;
+            let (mut visited, mut well) = (0usize, true);
+            let found = self.container.find(
+                owner,
+                &mut |pair, handle| {
+                    well &= is_whole(pair, handle.index()) && handle.owner == owner;
+                    visited = visited.wrapping_add(1);
+                    CallbackProgression::Continue
+                },
+            );
+            desk.check(well && 1 <= visited && visited <= found);
+        }
     }
 
     fn give(
@@ -107,153 +172,24 @@ impl<'a> Guest for PairOwner<'a> {
     fn is_locked(&mut self) -> bool {
         self.container.is_locked()
     }
-}
 
-impl<'a> Owner for PairOwner<'a> {
-    fn act_as(&mut self, owner: u64) -> bool {
-        match OwnerId::new(owner) {
-            Ok(owner) => {
-                self.owner = owner;
-                true
-            }
-            Err(_) => false,
-        }
-    }
-
-    /// Recovers the owner, and rests where the call asks about the first pair. Each pair is whole, and its
-    /// index leaves the room as the call asks about it. None where one is torn or was not in the room, or the
-    /// container is locked.
-    fn recover(&mut self, rt: &impl Wait, place: Place<'_>, mode: ReleaseMode) -> Option<u64> {
-        let (mut number, mut well) = (0u64, true);
-        let state = self.container.recover(
-            rt,
-            self.owner,
-            &mut |pair| {
-                well &= pair.0 == pair.1 && rest_once(place, number);
-                well &= place.room.leave(pair.0 as usize);
-                number = number.wrapping_add(1);
-                true
-            },
-            mode,
-        );
-        if well && state == ReleaseState::Unlocked {
-            Some(number)
+    fn own_turn(&mut self, rt: &impl Wait, desk: &mut Desk<'_>) -> Turn {
+        if self.looks {
+            self.look(rt, desk)
         } else {
-            None
+            self.die(rt, desk)
         }
     }
-
-    fn has_none(&mut self) -> bool {
-        self.container
-            .find(self.owner, &mut |_, _| CallbackProgression::Stop)
-            == 0
-    }
 }
 
-/// Keeps a state up to date, turn by turn, while others add and remove pairs.
-struct Looks<'a, 's> {
-    owner: PairOwner<'a>,
-    state: &'s mut ContainerState<Pair>,
-}
-
-impl<'a, 's> Drop for Looks<'a, 's> {
-    fn drop(self) {
-        let Self {
-            owner: _owner,
-            state: _,
-        } = self;
-    }
-}
-
-/// Brings a state up to date. `Right` if it shows a pair, `Nothing` if it shows none, and `Wrong` if it shows
-/// a pair that is not whole.
-fn look(
-    rt: &impl Wait,
-    container: &mut Handle<'_, Pair>,
-    state: &mut ContainerState<Pair>,
-) -> Turn {
-    if !container.is_state_of(state) {
-        return Turn::Wrong;
-    }
-    container.update_state(rt, state);
-    let mut well = true;
-    state.for_each(|index, pair| {
-        well = well && is_whole(pair, index);
-        CallbackProgression::Continue
-    });
-    match state.number() {
-        _ if !well => Turn::Wrong,
-        0 => Turn::Nothing,
-        _ => Turn::Right,
-    }
-}
-
-impl<'a, 's> User for Looks<'a, 's> {
-    fn turn(&mut self, rt: &impl Wait, _at: u64) -> Turn {
-        look(rt, &mut self.owner.container, self.state)
-    }
-}
-
-/// Two threads add and remove pairs while a third keeps a state up to date, and looks at least once in each
-/// of their rests. Each pair that it sees is whole, it sees some at least 50 times, and none in the end. None
-/// where there are no further handles.
-fn change_and_look<R: Wait + Threads + Sync>(
-    rt: &R,
-    owner: &mut PairOwner<'_>,
-    room: &Room,
-) -> Option<bool> {
-    let rests = Rests::of(3, 1);
-    let place = Place {
-        room,
-        rests: &rests,
-        every: EVERY,
-        waits: false,
+/// Plays a round on a new container.
+pub fn play_container<R: Wait + Threads + Sync>(rt: &R, row: &mut Row<'_>) -> Option<()> {
+    let (container, pass) = Container::new(row.alloc, row.capacity, 1).ok()?;
+    let guest = PairOwner {
+        container: container.handle(pass),
+        owner: OwnerId::new(0).ok()?,
+        looks: true,
+        state: None,
     };
-    let mut state = owner.container.get_state(rt).ok()?;
-    let one = further_visits(owner, 1, place, VISITS);
-    let both = one.zip(further_visits(owner, 2, place, VISITS));
-    let ((one, two), looker) = both.zip(owner.another(3))?;
-    let looks = Looks {
-        owner: looker,
-        state: &mut state,
-    };
-    let mut well = run_three(rt, one, two, Beside::of(looks, &rests));
-    let least = VISITS / EVERY;
-    well &= rests.seen() >= least && rests.crossed() >= least * 2;
-    let shows_none = matches!(look(rt, &mut owner.container, &mut state), Turn::Nothing);
-    Some(well && shows_none)
-}
-
-/// Plays a part on a new container, and says whether it went well.
-fn play_anew<R: Wait + Threads + Sync>(rt: &R, alloc: Global, what: Part) -> Result<bool, Fail> {
-    let owner = OwnerId::new(0)?;
-    let room = Room::new(alloc, what.capacity())?;
-    let (made, pass) = Container::new(alloc, what.capacity(), 1)?;
-    let container = made.handle(pass);
-    let mut owner = PairOwner { container, owner };
-    let well = match what {
-        Part::Look => change_and_look(rt, &mut owner, &room),
-        _ => play(rt, &mut owner, &room, what),
-    };
-    Ok(well == Some(true))
-}
-
-/// Plays each part without a state on new containers. A failure says that an index had two holders, that a
-/// pair was torn or lost, or that one was added after the lock.
-#[test]
-fn pairs_between_threads(rt: HostRuntime) -> Result<(), Fail> {
-    for what in [Part::ComeAndGo, Part::LockLast, Part::Die] {
-        for _ in 0..what.rounds() {
-            assert!(rt; play_anew(&rt, rt.alloc(), what)?, "{}", what.name());
-        }
-    }
-    Ok(())
-}
-
-/// Plays the part with a state. A failure says that the state showed half of a pair, saw too few, or showed
-/// one that was removed.
-#[test]
-fn pairs_are_seen_whole(rt: HostRuntime) -> Result<(), Fail> {
-    assert!(rt; play_anew(&rt, rt.alloc(), Part::Look)?);
-    Ok(())
+    play_guests(rt, row, guest)
 }

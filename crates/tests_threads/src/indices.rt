@@ -1,26 +1,19 @@
-//! What three threads play with any structure that hands out indices (`Guest`): they take indices and give
-//! them back, also until the structure is locked.
-use crate::limit;
-use crate::rests::Rests;
-use crate::room::{MORE, Place, Room};
-use crate::tasks::{Turn, Turns, User, run_three};
+//! What threads do with any structure that hands out indices: they take them and give them back, hold one at
+//! every moment, count those that are out, and ask for the lock.
 use lock_free::mpmc::unique_index_set_enums::{ReleaseMode, ReleaseState};
 use std::sync::Wait;
+use std::thread;
 use std::thread::Threads;
+use tests_rows::desk::Desk;
+use tests_rows::play::{Maker, Role, Turn, in_vain, play};
+use tests_rows::row::{Part, Row};
+use tests_rows::shared::Shared;
 
-/// How a visit ended, in which an index is taken and given back, or why there was none.
-#[derive(Clone, Copy)]
-pub enum Outcome {
-    /// It had an index, and gave it back; the structure is not locked.
-    Left,
-    /// It had an index, and was told as it gave it back that the structure is locked.
-    Locked,
-    /// All indices were out.
+/// Why no index was handed out.
+#[derive(Clone, Copy, PartialEq, Eq)]
+pub enum Refusal {
     Full,
-    /// It got no index since the structure was locked.
-    Closed,
-    /// Somebody else held its index, or it was not found, or it could not be given back.
-    Wrong,
+    Locked,
 }
 
 /// Somebody who takes indices of a structure and gives them back.
@@ -28,26 +21,20 @@ pub trait Guest: Drop + Sized {
     /// An index in hand.
     type Held: Drop;
 
-    /// How many of three visitors are told of the lock at most, as they give an index back.
-    const LOCKS: u64;
-
-    /// Another guest of the same structure, as this owner where indices have owners. None where there is no
-    /// further handle.
+    /// Another one, for the owner of this number where indices have owners. None where a pass is refused.
     fn another(&mut self, owner: u64) -> Option<Self>;
 
-    /// Takes an index, or says why there is none: `Full` or `Closed`, or `Wrong` where the
-    /// call itself failed.
-    fn take(&mut self, rt: &impl Wait) -> Result<Self::Held, Outcome>;
+    /// Takes an index.
+    fn take(&mut self, rt: &impl Wait) -> Result<Self::Held, Refusal>;
 
     /// The number of the index.
     fn index(held: &Self::Held) -> usize;
 
-    /// Finds the indices of its owner, and rests inside that call. A structure without owners only rests.
-    /// True if the owner has an index, what was found is right, and the rest ended within its limit.
-    fn find(&mut self, place: Place<'_>, at: u64) -> bool;
+    /// Does with the index in hand what only this structure does, and writes it down.
+    fn use_it(&mut self, rt: &impl Wait, held: &Self::Held, desk: &mut Desk<'_>);
 
-    /// Gives the index back, and says whether the structure is locked then. None where the index
-    /// could not be given back.
+    /// Gives the index back, and says whether the structure is locked then; at some turns of the unique set
+    /// by dropping a guard. None where it could not be given back.
     fn give(&mut self, rt: &impl Wait, held: Self::Held, mode: ReleaseMode) -> Option<ReleaseState>;
 
     /// How many indices are out, as the structure says.
@@ -55,216 +42,235 @@ pub trait Guest: Drop + Sized {
 
     /// Whether the structure is locked, as it says.
     fn is_locked(&mut self) -> bool;
+
+    /// Takes a turn that only this structure has.
+    fn own_turn(&mut self, rt: &impl Wait, desk: &mut Desk<'_>) -> Turn;
 }
 
-/// Takes an index, finds it and rests, and gives it back in this mode. `Wrong` where somebody else held the
-/// index, it was not found, or it could not be given back.
-fn visit<G: Guest>(
-    rt: &impl Wait,
-    guest: &mut G,
-    place: Place<'_>,
-    at: u64,
-    mode: ReleaseMode,
-) -> Outcome {
-    let held = match guest.take(rt) {
-        Ok(held) => held,
-        Err(visit) => return visit,
-    };
-    let index = G::index(&held);
-    let room = place.room;
-    let waits = room.come() && place.waits;
-    let mut well = room.enter(index);
-    well &= guest.find(Place { waits, ..place }, at);
-    well &= room.leave(index);
-    room.go();
-    match guest.give(rt, held, mode) {
-        Some(ReleaseState::Unlocked) if well => Outcome::Left,
-        Some(ReleaseState::Locked) if well => Outcome::Locked,
-        _ => Outcome::Wrong,
+/// What somebody does.
+#[derive(Clone, Copy, PartialEq, Eq)]
+enum Does {
+    /// Takes an index and gives it back.
+    Visits,
+    /// The same, and asks for the lock as it gives the index back.
+    Locks,
+    /// Holds an index at every moment, from the beginning on.
+    Keeps,
+    /// Counts the indices that are out.
+    Counts,
+    /// Gives an index that it has from the beginning back, and asks for the lock.
+    LocksLast,
+    /// Takes one index at the moment at which another gives the last one back.
+    Enters,
+    /// What only this structure has.
+    Own,
+}
+
+/// What the role of this name does.
+fn does_of(name: &str) -> Does {
+    match name {
+        "visit" => Does::Visits,
+        "lock" => Does::Locks,
+        "keep" => Does::Keeps,
+        "count" => Does::Counts,
+        "last" => Does::LocksLast,
+        "enter" => Does::Enters,
+        _ => Does::Own,
     }
 }
 
-/// Takes an index and gives it back, turn by turn. With `locks` it asks for the lock at the last index, until
-/// the structure is locked. A turn is wrong if a visitor is inside as the structure is locked, or takes an
-/// index after that.
-pub struct Visitor<'s, G: Guest> {
-    pub guest: G,
-    pub place: Place<'s>,
-    pub locks: bool,
-}
-
-impl<'s, G: Guest> Drop for Visitor<'s, G> {
-    fn drop(self) {
-        let Self {
-            guest: _guest,
-            place: _,
-            locks: _,
-        } = self;
-    }
-}
-
-impl<'s, G: Guest> User for Visitor<'s, G> {
-    fn turn(&mut self, rt: &impl Wait, at: u64) -> Turn {
-        let room = self.place.room;
-        let was_locked = room.locks() != 0;
-        let mode = if self.locks {
-            ReleaseMode::LockIfLastIndex
-        } else {
-            ReleaseMode::Default
-        };
-        match visit(rt, &mut self.guest, self.place, at, mode) {
-            Outcome::Closed if self.locks => Turn::Last,
-            Outcome::Full if !was_locked => Turn::Nothing,
-            Outcome::Left if !was_locked => Turn::Right,
-            Outcome::Locked if self.locks && !was_locked => Turn::end(room.lock()),
-            _ => Turn::Wrong,
-        }
-    }
-}
-
-/// A task of `number` visits by another guest of this owner. It asks for the lock at the last index if the
-/// place has visitors wait. None where there is no further handle.
-pub fn further_visits<'s, G: Guest>(
-    guest: &mut G,
+/// Somebody with a part, and the index that it has in hand from one turn to the next.
+#[derive(Drop)]
+struct Visitor<G: Guest> {
+    does: Does,
+    guest: G,
+    /// The number that the logs have for what it owns.
     owner: u64,
-    place: Place<'s>,
-    number: u64,
-) -> Option<Turns<'s, Visitor<'s, G>>> {
-    let guest = guest.another(owner)?;
-    let visits = Visitor {
+    /// How often it lets others run before it gives the last index back.
+    pause: u64,
+    held: Option<G::Held>,
+}
+
+impl<G: Guest> Visitor<G> {
+    /// Takes an index, and notes that nobody else holds it.
+    fn take(&mut self, rt: &impl Wait, desk: &mut Desk<'_>) -> Result<G::Held, Refusal> {
+        desk.begin();
+        let held = match self.guest.take(rt) {
+            Ok(held) => held,
+            Err(Refusal::Locked) => {
+                desk.end("shut", self.owner, None);
+                return Err(Refusal::Locked);
+            }
+            Err(Refusal::Full) => {
+                desk.end_in_vain("take", self.owner);
+                return Err(Refusal::Full);
+            }
+        };
+        let index = G::index(&held);
+        desk.end("take", self.owner, Some(index as u64));
+        desk.check(desk.shared.swap(index, 1));
+        Ok(held)
+    }
+
+    /// Gives an index back, and says whether that locked.
+    fn give(
+        &mut self,
+        rt: &impl Wait,
+        held: G::Held,
+        mode: ReleaseMode,
+        desk: &mut Desk<'_>,
+    ) -> bool {
+        let index = G::index(&held);
+        desk.check(desk.shared.swap(index, 0));
+        desk.begin();
+        let state = self.guest.give(rt, held, mode);
+        desk.meet();
+        let is_locked = state == Some(ReleaseState::Locked);
+        desk.end("give", index as u64, Some(is_locked as u64));
+        desk.check(state.is_some());
+        is_locked
+    }
+
+    /// Takes an index, uses it, and gives it back.
+    fn visit(&mut self, rt: &impl Wait, mode: ReleaseMode, desk: &mut Desk<'_>) -> Turn {
+        let held = match self.take(rt, desk) {
+            Ok(held) => held,
+            Err(Refusal::Full) => return in_vain(desk),
+            Err(Refusal::Locked) => return Turn::Last,
+        };
+        self.guest.use_it(rt, &held, desk);
+        if desk.at % 8 == 0 {
+            thread::yield_now();
+        }
+        if self.give(rt, held, mode, desk) {
+            Turn::Last
+        } else {
+            Turn::Counts
+        }
+    }
+
+    /// Takes the next index before it gives the one in hand back.
+    fn keep(&mut self, rt: &impl Wait, desk: &mut Desk<'_>) -> Turn {
+        let Ok(next) = self.take(rt, desk) else {
+            return Turn::Nothing;
+        };
+        if let Some(held) = self.held.take() {
+            self.give(rt, held, ReleaseMode::Default, desk);
+        }
+        self.held = Some(next);
+        Turn::Counts
+    }
+
+    /// Counts the indices that are out.
+    fn count(&mut self, rt: &impl Wait, desk: &mut Desk<'_>) -> Turn {
+        desk.begin();
+        let number = self.guest.number(rt);
+        desk.meet();
+        desk.end("count", 0, Some(number as u64));
+        Turn::Counts
+    }
+
+    /// Gives the index back that it has from the beginning, a while after the others have come.
+    fn lock_last(&mut self, rt: &impl Wait, desk: &mut Desk<'_>) -> Turn {
+        if let Some(held) = self.held.take() {
+            desk.meet();
+            for _ in 0..self.pause {
+                desk.shared.now();
+            }
+            self.give(rt, held, ReleaseMode::LockIfLastIndex, desk);
+        }
+        Turn::Counts
+    }
+
+    /// Takes an index once the others have come, and keeps it to its end.
+    fn enter(&mut self, rt: &impl Wait, desk: &mut Desk<'_>) -> Turn {
+        desk.meet();
+        if let Ok(held) = self.take(rt, desk) {
+            self.held = Some(held);
+        }
+        Turn::Counts
+    }
+}
+
+impl<G: Guest> Role for Visitor<G> {
+    fn turn(&mut self, rt: &impl Wait, desk: &mut Desk<'_>) -> Turn {
+        match self.does {
+            Does::Visits => self.visit(rt, ReleaseMode::Default, desk),
+            Does::Locks => self.visit(rt, ReleaseMode::LockIfLastIndex, desk),
+            Does::Keeps => self.keep(rt, desk),
+            Does::Counts => self.count(rt, desk),
+            Does::LocksLast => self.lock_last(rt, desk),
+            Does::Enters => self.enter(rt, desk),
+            Does::Own => self.guest.own_turn(rt, desk),
+        }
+    }
+}
+
+/// Somebody by whom the others are made, and who holds some indices from then on.
+#[derive(Drop)]
+struct Guests<G: Guest> {
+    guest: G,
+    held: Vec<G::Held>,
+    /// How many indices those are, which are taken after those that others have from the beginning.
+    more: u64,
+    /// The number of the round, which says how long one who locks the last index waits.
+    round: u64,
+}
+
+impl<G: Guest> Maker for Guests<G> {
+    type Role = Visitor<G>;
+
+    fn before(&mut self, rt: &impl Wait, desk: &mut Desk<'_>) -> Option<()> {
+        for _ in 0..self.more {
+            desk.begin();
+            let held = self.guest.take(rt).ok()?;
+            desk.end("take", 0, Some(G::index(&held) as u64));
+            self.held.push(held).ok()?;
+        }
+        Some(())
+    }
+
+    fn role(&mut self, rt: &impl Wait, part: Part<'_>, desk: &mut Desk<'_>) -> Option<Visitor<G>> {
+        let mut visitor = Visitor {
+            does: does_of(part.role),
+            guest: self.guest.another(part.own)?,
+            owner: part.own,
+            pause: self.round % 64,
+            held: None,
+        };
+        if matches!(visitor.does, Does::LocksLast | Does::Keeps) {
+            visitor.held = visitor.take(rt, desk).ok();
+        }
+        Some(visitor)
+    }
+
+    /// Notes how many indices are out, and whether the structure is locked.
+    fn after(&mut self, rt: &impl Wait, desk: &mut Desk<'_>) {
+        desk.begin();
+        let number = self.guest.number(rt);
+        desk.end("count", 0, Some(number as u64));
+        let is_locked = self.guest.is_locked();
+        desk.end("is_locked", 0, Some(is_locked as u64));
+    }
+}
+
+/// Plays a round with a structure, of which this is somebody.
+pub fn play_guests<R: Wait + Threads + Sync, G: Guest + Send>(
+    rt: &R,
+    row: &mut Row<'_>,
+    guest: G,
+) -> Option<()>
+where
+    G::Held: Send,
+{
+    let shared = Shared::new(row.alloc, row.capacity)?;
+    let mut guests = Guests {
         guest,
-        place,
-        locks: place.waits,
+        held: Vec::new(row.alloc),
+        more: row.more,
+        round: row.round,
     };
-    Some(Turns::of(visits, number, place.rests))
-}
-
-/// Runs three visitors, two of them of owner 1 and one of owner 2, and says whether all visits went well.
-/// None where there are no further handles.
-fn visit_by_three<R: Wait + Threads + Sync, G: Guest + Send>(
-    rt: &R,
-    guest: &mut G,
-    place: Place<'_>,
-    number: u64,
-) -> Option<bool>
-where
-    G::Held: Send,
-{
-    let one = further_visits(guest, 1, place, number).zip(further_visits(guest, 1, place, number));
-    let ((first, second), third) = one.zip(further_visits(guest, 2, place, number))?;
-    Some(run_three(rt, first, second, third))
-}
-
-/// How many visits each of three threads makes in `come_and_go`.
-pub const VISITS: u64 = 3_200;
-
-/// A visitor rests with an index in hand at each visit whose number is a multiple of this.
-pub const EVERY: u64 = 64;
-
-/// Three threads take indices and give them back. At least 100 of their 150 rests have to be ended by another
-/// thread that rested with an index in hand, no index is out in the end, and nothing is locked. None where
-/// there are no further handles.
-fn come_and_go<R: Wait + Threads + Sync, G: Guest + Send>(
-    rt: &R,
-    guest: &mut G,
-    room: &Room,
-) -> Option<bool>
-where
-    G::Held: Send,
-{
-    let rests = Rests::of(3, 0);
-    let place = Place {
-        room,
-        rests: &rests,
-        every: EVERY,
-        waits: false,
-    };
-    let mut well = visit_by_three(rt, guest, place, VISITS)?;
-    well &= rests.crossed() >= VISITS / EVERY * 2;
-    well &= guest.number(rt) == 0;
-    Some(well && !guest.is_locked())
-}
-
-/// Three threads take indices and give them back until one is told of the lock, and the structure stays
-/// locked. At least one and at most `LOCKS` are told, and no index is out in the end. More than `MORE` visits
-/// show that some came while others were inside. None where there are no further handles.
-fn lock_last<R: Wait + Threads + Sync, G: Guest + Send>(
-    rt: &R,
-    guest: &mut G,
-    room: &Room,
-) -> Option<bool>
-where
-    G::Held: Send,
-{
-    let rests = Rests::of(3, 0);
-    let place = Place {
-        room,
-        rests: &rests,
-        every: 0,
-        waits: true,
-    };
-    let mut well = visit_by_three(rt, guest, place, limit::TURNS)?;
-    let locks = room.locks();
-    well &= 1 <= locks && locks <= G::LOCKS && room.visits() > MORE;
-    well &= guest.number(rt) == 0;
-    Some(well && guest.is_locked())
-}
-
-/// What a test plays with a structure.
-#[derive(Clone, Copy)]
-pub enum Part {
-    /// Three threads take indices and give them back.
-    ComeAndGo,
-    /// Three threads take indices and give them back until the structure is locked.
-    LockLast,
-    /// Owners die and are recovered, one after another.
-    Die,
-    /// Values are added and removed, and a state shows them meanwhile.
-    Look,
-}
-
-impl Part {
-    /// The name of the part in the message of a test that fails.
-    pub fn name(self) -> &'static str {
-        match self {
-            Part::ComeAndGo => "come and go",
-            Part::LockLast => "lock last",
-            Part::Die => "die",
-            Part::Look => "look",
-        }
-    }
-
-    /// How many indices the structure has. They are fewer than the threads want, so that some are refused.
-    pub fn capacity(self) -> usize {
-        match self {
-            Part::Die => 7,
-            _ => 2,
-        }
-    }
-
-    /// How often the part is played, each time with a new structure.
-    pub fn rounds(self) -> u64 {
-        match self {
-            Part::LockLast => 32,
-            _ => 1,
-        }
-    }
-}
-
-/// Plays a part that needs neither owners nor values, and says whether it went well. None for another part,
-/// and where there are no further handles.
-pub fn play<R: Wait + Threads + Sync, G: Guest + Send>(
-    rt: &R,
-    guest: &mut G,
-    room: &Room,
-    what: Part,
-) -> Option<bool>
-where
-    G::Held: Send,
-{
-    match what {
-        Part::ComeAndGo => come_and_go(rt, guest, room),
-        Part::LockLast => lock_last(rt, guest, room),
-        _ => None,
-    }
+    let logs = play(rt, row, &shared, &mut guests)?;
+    row.told.round(logs.as_slice());
+    Some(())
 }

@@ -1,18 +1,19 @@
-//! Robust unique index sets between three threads. No index has two holders, those of a dead owner come back,
-//! and no index is handed out once the set is locked.
-use crate::indices::{Guest, Outcome, Part};
-use crate::owners::{Owner, play};
-use crate::room::{Place, Room, rest_once};
+//! Robust unique index sets, of which each thread takes indices for an owner.
+use crate::indices::{Guest, Refusal, play_guests};
 use lock_free::mpmc::robust_unique_index_set::{
     CallbackProgression, Handle, OwnerId, RobustUniqueIndexSet,
 };
 use lock_free::mpmc::unique_index_set_enums::{
     ReleaseMode, ReleaseState, UniqueIndexSetAcquireFailure,
 };
-use std::alloc::Global;
 use std::sync::Wait;
-use std::test::Fail;
 use std::thread::Threads;
+use tests_rows::desk::Desk;
+use tests_rows::play::Turn;
+use tests_rows::row::Row;
+
+/// How many indices an owner takes at most before it dies.
+pub const MOST: u64 = 5;
 
 /// A handle of a robust set, with the owner for which it takes indices.
 struct SetOwner<'a> {
@@ -29,11 +30,53 @@ impl<'a> Drop for SetOwner<'a> {
     }
 }
 
+impl<'a> SetOwner<'a> {
+    /// Takes up to `MOST` indices for this owner, and returns how many they were.
+    fn keep(&mut self, rt: &impl Wait, desk: &mut Desk<'_>) -> u64 {
+        let mut number = 0u64;
+        for _ in 0..MOST {
+            desk.begin();
+            if let Ok(index) = self.set.acquire(rt, self.owner) {
+                desk.end("take", self.owner.value(), Some(index as u64));
+                desk.check(desk.shared.swap(index, 1));
+                number = number.wrapping_add(1);
+            }
+        }
+        number
+    }
+
+    /// Recovers this owner, who counts as dead, and returns how many indices came back. The others are met as
+    /// the call asks about an index, and each index is noted as free before it is.
+    fn recover(&mut self, rt: &impl Wait, mode: ReleaseMode, desk: &mut Desk<'_>) -> u64 {
+        let (dead, freed) = (self.owner, self.owner);
+        let mut number = 0u64;
+        desk.begin();
+        let state = self.set.recover(
+            rt,
+            mode,
+            &mut |owner, index| {
+                if owner != dead {
+                    return false;
+                }
+                desk.meet();
+                desk.end("free", owner.value(), Some(index as u64));
+                desk.check(desk.shared.swap(index, 0));
+                true
+            },
+            &mut |owner, _index| {
+                if owner == freed {
+                    number = number.wrapping_add(1);
+                }
+            },
+        );
+        desk.end("recover", dead.value(), Some(number));
+        desk.check(state == ReleaseState::Unlocked);
+        number
+    }
+}
+
 impl<'a> Guest for SetOwner<'a> {
     type Held = usize;
-
-    // Each of the three threads may be told of the lock.
-    const LOCKS: u64 = 3;
 
     fn another(&mut self, owner: u64) -> Option<SetOwner<'a>> {
         let owner = OwnerId::new(owner).ok()?;
@@ -41,11 +84,11 @@ impl<'a> Guest for SetOwner<'a> {
         Some(SetOwner { set, owner })
     }
 
-    fn take(&mut self, rt: &impl Wait) -> Result<usize, Outcome> {
+    fn take(&mut self, rt: &impl Wait) -> Result<usize, Refusal> {
         match self.set.acquire(rt, self.owner) {
             Ok(index) => Ok(index),
-            Err(UniqueIndexSetAcquireFailure::OutOfIndices) => Err(Outcome::Full),
-            Err(UniqueIndexSetAcquireFailure::IsLocked) => Err(Outcome::Closed),
+            Err(UniqueIndexSetAcquireFailure::OutOfIndices) => Err(Refusal::Full),
+            Err(UniqueIndexSetAcquireFailure::IsLocked) => Err(Refusal::Locked),
         }
     }
 
@@ -53,21 +96,16 @@ impl<'a> Guest for SetOwner<'a> {
         *held
     }
 
-    /// Finds the owner's indices, and rests in the callback of the first. True if there is one at least, and
-    /// the callback came as often as the call says.
-    fn find(&mut self, place: Place<'_>, at: u64) -> bool {
-        let (mut visited, mut rested) = (0usize, true);
-        let found = self.set.find(
-            self.owner,
-            &mut |_| {
-                if visited == 0 {
-                    rested = place.rest(at);
-                }
-                visited = visited.wrapping_add(1);
-                CallbackProgression::Continue
-            },
-        );
-        rested && 1 <= found && visited == found
+    /// Finds the owner's indices now and then, of which there is one at least.
+    fn use_it(&mut self, _rt: &impl Wait, _held: &usize, desk: &mut Desk<'_>) {
+        if desk.at % 16 == 0 {
+            desk.begin();
+            let found = self
+                .set
+                .find(self.owner, &mut |_| CallbackProgression::Continue);
+            desk.end("find", self.owner.value(), Some(found as u64));
+            desk.check(found >= 1);
+        }
     }
 
     fn give(&mut self, rt: &impl Wait, held: usize, mode: ReleaseMode) -> Option<ReleaseState> {
@@ -85,75 +123,36 @@ impl<'a> Guest for SetOwner<'a> {
     fn is_locked(&mut self) -> bool {
         self.set.is_locked()
     }
-}
 
-impl<'a> Owner for SetOwner<'a> {
-    fn act_as(&mut self, owner: u64) -> bool {
-        match OwnerId::new(owner) {
-            Ok(owner) => {
-                self.owner = owner;
-                true
-            }
-            Err(_) => false,
+    /// Takes indices for the owner of this turn, dies with them, and is recovered. At each second turn the
+    /// recovery asks for the lock at the last index, which is not due if others are out.
+    fn own_turn(&mut self, rt: &impl Wait, desk: &mut Desk<'_>) -> Turn {
+        let Ok(owner) = OwnerId::new(desk.at.wrapping_add(100)) else {
+            return Turn::Last;
+        };
+        self.owner = owner;
+        let kept = self.keep(rt, desk);
+        if kept == 0 {
+            return Turn::Nothing;
         }
-    }
-
-    /// Recovers the owner, and rests where the call asks for the owner of its first index, and where it tells
-    /// of it. Each index leaves the room as it is asked for, and the indices that the call tells ascend. None
-    /// where an index was not the dead owner's, was not in the room, or the set is locked.
-    fn recover(&mut self, rt: &impl Wait, place: Place<'_>, mode: ReleaseMode) -> Option<u64> {
-        let dead = self.owner;
-        let (mut questions, mut number, mut next) = (0u64, 0u64, 0usize);
-        let (mut asked, mut told) = (true, true);
-        let state = self.set.recover(
-            rt,
-            mode,
-            &mut |owner, index| {
-                if owner != dead {
-                    return false;
-                }
-                asked &= rest_once(place, questions) && place.room.leave(index);
-                questions = questions.wrapping_add(1);
-                true
-            },
-            &mut |owner, index| {
-                told &= owner == dead && next <= index && rest_once(place, number);
-                next = index.wrapping_add(1);
-                number = number.wrapping_add(1);
-            },
-        );
-        if asked && told && state == ReleaseState::Unlocked {
-            Some(number)
+        let mode = if desk.at % 2 == 0 {
+            ReleaseMode::Default
         } else {
-            None
-        }
-    }
-
-    fn has_none(&mut self) -> bool {
-        self.set
-            .find(self.owner, &mut |_| CallbackProgression::Stop)
-            == 0
+            ReleaseMode::LockIfLastIndex
+        };
+        let freed = self.recover(rt, mode, desk);
+        desk.check(freed == kept);
+        desk.check(self.set.find(owner, &mut |_| CallbackProgression::Stop) == 0);
+        Turn::Counts
     }
 }
 
-/// Plays a part on a new set, and says whether it went well.
-fn play_anew<R: Wait + Threads + Sync>(rt: &R, alloc: Global, what: Part) -> Result<bool, Fail> {
-    let owner = OwnerId::new(0)?;
-    let room = Room::new(alloc, what.capacity())?;
-    let (made, pass) = RobustUniqueIndexSet::new(alloc, what.capacity())?;
-    let set = made.handle(pass);
-    let mut owner = SetOwner { set, owner };
-    Ok(play(rt, &mut owner, &room, what) == Some(true))
-}
-
-/// Plays each part on new sets. A failure says that an index had two holders, or that one was lost, found
-/// wrongly, not recovered, or handed out after the lock.
-#[test]
-fn robust_indices_between_threads(rt: HostRuntime) -> Result<(), Fail> {
-    for what in [Part::ComeAndGo, Part::LockLast, Part::Die] {
-        for _ in 0..what.rounds() {
-            assert!(rt; play_anew(&rt, rt.alloc(), what)?, "{}", what.name());
-        }
-    }
-    Ok(())
+/// Plays a round on a new set.
+pub fn play_robust<R: Wait + Threads + Sync>(rt: &R, row: &mut Row<'_>) -> Option<()> {
+    let (set, pass) = RobustUniqueIndexSet::new(row.alloc, row.capacity).ok()?;
+    let guest = SetOwner {
+        set: set.handle(pass),
+        owner: OwnerId::new(0).ok()?,
+    };
+    play_guests(rt, row, guest)
 }

@@ -1,42 +1,61 @@
-//! Unique index sets between three threads. No index has two holders, and the lock comes once,
-//! when no index is out.
-use crate::indices::{Guest, Outcome, Part, play};
-use crate::room::{Place, Room};
+//! Unique index sets, by handles that the guards of indices take along.
+use crate::indices::{Guest, Refusal, play_guests};
 use lock_free::mpmc::unique_index_set::{Handle, UniqueIndex, UniqueIndexSet};
 use lock_free::mpmc::unique_index_set_enums::{
     ReleaseMode, ReleaseState, UniqueIndexSetAcquireFailure,
 };
-use std::alloc::Global;
 use std::sync::Wait;
-use std::test::Fail;
 use std::thread::Threads;
+use tests_rows::desk::Desk;
+use tests_rows::play::Turn;
+use tests_rows::row::Row;
 
-/// Somebody who takes indices of a unique index set. It splits off a handle for each, which
-/// the index takes along.
+/// At each turn whose number is a multiple of this, the index is taken by a handle that was split off, and
+/// given back as its guard is dropped.
+const SPLITS: u64 = 1_000;
+
+/// Somebody with a handle. Another one, which counts, stays when an index has taken the first along.
 #[derive(Drop)]
 struct IndexGuest<'a> {
-    set: Handle<'a>,
+    handle: Option<Handle<'a>>,
+    counts: Handle<'a>,
+    turns: u64,
 }
 
 impl<'a> Guest for IndexGuest<'a> {
     type Held = UniqueIndex<'a>;
 
-    // One thread at most is told of the lock: the one that gave the last index back.
-    const LOCKS: u64 = 1;
-
     fn another(&mut self, _owner: u64) -> Option<IndexGuest<'a>> {
-        let set = self.set.split()?;
-        Some(IndexGuest { set })
+        Some(IndexGuest {
+            handle: self.counts.split(),
+            counts: self.counts.split()?,
+            turns: 0,
+        })
     }
 
-    fn take(&mut self, rt: &impl Wait) -> Result<UniqueIndex<'a>, Outcome> {
-        let Some(set) = self.set.split() else {
-            return Err(Outcome::Wrong);
+    fn take(&mut self, rt: &impl Wait) -> Result<UniqueIndex<'a>, Refusal> {
+        let handle = match self.handle.take() {
+            Some(handle) if self.turns % SPLITS != 0 => handle,
+            kept => {
+                self.handle = kept;
+                match self.counts.split() {
+                    Some(handle) => handle,
+                    None => return Err(Refusal::Full),
+                }
+            }
         };
-        match set.acquire(rt) {
-            Ok(index) => Ok(index),
-            Err((UniqueIndexSetAcquireFailure::OutOfIndices, _)) => Err(Outcome::Full),
-            Err((UniqueIndexSetAcquireFailure::IsLocked, _)) => Err(Outcome::Closed),
+        match handle.acquire(rt) {
+            Ok(index) => {
+                self.turns = self.turns.wrapping_add(1);
+                Ok(index)
+            }
+            Err((failure, handle)) => {
+                self.handle = Some(handle);
+                Err(match failure {
+                    UniqueIndexSetAcquireFailure::OutOfIndices => Refusal::Full,
+                    UniqueIndexSetAcquireFailure::IsLocked => Refusal::Locked,
+                })
+            }
         }
     }
 
@@ -44,10 +63,7 @@ impl<'a> Guest for IndexGuest<'a> {
         held.value() as usize
     }
 
-    /// A unique index set has no owners and finds nothing, so this only rests.
-    fn find(&mut self, place: Place<'_>, at: u64) -> bool {
-        place.rest(at)
-    }
+    fn use_it(&mut self, _rt: &impl Wait, _held: &UniqueIndex<'a>, _desk: &mut Desk<'_>) {}
 
     fn give(
         &mut self,
@@ -55,45 +71,39 @@ impl<'a> Guest for IndexGuest<'a> {
         held: UniqueIndex<'a>,
         mode: ReleaseMode,
     ) -> Option<ReleaseState> {
-        match mode {
-            ReleaseMode::Default => {
+        let (state, handle) = match mode {
+            ReleaseMode::Default if self.handle.is_some() => {
                 drop(held);
-                Some(ReleaseState::Unlocked)
+                return Some(ReleaseState::Unlocked);
             }
-            ReleaseMode::LockIfLastIndex => {
-                let (state, _) = held.give_back_or_lock(rt);
-                Some(state)
-            }
-        }
+            ReleaseMode::Default => (ReleaseState::Unlocked, held.give_back()),
+            ReleaseMode::LockIfLastIndex => held.give_back_or_lock(rt),
+        };
+        self.handle = Some(handle);
+        Some(state)
     }
 
     fn number(&mut self, _rt: &impl Wait) -> usize {
-        self.set.borrowed_indices()
+        self.counts.borrowed_indices()
     }
 
     fn is_locked(&mut self) -> bool {
-        self.set.is_locked()
+        self.counts.is_locked()
+    }
+
+    /// A unique index set has no turn of its own.
+    fn own_turn(&mut self, _rt: &impl Wait, _desk: &mut Desk<'_>) -> Turn {
+        Turn::Last
     }
 }
 
-/// Plays a part on a new set, and says whether it went well.
-fn play_anew<R: Wait + Threads + Sync>(rt: &R, alloc: Global, what: Part) -> Result<bool, Fail> {
-    let room = Room::new(alloc, what.capacity())?;
-    let (set, pass) = UniqueIndexSet::new(alloc, what.capacity())?;
-    let mut guest = IndexGuest {
-        set: set.handle(pass),
+/// Plays a round on a new set.
+pub fn play_unique<R: Wait + Threads + Sync>(rt: &R, row: &mut Row<'_>) -> Option<()> {
+    let (set, pass) = UniqueIndexSet::new(row.alloc, row.capacity).ok()?;
+    let guest = IndexGuest {
+        handle: None,
+        counts: set.handle(pass),
+        turns: 0,
     };
-    Ok(play(rt, &mut guest, &room, what) == Some(true))
-}
-
-/// Plays each part on new sets. A failure says that an index had two holders, was lost, or was handed out
-/// after the lock, or that more than one thread was told of the lock.
-#[test]
-fn unique_indices_between_threads(rt: HostRuntime) -> Result<(), Fail> {
-    for what in [Part::ComeAndGo, Part::LockLast] {
-        for _ in 0..what.rounds() {
-            assert!(rt; play_anew(&rt, rt.alloc(), what)?, "{}", what.name());
-        }
-    }
-    Ok(())
+    play_guests(rt, row, guest)
 }

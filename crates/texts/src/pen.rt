@@ -51,6 +51,19 @@ impl Pen {
         }
     }
 
+    /// What was written since it was last emptied, or that memory was refused somewhere.
+    pub fn text(&self) -> Result<&str, AllocError> {
+        if self.has_failed {
+            return Err(AllocError);
+        }
+        Ok(self.text.as_str())
+    }
+
+    /// Begins anew, in the same room.
+    pub fn clear(&mut self) {
+        self.text.clear();
+    }
+
     /// The whole text, or that memory was refused somewhere.
     pub fn done(self) -> Result<String, AllocError>
         ensures written { IfOk result (λ text. (text ≡ self.text) × (self.has_failed ≡ false)) }

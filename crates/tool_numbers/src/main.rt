@@ -1,71 +1,54 @@
 //! Sends 1,000 numbers from one thread to another through a queue that has room for eight, and prints what came.
 #![tactic(auto)]
 
-use lock_free::spsc::index_queue::{Consumer, FixedSizeIndexQueue, Producer};
-use std::alloc::Global;
-use std::process::ExitCode;
+use lock_free_sp::spsc::index_queue::{Consumer, IndexQueue, Producer};
 use std::sync::Wait;
-use std::thread::Threads;
 use std::{io, thread};
 
-/// How many numbers are sent, from 0 on.
-const NUMBERS: u64 = 1000;
-
-/// Pushes all numbers, each as soon as there is room.
-fn send(rt: &impl Wait, producer: &mut Producer<'_>) {
-    let mut next = 0;
+/// Pushes the numbers below 1,000, each as soon as there is room.
+fn send(rt: &impl Wait, producer: &mut Producer<'_>) -> u64 {
+    let mut sent = 0;
     for _ in rt.forever() {
-        if next >= NUMBERS {
+        if sent >= 1000 {
             break;
         }
-        if producer.push(next) {
-            next += 1;
+        if producer.push(sent) {
+            sent += 1;
         } else {
             thread::yield_now();
         }
     }
+    sent
 }
 
-/// Pops as many numbers, each as soon as it is there. Returns whether they came in the order in which they were sent.
-fn receive(rt: &impl Wait, consumer: &mut Consumer<'_>) -> bool {
-    let (mut next, mut is_in_order) = (0, true);
+/// Pops 1,000 numbers, each as soon as it is there: how many came, and whether each was the next one.
+fn receive(rt: &impl Wait, consumer: &mut Consumer<'_>) -> (u64, bool) {
+    let (mut received, mut in_order) = (0, true);
     for _ in rt.forever() {
-        if next >= NUMBERS {
+        if received >= 1000 {
             break;
         }
-        match consumer.pop() {
-            Some(number) => {
-                is_in_order &= number == next;
-                next += 1;
-            }
-            None => thread::yield_now(),
+        if let Some(number) = consumer.pop() {
+            in_order &= number == received;
+            received += 1;
         }
     }
-    is_in_order
+    (received, in_order)
 }
 
-/// Sends the numbers. None where memory or a role is refused.
-fn relay<R: Threads + Wait + Sync>(rt: &R, alloc: Global) -> Option<(bool, usize)> {
-    let (queue, mut mine) = FixedSizeIndexQueue::<8>::new(alloc).ok()?;
-    let other = mine.split()?;
-    let mut producer = queue.acquire_producer(mine).ok()?;
-    let mut consumer = queue.acquire_consumer(other).ok()?;
-    let ((), is_in_order) = thread::join(
-        rt,
-        || send(rt, &mut producer),
-        || receive(rt, &mut consumer),
-    );
-    Some((is_in_order, consumer.len(rt)))
-}
-
-/// Sends the numbers through the queue, and prints whether they came in order and how many are left in it.
-fn main(rt: HostRuntime) -> io::Result<ExitCode> {
-    let Some((is_in_order, left)) = relay(&rt, rt.alloc()) else {
-        eprintln!(rt; "no memory")?;
-        return Ok(ExitCode::FAILURE);
+fn main(rt: HostRuntime) -> io::Result<()> {
+    let Ok((queue, pass)) = IndexQueue::new(rt.alloc(), 8) else {
+        return println!(rt; "no memory");
     };
-    println!(rt; "sent: {NUMBERS}, received: {NUMBERS}")?;
-    println!(rt; "received in the order sent: {is_in_order}")?;
-    println!(rt; "left in the queue: {left}")?;
-    Ok(ExitCode::SUCCESS)
+    let Some((mut producer, mut consumer)) = queue.ends(pass) else {
+        return println!(rt; "no further pass");
+    };
+    let (sent, (received, in_order)) = thread::join(
+        &rt,
+        || send(&rt, &mut producer),
+        || receive(&rt, &mut consumer),
+    );
+    println!(rt; "sent: {sent}, received: {received}")?;
+    println!(rt; "received in the order sent: {in_order}")?;
+    println!(rt; "left in the queue: {}", consumer.len(&rt))
 }

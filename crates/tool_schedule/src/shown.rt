@@ -1,14 +1,14 @@
 //! After `--turns` or `--words`: what each turn did, with how far the latest call of each party has come, what its state of
 //! a container shows and, after `--words`, all words.
-use machine::party::Progress;
-use machine::turn::{Refusal, Turn};
+use model::party::Progress;
+use model::turn::{Refusal, Turn};
 use schedule::bare::{
     TakesTurns, line_of, line_of_refusal, opened, read_command, read_words, text_of,
 };
 use schedule::error::{Cause, ScheduleError};
 use schedule::grammar::{Command, Setup};
 use schedule::input::whole_input;
-use schedule::output::put;
+use schedule::output::put_pen;
 use schedule::pen::Pen;
 use schedule::status;
 use schedule::text::{Rest, lines};
@@ -19,23 +19,16 @@ use std::io::{Read, Write};
 /// whose turn it was.
 const MOST: u64 = 8;
 
+/// What was shown is written once it has so many bytes.
+const ROOM: usize = 65536;
+
 /// A machine whose turns are shown, and the text that is written.
-struct Shown<'a, M> {
+#[derive(Drop)]
+struct Shown<M> {
     setup: Setup,
     machine: M,
     has_words: bool,
-    pen: &'a mut Pen,
-}
-
-impl<'a, M: Drop> Drop for Shown<'a, M> {
-    fn drop(self) {
-        let Self {
-            setup: _,
-            machine: _machine,
-            has_words: _,
-            pen: _,
-        } = self;
-    }
+    pen: Pen,
 }
 
 // The party whose turn it is, or any number where an owner dies.
@@ -46,16 +39,13 @@ fn party_of(turn: &Turn<u128>) -> u32 {
     }
 }
 
-impl<'a, M: TakesTurns<u128>> Shown<'a, M> {
-    /// Adds the events from place `before` on.
-    fn show_events(&mut self, before: usize) {
-        let events = self.machine.events();
-        for at in before..events.len() {
-            if let Some(event) = events.get(at) {
-                let line = line_of(event);
-                self.pen.put(text_of(&line));
-                self.pen.put("\n");
-            }
+impl<M: TakesTurns<u128>> Shown<M> {
+    /// Adds the events of the turn.
+    fn show_events(&mut self) {
+        for event in self.machine.events() {
+            let line = line_of(event);
+            self.pen.put(text_of(&line));
+            self.pen.put("\n");
         }
     }
 
@@ -69,11 +59,11 @@ impl<'a, M: TakesTurns<u128>> Shown<'a, M> {
     /// Takes one turn of the line `number`, and shows it. Answers whether its call goes on.
     fn take(&mut self, number: u64, turn: &Turn<u128>) -> bool {
         let party = party_of(turn);
-        let before = self.machine.events().len();
+        self.machine.forget();
         let refusal = self.machine.step(*turn).err();
         self.pen.large("turn ", u128::from(number));
         self.pen.put("\n");
-        self.show_events(before);
+        self.show_events();
         if let Some(refusal) = refusal {
             self.show_refusal(refusal);
         }
@@ -156,8 +146,13 @@ impl<'a, M: TakesTurns<u128>> Shown<'a, M> {
         }
     }
 
-    /// Does the lines after the first. `bytes` is at least their number.
-    fn lines(&mut self, bytes: usize, rest: Rest<'_>) -> Result<(), ScheduleError> {
+    /// Does the lines after the first, and writes what they did. `bytes` is at least their number.
+    fn lines<W: Write>(
+        &mut self,
+        bytes: usize,
+        rest: Rest<'_>,
+        output: &mut W,
+    ) -> Result<(), ScheduleError> {
         let mut left = rest;
         for at in 0..bytes {
             let Some((line, rest)) = left.first() else {
@@ -170,6 +165,7 @@ impl<'a, M: TakesTurns<u128>> Shown<'a, M> {
                     Err(cause) => return Err(ScheduleError::Malformed(number, cause)),
                 }
             }
+            put_pen(output, &mut self.pen, ROOM)?;
             left = rest;
         }
         Ok(())
@@ -186,19 +182,14 @@ fn run_on<M: TakesTurns<u128> + Drop, W: Write>(
     rest: Rest<'_>,
     output: &mut W,
 ) -> Result<(), ScheduleError> {
-    let mut pen = Pen::new(alloc);
     let mut shown = Shown {
         setup,
         machine,
         has_words,
-        pen: &mut pen,
+        pen: Pen::new(alloc),
     };
-    let ended = shown.lines(bytes, rest);
-    drop(shown);
-    match pen.done() {
-        Ok(text) => put(output, text.as_bytes())?,
-        Err(_) => return Err(ScheduleError::NoMemory),
-    }
+    let ended = shown.lines(bytes, rest, output);
+    put_pen(output, &mut shown.pen, 0)?;
     ended
 }
 

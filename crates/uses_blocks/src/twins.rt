@@ -1,29 +1,31 @@
 //! Calls of a stream of slots once more, each with the clauses that the program has no use for, so that none can go out of a call
 //! unnoticed. What a wrong body would leave, and a clause refuses, stands in `proofs/WrongBodies.antt` of `zero_copy_streams`.
-ghost use Rattle.std.specs.Prelude.{◌≡◌, ◌++◌, ◌∷◌, ◌+◌, [], true, false, take, length, IfErr, IfSome, OnOk};
+ghost use Rattle.std.specs.Prelude.{◌≡◌, ◌≤◌, ◌++◌, ◌∷◌, ◌+◌, [], true, false, take, length, IfErr, IfOk, IfSome, OnOk};
 ghost use Rattle.std.specs.List.{range_with_len};
 ghost use Rattle.zero_copy_streams.specs.Ends.{sender_queue, receiver_queue, sent_queue, received_queue, next_of, sent_so_far, received_so_far};
 ghost use Rattle.zero_copy_streams.specs.Ends.{sent, received, is_at_end, is_end, has_ended, has_finished, unread, HasFound, HasLooked, HasRead};
-ghost use Rattle.zero_copy_streams.specs.Streams.{slots_of, tickets_of, ArePassesOf};
+ghost use Rattle.zero_copy_streams.specs.Streams.{slots_of, tickets_of, ArePassesOf, IsNotMade};
 
 use std::alloc::Global;
 use std::sync::Wait;
 use zero_copy_loans::receiver::Reads;
 use zero_copy_loans::sender::Writes;
 use zero_copy_slots::Anything;
-use zero_copy_streams::error::{ReadAllFailure, SendFailure};
+use zero_copy_streams::error::{ReadAllFailure, SendFailure, StreamError};
 use zero_copy_streams::receiver::{Found, Received, Receiver};
 use zero_copy_streams::sender::{Sender, Sent};
 use zero_copy_streams::stream::{Passes, Stream};
 
 type Numbers = Stream<u64, 4, Anything>;
 
-/// A new stream has as many slots as were asked for.
-pub fn make(alloc: Global, slots: u32) -> Option<(Numbers, Passes)>
-    ensures slots { IfSome result (λ r. slots_of r.0 ≡ slots) }
-    ensures passes { IfSome result (λ r. ArePassesOf r.0 r.1) }
+/// A new stream has as many slots as were asked for, and not more than its queues have room for.
+pub fn make(alloc: Global, slots: u32) -> Result<(Numbers, Passes), StreamError>
+    ensures slots { IfOk result (λ r. slots_of r.0 ≡ slots) }
+    ensures admitted { OnOk result (slots ≤ 4) }
+    ensures refused { IfErr result (IsNotMade 4 slots) }
+    ensures passes { IfOk result (λ r. ArePassesOf r.0 r.1) }
 {
-    Numbers::new(alloc, slots).ok()
+    Numbers::new(alloc, slots)
 }
 
 /// Both ends are of its queue, and nothing was sent or received.

@@ -11,7 +11,7 @@ use Rattle.model.specs.declared.event.Start.TheVariants.{Container}
 use Rattle.model.specs.declared.families.container.ContainerStart.TheVariants.{Add}
 use Rattle.model.specs.declared.turn.Kind.TheVariants as kinds
 use Rattle.model.specs.Families.Container.Calls.{added}
-use Rattle.history.specs.Container as container
+use Rattle.history_owners.specs.Container as container
 use Rattle.lock_free_owners.specs.declared.mpmc.container.Container as containers
 use Rattle.lock_free.specs.Container.Resting.{SettledFrom, Settles}
 use Rattle.lock_free.specs.Coding.{Coding}

@@ -10,7 +10,7 @@ use Rattle.model.specs.declared.event.Start.TheVariants.{Robust}
 use Rattle.model.specs.declared.families.indices.robust.RobustStart.TheVariants.{Recover}
 use Rattle.model.specs.Families.Queues.Reading.{waiting}
 use Rattle.model.proofs.Readings.{no_more}
-use Rattle.history.specs.Robust.{Visit, Came, HasAsked, WasTold, HasFreed, HasLocked, visit, wrote_to, wrote_by}
+use Rattle.history_owners.specs.Robust.{Visit, Came, HasAsked, WasTold, HasFreed, HasLocked, visit, wrote_to, wrote_by}
 use Rattle.lock_free.specs.HistoryView.View.{View}
 use Rattle.lock_free.specs.Passes.{HasSplit}
 use Rattle.lock_free.specs.Queues.Closes.{Closes}

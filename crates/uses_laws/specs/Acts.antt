@@ -6,7 +6,7 @@ use Rattle.model.specs.declared.families.bits.BitsStart.TheVariants.{Set}
 use Rattle.model.specs.declared.turn.Kind.TheVariants as kinds
 use Rattle.model.specs.Linearizable.{Precedes}
 use Rattle.history.specs.declared.view.View.{View}
-use Rattle.history.specs.Acts.{ActsByPlace}
+use Rattle.history_bits.specs.Acts.{ActsByPlace}
 use Rattle.history.specs.Order.{StandsIn}
 
 -- The acts have an order in which all answers are right. Both calls stand in the history, with these answers, and the

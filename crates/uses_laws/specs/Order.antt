@@ -1,5 +1,5 @@
--- Two pushes of a queue, or two stores of a value, in a linearization of all threads' calls.
-use Rattle.std.specs.Prelude.{◌≡◌, ◌<◌, ℕ, true, Some, List}
+-- Two pushes of a queue, or two stores of a value, in a linearization of all threads' calls, and what two looks have in common.
+use Rattle.std.specs.Prelude.{◌≡◌, ◌<◌, ◌++◌, ℕ, true, Some, List}
 use Rattle.std.specs.List.{slice_get}
 use Rattle.model.specs.declared.event.Answer.{Answer}
 use Rattle.model.specs.declared.event.Answer.TheVariants.{Truth}
@@ -10,6 +10,7 @@ use Rattle.model.specs.declared.families.queues.QueueKind.TheVariants.{IndexQueu
 use Rattle.model.specs.declared.families.queues.QueueStart.TheVariants.{PushIndex}
 use Rattle.model.specs.Linearizable.{Call, IsLinearizable}
 use Rattle.model.specs.Linearized.{as_list, as_value}
+use Rattle.model.specs.StronglyLinearizable.{IsLinearizedBy, Ordered}
 use Rattle.lock_free.specs.Coding.{one_word}
 
 -- the call at this place of the sequential order is a push of this number that answers true
@@ -39,3 +40,11 @@ pub record StoredInOrder (first second : ℕ) (events : List (Event ℕ)) : Type
   pub before : place < later
   pub first_store : IsStoreAt order.sequential place first
   pub second_store : IsStoreAt order.sequential later second
+
+-- All that was known at the first look is linearized by an order, and all that is known at the second one by that order with
+-- further calls at its end.
+pub record LooksAgree (capacity : ℕ) (before after : List (Event ℕ)) : Type 0 where
+  pub past : List (Ordered ℕ)
+  pub added : List (Ordered ℕ)
+  pub first : IsLinearizedBy (as_list IndexQueue capacity) past before
+  pub second : IsLinearizedBy (as_list IndexQueue capacity) (past ++ added) after

@@ -1,6 +1,6 @@
 -- Two pushes in the words of the index queue's page (`pages/specs/IndexQueue.antt`): the history of all
 -- threads' calls as a run of the page's machine.
-use Rattle.std.specs.Prelude.{◌≡◌, ◌<◌, ◌^◌, ℕ, true, List, [], ◌∷◌, ◌++◌, fold, length}
+use Rattle.std.specs.Prelude.{◌≡◌, ℕ, true, List, [], ◌∷◌, ◌++◌, fold}
 use Rattle.pages.specs.IndexQueue.{Answer, Call, Push, Pushed, bounded_list, index_queue}
 use Rattle.pages.specs.Machine.{Event, Invoked, IsLinearizable, Responded, Turn, opening, turned}
 use Rattle.pages_threads.specs.Silent.{IsSilent}
@@ -28,4 +28,4 @@ pub record HasPushedBoth (capacity first second : ℕ) (seen : List (Event Call 
   pub twice : EndsWithPush second (history_of capacity (turns ++ more))
   -- what was seen is the history of all of them
   pub all : seen ≡ history_of capacity (turns ++ more)
-  pub linearizable : length (turns ++ more) < 2 ^ 63 → IsLinearizable (bounded_list capacity) seen
+  pub linearizable : IsLinearizable (bounded_list capacity) seen

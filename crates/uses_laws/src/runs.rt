@@ -4,8 +4,7 @@
 
 ghost use Rattle.std.specs.Prelude.{◌+◌, IfSome};
 ghost use Rattle.model.specs.declared.turn.Kind.TheVariants as kinds;
-ghost use Rattle.model.specs.LockFree.{default_bound, default_container_bound, room_bound, stretch};
-ghost use Rattle.laws_container.specs.LockFree.{room_container_bound};
+ghost use Rattle.model.specs.LockFree.{default_bound, default_container_bound, stretch};
 ghost use Rattle.lock_free.specs.Coding.{one_word};
 ghost use Rattle.lock_free.specs.Container.Names as containers;
 ghost use Rattle.lock_free.specs.Container.Steps.{to_settle};
@@ -29,8 +28,8 @@ use std::sync::Wait;
 /// changed then.
 ///
 /// What the pass knows in the end goes on from what it knew before. All steps that threads took at the set in between, as
-/// far as it knows, are at most n·n·(capacity + 4) + 1 for each call that was pending before or has begun since, where all
-/// calls that it has seen are of parties below n. Four operations of its own at most were no steps of calls.
+/// far as it knows, are at most n·n·(capacity + 4) + 1 for each call that was pending before or has begun since, where n
+/// parties have acted in between. Four operations of its own at most were no steps of calls.
 pub fn take_beside_a_half(
     rt: &impl Wait,
     set: &UniqueIndexSet,
@@ -52,9 +51,9 @@ pub fn take_beside_a_half(
     Some(taken)
 }
 
-/// Takes an index for the owner. All steps that threads took at the set meanwhile, and from its opening on, are bounded by the
-/// calls that have ended, and by those that have begun, as far as the pass knows. The smaller bound holds where it has seen no
-/// call begin that may lock (`fewer`). One operation of its own at most was no step of the call.
+/// Takes an index for the owner. Where the pass has seen no call begin that may lock, all steps that threads took at the set
+/// meanwhile, and from its opening on, are bounded by the calls that have ended, and by those that have begun, as far as the
+/// pass knows. One operation of its own at most was no step of the call.
 pub fn lease_within(
     rt: &impl Wait,
     pool: &RobustUniqueIndexSet,
@@ -62,7 +61,7 @@ pub fn lease_within(
     pass: &mut OwnerPass,
 ) -> Result<usize, UniqueIndexSetAcquireFailure>
     requires { owners.IsPassOf pool.now pass.old }
-    ensures { OwnersGoOn one_word kinds.Robust (owners.capacity_of pool.now) room_bound default_bound
+    ensures { OwnersGoOn one_word kinds.Robust (owners.capacity_of pool.now) default_bound
         ((owners.view pass.old).aside + 1) (owners.view pass.old) (owners.view pass.new) }
 {
     owners_keep_ending::<u64>();
@@ -84,7 +83,7 @@ pub fn add_within(
     pass: &mut ContainerPass<u64>,
 ) -> Result<ContainerHandle, ContainerAddFailure>
     requires { containers.IsPassOf container.now pass.old }
-    ensures { OwnersGoOn (containers.code_of pass.old) kinds.Container (containers.capacity_of container.now) room_container_bound
+    ensures { OwnersGoOn (containers.code_of pass.old) kinds.Container (containers.capacity_of container.now)
         default_container_bound ((containers.view pass.old).aside + (1 + to_settle (containers.view pass.old)))
         (containers.view pass.old) (containers.view pass.new) }
 {

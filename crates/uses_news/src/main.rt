@@ -123,12 +123,13 @@ fn receive_one(
         thread::yield_now();
         return Some(false);
     };
-    let mark = mark_of(subscriber, &sample)?;
+    let read = mark_of(subscriber, &sample);
     let is_last = sample.number() == BLOCKS - 1;
+    subscriber.give_back(sample);
+    let mark = read?;
     let Ok(()) = marks.push(mark) else {
         return None;
     };
-    subscriber.give_back(sample);
     Some(is_last)
 }
 

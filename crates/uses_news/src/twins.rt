@@ -9,7 +9,7 @@ ghost use Rattle.zero_copy_bus.specs.Books.{AllFree, IsLoaned};
 ghost use Rattle.zero_copy_bus.specs.Ends.{expected_at, layout_at, loaned, number_of, numbers_of, slots_at, slots_of, CanSendToAll, HasHad, HasTried, TookOut};
 ghost use Rattle.zero_copy_bus.specs.Ends.{first_before, inlet_at, inlet_before, lanes_of, layout_before, members_left, members_view};
 ghost use Rattle.zero_copy_bus.specs.Ends.{place_at, place_before, place_left, received, receives_left, record_of, roll_of, slots_before};
-ghost use Rattle.zero_copy_bus.specs.Ends.{spares_in, table_of, IsAgain, IsOfLane, IsTakenFor, WasKept, WasNotSubscribed, WasSeated};
+ghost use Rattle.zero_copy_bus.specs.Ends.{records_of, spares_in, table_of, IsAgain, IsOfLane, IsTakenFor, WasKept, WasNotSubscribed, WasSeated};
 ghost use Rattle.zero_copy_bus.specs.Outlets.{open_in, AtLane, EachLane, StaysOrLost, WasRejoined};
 ghost use Rattle.zero_copy_bus.specs.Rolls.{HasLooked, HasNotLooked, HasRecovered};
 ghost use Rattle.zero_copy_bus.specs.Sequences.{Rises};
@@ -95,7 +95,7 @@ pub fn loan<'a, X: Drop, K: Keeps<X>>(
     rt: &impl Wait,
 ) -> Result<Loan<'a, X, K>, LoanFailure>
     ensures kept { OnErr result (spares_in publisher.new ≡ spares_in publisher.old) }
-    ensures refused { IfErr result (IsTakenFor (spares_in publisher.old) (table_of publisher.old) (table_of publisher.new)) }
+    ensures refused { IfErr result (IsTakenFor (records_of publisher.old) (spares_in publisher.old) (table_of publisher.old) (table_of publisher.new)) }
 {
     publisher.loan(rt)
 }

@@ -12,11 +12,11 @@ pub use Rattle.lock_free.specs.Sums.{sets}
 pub use Rattle.lock_free.specs.Unique.Held.{IsSound}
 pub use Rattle.lock_free.specs.Unique.Pools.{Holding}
 pub use Rattle.lock_free.specs.Value.Opened.{opened_view}
-pub use Rattle.lock_free_queues.proofs.Queues.Passed.{index_tells}
-pub use Rattle.lock_free_queues.proofs.Queues.Relays.{receiving_none, receiving_one, receiving_still, received_all}
-pub use Rattle.lock_free_queues.proofs.Queues.Relays.{relayed, left_over}
-pub use Rattle.lock_free_queues.proofs.Queues.Relays.{sending_none, sending_one, sending_next, sending_still, sent_all}
-pub use Rattle.lock_free_queues.specs.Queues.Relays.{Sending, Receiving, Sent, Received}
+pub use Rattle.lock_free.proofs.Queues.Passed.{index_tells}
+pub use Rattle.lock_free.proofs.Queues.Relays.{receiving_none, receiving_one, receiving_still, received_all}
+pub use Rattle.lock_free.proofs.Queues.Relays.{relayed, left_over}
+pub use Rattle.lock_free.proofs.Queues.Relays.{sending_none, sending_one, sending_next, sending_still, sent_all}
+pub use Rattle.lock_free.specs.Queues.Relays.{Sending, Receiving, Sent, Received}
 pub use Rattle.std.proofs.Common.{rules, arith, refl, ◌≡◌, length, drop, take}
 pub use Rattle.std.proofs.lemmas.Grind.{common_steps}
 pub use Rattle.std.proofs.lemmas.List.Concat.{flat_map-append}

@@ -10,6 +10,7 @@ mod pool;
 mod relay;
 mod relay_overflow;
 mod relay_readings;
+mod shapes;
 
 use std::alloc::Global;
 use std::process::ExitCode;
@@ -18,7 +19,7 @@ use std::thread::Threads;
 use std::{env, io};
 
 /// The names of the programs, in the order in which all run.
-const NAMES: [&str; 7] = [
+const NAMES: [&str; 8] = [
     "relay",
     "relay_overflow",
     "relay_readings",
@@ -26,6 +27,7 @@ const NAMES: [&str; 7] = [
     "pool",
     "leases",
     "closing",
+    "shapes",
 ];
 
 /// Runs the program that has this place in `NAMES`, and none where there is no such place.
@@ -42,6 +44,7 @@ fn run_at<R: Threads + Wait + Print + Sync>(
         4 => pool::report(rt, alloc),
         5 => leases::report(rt, alloc),
         6 => closing::report(rt, alloc),
+        7 => shapes::report(rt, alloc),
         _ => Ok(()),
     }
 }

@@ -5,7 +5,7 @@
 ghost use Rattle.std.specs.Prelude.{◌≡◌, IfOk, length};
 ghost use Rattle.lock_free.specs.Queues.Calls.{IsPassOf};
 ghost use Rattle.lock_free.specs.Queues.Item.TheVariants.{Index};
-ghost use Rattle.lock_free_queues.specs.Queues.Relays.{Sent, Received, IsRelayed};
+ghost use Rattle.lock_free.specs.Queues.Relays.{Sent, Received, IsRelayed};
 
 use lock_free::spsc::index_queue::{IndexQueue, Pass};
 use std::alloc::Global;

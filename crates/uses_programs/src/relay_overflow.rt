@@ -3,7 +3,7 @@
 
 ghost use Rattle.std.specs.Prelude.{◌≡◌, ◌<◌, IfSome};
 ghost use Rattle.lock_free.specs.Queues.Overflowing.{view, queue_of, IsPassOf, consumer_view, consumer_queue};
-ghost use Rattle.lock_free_queues.specs.Queues.Merges.{HasPushedUpTo, HasTaken, HasDrained, Merges};
+ghost use Rattle.lock_free.specs.Queues.Merges.{HasPushedUpTo, HasTaken, HasDrained, Merges};
 
 use lock_free::spsc::safely_overflowing_index_queue::{
     Consumer, Pass, SafelyOverflowingIndexQueue,

@@ -31,16 +31,14 @@ fn read(rt: &impl Wait, mut subscriber: Subscriber<'_, Vec<u64>>) -> Option<u64>
     let mut whole = 0;
     for number in 0..RECORDS {
         let sample = subscriber.receive_waiting(rt);
-        if !subscriber
-            .read(&sample)
-            .ok()?
-            .get()
-            .iter()
-            .all(|word| *word == number)
-        {
+        let is_whole = match subscriber.read(&sample) {
+            Ok(reading) => Some(reading.get().iter().all(|word| *word == number)),
+            Err(_) => None,
+        };
+        subscriber.give_back(sample);
+        if !is_whole? {
             break;
         }
-        subscriber.give_back(sample);
         whole = number + 1;
     }
     subscriber.leave(rt).ok()?;

@@ -72,10 +72,11 @@ fn read_waiting(
         let Some(sample) = subscriber.receive(rt) else {
             break;
         };
-        if !is_whole(subscriber, &sample, number) {
+        let is_right = is_whole(subscriber, &sample, number);
+        subscriber.give_back(sample);
+        if !is_right {
             return None;
         }
-        subscriber.give_back(sample);
         number = number.checked_add(1)?;
     }
     Some(number)

@@ -98,23 +98,21 @@ fn square_of(subscriber: &Subscriber<'_, Square, IsSquare>, sample: &Sample) -> 
     Some((found.root, found.square))
 }
 
-/// Receives a record, and reads it.
-fn receive<R: Wait + Print>(
+/// Reads a record that was received.
+fn read<R: Wait + Print>(
     rt: &R,
-    subscriber: &mut Subscriber<'_, Square, IsSquare>,
+    subscriber: &Subscriber<'_, Square, IsSquare>,
+    sample: &Sample,
     who: u64,
-) -> Result<Sample, RunError> {
-    let Some(sample) = subscriber.receive(rt) else {
-        return Err(RunError::NothingWaits);
-    };
-    let Some((number, square)) = square_of(subscriber, &sample) else {
+) -> Result<(), RunError> {
+    let Some((number, square)) = square_of(subscriber, sample) else {
         return Err(RunError::Torn);
     };
     println!(rt;
         "{who} reads record {number} in slot {}: its square is {square}",
         sample.slot()
     )?;
-    Ok(sample)
+    Ok(())
 }
 
 /// Receives a record, reads it and gives it back.
@@ -123,9 +121,12 @@ fn read_next<R: Wait + Print>(
     subscriber: &mut Subscriber<'_, Square, IsSquare>,
     who: u64,
 ) -> Result<(), RunError> {
-    let sample = receive(rt, subscriber, who)?;
+    let Some(sample) = subscriber.receive(rt) else {
+        return Err(RunError::NothingWaits);
+    };
+    let is_read = read(rt, subscriber, &sample, who);
     subscriber.give_back(sample);
-    Ok(())
+    is_read
 }
 
 /// One record goes to both, of whom the first reads it.
@@ -148,11 +149,14 @@ fn lose_one<R: Wait + Print>(
 ) -> Result<(), RunError> {
     publish(rt, publisher, 11)?;
     publish(rt, publisher, 12)?;
-    let kept = receive(rt, &mut other, 2)?;
-    println!(rt;
-        "2 has lost record 10, and dies with slot {} in hand",
-        kept.slot()
-    )?;
+    let Some(kept) = other.receive(rt) else {
+        return Err(RunError::NothingWaits);
+    };
+    let slot = kept.slot();
+    let is_read = read(rt, &other, &kept, 2);
+    kept.keep();
+    is_read?;
+    println!(rt; "2 has lost record 10, and dies with slot {slot} in hand")?;
     Ok(())
 }
 

@@ -107,6 +107,7 @@ fn relay<R: Threads + Wait + Sync>(
     let Ok(mut channel) = Channel::<Vec<u64>, Marked>::new(alloc, 4, 4) else {
         return None;
     };
+    channel.passes_on();
     let spares = blocks(alloc, 5)?;
     let (sends, receives) = channel.open()?;
     let (mut sender, mut receiver) = channel.ends_with(alloc, spares, sends, receives)?;
@@ -114,6 +115,7 @@ fn relay<R: Threads + Wait + Sync>(
     let (left, _) = sender.finish_all();
     let other = receiver.finish();
     channel.relayed(left, other);
+    channel.passes_on();
     Some((marks, back))
 }
 

@@ -11,7 +11,7 @@ use Rattle.model.specs.Fair.{IsFair, begins_by, moment, own_step}
 use Rattle.model.specs.Families.{death_rows}
 use Rattle.model.specs.Families.Indices.Robust.Dead.{dead_with, has_died}
 use Rattle.model.specs.Loads.{begin_in}
-use Rattle.model.specs.LockFree.{IsBelow}
+use Rattle.model.specs.LockFree.{IsAmong, parties_below}
 use Rattle.model.specs.Refusals.{call_refusal}
 use Rattle.model.specs.Rows.{first_row}
 use Rattle.model.specs.Turns.{run_on}
@@ -113,12 +113,12 @@ allowed (suc (suc (suc (suc (suc n))))) =
     rw (have_died n) (rw lives refl)
 
 -- all turns are of two parties
-below : (k : ℕ) → IsBelow 2 (turns k)
-below zero = omega arith
-below (suc zero) = omega arith
-below (suc (suc zero)) = omega arith
-below (suc (suc (suc zero))) = omega arith
-below (suc (suc (suc (suc zero)))) = omega arith
+below : (k : ℕ) → IsAmong (parties_below 2) (turns k)
+below zero = inl refl
+below (suc zero) = inr (inl refl)
+below (suc (suc zero)) = inr (inl refl)
+below (suc (suc (suc zero))) = inr (inl refl)
+below (suc (suc (suc (suc zero)))) = inr (inl refl)
 below (suc (suc (suc (suc (suc n))))) = tt
 
 -- no turn begins a call

@@ -8,7 +8,7 @@ use Rattle.model.specs.declared.turn.Turn.{Turn}
 use Rattle.model.specs.declared.turn.Turn.TheVariants.{Begin, Next}
 use Rattle.model.specs.Coding.{one_word}
 use Rattle.model.specs.Loads.{begun}
-use Rattle.model.specs.LockFree.{IsBelow}
+use Rattle.model.specs.LockFree.{IsAmong, parties_below}
 use Rattle.model.specs.Refusals.{call_refusal}
 use Rattle.model.specs.Turns.{run_on}
 use Rattle.model.specs.World.{Trace, flight_in, opening}
@@ -91,9 +91,9 @@ starves fair_on = none_more (fair_on.at 1) (fair_on.later 1) (fair_on.goes 1)
 -- ---- it is one of those of which `EndsIfFairOn` speaks: all turns are of two parties, and no call begins
 
 -- Each turn of the schedule is of one of two parties.
-below : (k : ℕ) → IsBelow 2 (turns k)
-below zero = omega arith
-below (suc k) = omega arith
+below : (k : ℕ) → IsAmong (parties_below 2) (turns k)
+below zero = inl refl
+below (suc k) = inr (inl refl)
 
 -- no call begins
 none_begin : (k : ℕ) → begun (moment_on started turns k).events ≤ begun started.events + 0

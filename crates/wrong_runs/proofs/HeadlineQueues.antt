@@ -27,7 +27,7 @@ abbrev unacted : List (Event ℕ)
 unacted = Begun 0 (push 7) ∷ Finished 0 (push 7) (Truth true) ∷ []
 
 -- a push of which no act is written has not acted since it began
-acts_nowhere : (before since : List (Event ℕ)) → Begun 0 (push 7) ∷ [] ≡ before ++ Begun 0 (push 7) ∷ since
+pub acts_nowhere : (before since : List (Event ℕ)) → Begun 0 (push 7) ∷ [] ≡ before ++ Begun 0 (push 7) ∷ since
     → flat_map (act_of 0) since ≡ (push 7, Truth true) ∷ [] → ⊥
 acts_nowhere [] since split once =
     let none : since ≡ [] = cc in

@@ -22,6 +22,7 @@ pub mod OrdersOwners
 pub mod OrdersQueues
 pub mod OrdersSets
 pub mod Queues
+pub mod ResetAll
 pub mod Robust
 pub mod Rounds
 pub mod Value

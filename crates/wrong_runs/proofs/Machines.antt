@@ -1,34 +1,12 @@
--- How the wrong runs are written: what a machine would be that has written these events.
+-- What wrong runs have in common: machines that have written some events, and the moments of a call.
 use Rattle.std.proofs.Common.{◌≡◌, ℕ, List, [], ◌∷◌, ◌++◌, refl, sym, subst}
 use Rattle.model.specs.declared.event.Event.{Event}
 use Rattle.model.specs.declared.event.Event.TheVariants.{Begun}
 use Rattle.model.specs.declared.event.Start.{Start}
-use Rattle.model.specs.declared.families.Registry.{Registry}
-use Rattle.model.specs.declared.turn.Kind.{Kind}
-use Rattle.model.specs.Coding.{one_word}
 use Rattle.model.specs.Moments.{HeldSometime, BeginsNone, SinceBegin}
-use Rattle.model.specs.World.{Trace}
 pub use Rattle.model.proofs.Moments.{Stays, throughout}
+pub use Rattle.wrong_runs.specs.Made.{machine}
 use Rattle.model.proofs.Moments.{so_by_events, so_since}
-
--- a machine of this kind, of capacity 2 and of two parties, in which no call is under way
-abbrev pub machine : Kind → List ℕ → Registry ℕ → List (Event ℕ) → Trace ℕ
-machine kind words kept events =
-    record {
-      world =
-          record {
-            coding = one_word;
-            kind = kind;
-            capacity = 2;
-            parties = 2;
-            words = words;
-            kept = kept;
-            latest = [];
-            changes = 0;
-            turns = 0;
-          };
-      events = events;
-    }
 
 -- ---- the moments of a call
 

@@ -9,7 +9,7 @@ use Rattle.model.specs.declared.turn.Turn.{Turn}
 use Rattle.model.specs.declared.turn.Turn.TheVariants.{Begin, Next, Decide, Die}
 use Rattle.model.specs.Coding.{one_word}
 use Rattle.model.specs.Loads.{begins_in, load, pending}
-use Rattle.model.specs.LockFree.{ends, steps_in, stretch}
+use Rattle.model.specs.LockFree.{ends, parties_below, steps_in, stretch}
 use Rattle.model.specs.Refusals.{refusal_of}
 use Rattle.model.specs.Turns.{AreAllowed, IsReached, after_turn, after_turns, run}
 use Rattle.model.specs.World.{Trace, flight_in, opened}
@@ -69,11 +69,11 @@ none_more less = absurd (omega (less, arith))
 
 -- Both have a call under way, so the load is of two calls: in 2 turns party 1 need not have ended its own.
 not_many : (is_some (flight_in started.world 1) ≡ true)
-    × ((load (stretch 2 0 5) (pending 2 started.world + begins_of_others 1 pushed) ≡ 22) × (nexts_in 1 pushed ≡ 2))
+    × ((load (stretch 2 0 5) (pending (parties_below 2) started.world + begins_of_others 1 pushed) ≡ 22) × (nexts_in 1 pushed ≡ 2))
 not_many = (refl, (refl, refl))
 
 -- The turns of party 1 are not more than the load, so the law does not say that its call has ended.
-few_turns : load (stretch 2 0 5) (pending 2 started.world + begins_of_others 1 pushed) < nexts_in 1 pushed → ⊥
+few_turns : load (stretch 2 0 5) (pending (parties_below 2) started.world + begins_of_others 1 pushed) < nexts_in 1 pushed → ⊥
 few_turns less = absurd (omega (less, arith))
 
 -- ---- the premise is met: the push goes on to its end, and then party 0 asks for five lengths, while party 1 does nothing
@@ -92,12 +92,12 @@ of_alone : (begins_of_others 0 alone ≡ 0) × ((begins_in alone ≡ 5) × (next
 of_alone = (refl, (refl, refl))
 
 -- The load of the calls of others is 22, and the load of all calls is 77.
-loads_of_alone : (load (stretch 2 0 5) (pending 2 started.world + begins_of_others 0 alone) ≡ 22)
-    × (load (stretch 2 0 5) (pending 2 started.world + begins_in alone) ≡ 77)
+loads_of_alone : (load (stretch 2 0 5) (pending (parties_below 2) started.world + begins_of_others 0 alone) ≡ 22)
+    × (load (stretch 2 0 5) (pending (parties_below 2) started.world + begins_in alone) ≡ 77)
 loads_of_alone = (refl, refl)
 
 -- Party 0 takes more turns than the load of the calls of others.
-many_turns : load (stretch 2 0 5) (pending 2 started.world + begins_of_others 0 alone) < nexts_in 0 alone
+many_turns : load (stretch 2 0 5) (pending (parties_below 2) started.world + begins_of_others 0 alone) < nexts_in 0 alone
 many_turns = omega arith
 
 reached : IsReached started
@@ -148,7 +148,7 @@ none_under_way : (is_some (flight_in idle.world 0) ≡ false) × (are_taken idle
 none_under_way = (refl, refl)
 
 -- Party 0 goes on in more turns than the load, which is 0.
-more_than_none : load (stretch 2 0 5) (pending 2 idle.world + begins_of_others 0 first_turn) < nexts_in 0 first_turn
+more_than_none : load (stretch 2 0 5) (pending (parties_below 2) idle.world + begins_of_others 0 first_turn) < nexts_in 0 first_turn
 more_than_none = omega arith
 
 -- Party 0, which had no call under way, has ended none.

@@ -17,7 +17,8 @@ use Rattle.model.specs.World.{Trace}
 use Rattle.model.proofs.Readings.{Each-append, Each-nil, no_more}
 use Rattle.model.proofs.Runs.{begins}
 use Rattle.laws_robust.specs.Gone.{IsHonest, ActsForRight}
-use Rattle.laws_robust.specs.Open.{IsOpenSet, IsReachedOpen}
+use Rattle.laws_robust.specs.Open.{IsOpenSet}
+use Rattle.model.specs.Open.{IsReachedOpen}
 use Rattle.laws_container.specs.Open.{IsOpenContainer, IsFaithful, IsFaithfulRun}
 use Rattle.wrong_runs.proofs.Container as plain
 use Rattle.wrong_runs.proofs.Machines.{machine}

@@ -1,2 +1,3 @@
--- A run that the main theorem refuses.
+-- Runs and machines that the main theorem refuses.
+pub mod Made
 pub mod Wrong

@@ -5,6 +5,7 @@ use Rattle.std.proofs.Common.{map, ◌==◌, ◌&&◌, not, ap, sym, ◌∙◌, 
 use Rattle.std.proofs.Common.{arith, length-append}
 use Rattle.std.proofs.lemmas.List.{map-append}
 use Rattle.std.proofs.lemmas.List.Elements.{Contains-append_left, Contains-push, Contains-push_cases}
+use Rattle.std.specs.Int.{bit_at}
 use Rattle.std.specs.List.{count_by}
 use Rattle.std.specs.Prelude.{◌↔◌, Contains, IfNone, IfSome, slice_get}
 use Rattle.history.specs.History.{IsBeginning}
@@ -18,7 +19,7 @@ use Rattle.zero_copy_bus.specs.declared.holders.Holder.{Holder}
 use Rattle.zero_copy_bus.specs.declared.holders.Holders.{Holders}
 use Rattle.zero_copy_bus.specs.declared.outlet.Outlet.{Outlet}
 use Rattle.zero_copy_bus.specs.declared.roll.Roll.{Roll}
-use Rattle.zero_copy_bus.specs.Books.{CanSend, ChangesAt, Exchanges, HasSlot, KeepsLoans, KeepsOthers, KeepsSlots}
+use Rattle.zero_copy_bus.specs.Books.{CanSend, ChangesAt, Exchanges, GainsNone, GainsOnly, HasSlot, KeepsLoans, KeepsLoansBut, KeepsOthers, KeepsSlots}
 use Rattle.zero_copy_bus.specs.Holders.{bit_of, publisher}
 use Rattle.zero_copy_bus.specs.Rolls.{IsShown}
 use Rattle.zero_copy_bus.specs.Outlets.{has_gained, has_slot, holder_of, holders_in, is_open, open_in, place_of, takes_view}
@@ -27,7 +28,7 @@ use Rattle.zero_copy_bus.specs.Outlets.{IsSent, IsServed, IsSettled, IsTakenBack
 use Rattle.zero_copy_bus.specs.Outlets.{SamePasses}
 use Rattle.zero_copy_bus.specs.Words.{slot_back}
 use Rattle.zero_copy_loans.specs.Words.{word_of}
-use Rattle.zero_copy_bus.proofs.BookLemmas.{changes_keep, had_elsewhere, has_elsewhere}
+use Rattle.zero_copy_bus.proofs.BookLemmas.{changes_keep, had_elsewhere, has_elsewhere, only_both}
 use Rattle.zero_copy_bus.proofs.LaneLemmas.{count_more, count_same, each_more, get_map, map_got, placed_at, KeepsAbove}
 use Rattle.history.proofs.Known.{begins_further}
 use Rattle.zero_copy_bus.proofs.ViewLemmas.{empty_found, found_since, out_later}
@@ -168,6 +169,13 @@ module _ (laid slot loaned : ℕ) (one two three : List Holders) (olds news : Li
   pub number_of_all : (gained : ℕ) → gained ≡ count_by (has_gained laid one two) olds → gained ≡ count_by (has_gained loaned one three) olds
   number_of_all gained count =
       subst (λ s. gained ≡ count_by (has_gained s one three) olds) (at ∙ is) (count ∙ number_after 0 0 laid one two three olds news there)
+
+  -- nobody gains another slot than that of the loan, and no other comes on loan or leaves it
+  pub gains_of_all : GainsNone two three → GainsOnly laid one two → GainsOnly loaned one three
+  gains_of_all none only = subst (λ s. GainsOnly s one three) (at ∙ is) (only_both laid one two three only (λ other differs. none other))
+
+  pub loans_of_all : KeepsLoans one two → KeepsLoansBut loaned one three
+  loans_of_all keeps other differs = ap (λ (h : Holders). bit_at h.bits 0) (changes.elsewhere other (λ e. differs (e ∙ is))) ∙ keeps other
 
   -- Each lane that was served with the record's slot is served with the slot of the loan, also
   -- after the publisher gave it up.

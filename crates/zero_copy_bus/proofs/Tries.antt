@@ -17,7 +17,7 @@ use Rattle.zero_copy_bus.specs.declared.publisher.Publisher.{Publisher}
 use Rattle.zero_copy_bus.specs.declared.subscriber.Subscriber.{Subscriber}
 use Rattle.zero_copy_bus.specs.Books.{holders_at, ChangesAt, GainsNone, HasSlot, IsLoaned, KeepsLoans, KeepsSlots, LoansStay}
 use Rattle.zero_copy_bus.specs.Books.{MoreLoansAreAlone, SubscribersGainNone}
-use Rattle.zero_copy_bus.specs.Ends.{lanes_of, loaned, next_of, slots_of, slots_at, table_of, HasHad, HasTried, IsSame, IsTakenFor}
+use Rattle.zero_copy_bus.specs.Ends.{lanes_of, loaned, next_of, records_of, slots_of, slots_at, table_of, HasHad, HasTried, IsSame, IsTakenFor}
 use Rattle.zero_copy_bus.specs.Holders.{bit_of, is_held, publisher}
 use Rattle.zero_copy_bus.specs.Outlets.{holder_of, holders_in, open_in, takes_view, EachLane, HasGivenBack, IsTakenBack, KeepsRest}
 use Rattle.zero_copy_bus.specs.declared.error.LoanFailure.{LoanFailure}
@@ -276,13 +276,13 @@ module _ {X K : Type 0} {rule : Ghosts K X} where
         }
 
     -- a try whose loan was refused
-    pub tried_refused : (spares : ℕ) (failure : LoanFailure) → IsTakenFor spares (table_of p) (table_of q) failure → HasTried p q
-    tried_refused spares (StillRead slot) taken = tried_loan slot taken.0 taken.1 taken.2
+    pub tried_refused : (spares : ℕ) (failure : LoanFailure) → IsTakenFor (records_of p) spares (table_of p) (table_of q) failure → HasTried p q
+    tried_refused spares (StillRead slot failure) taken = tried_loan slot taken.0 taken.1 taken.2
     tried_refused spares (NoSlot failure) taken = tried_still taken
     tried_refused spares NoRecord taken = tried_still taken.0
 
     -- a try, whether its loan was refused or not
-    pub tried_asked : (spares : ℕ) (answer : Result (Loan X K) LoanFailure) → IfErr answer (IsTakenFor spares (table_of p) (table_of q))
+    pub tried_asked : (spares : ℕ) (answer : Result (Loan X K) LoanFailure) → IfErr answer (IsTakenFor (records_of p) spares (table_of p) (table_of q))
         → IfOk answer (λ l. is_held (holders_at (table_of p) (loaned l)) ≡ false)
         → IfOk answer (λ l. ChangesAt (loaned l) publisher (table_of p) (table_of q)) → IfOk answer (λ l. IsLoaned (table_of q) (loaned l))
         → HasTried p q

@@ -16,9 +16,9 @@ use Rattle.model.specs.Families.Queues.Reading.{published}
 use Rattle.steps.specs.declared.container.enums.ContainerAddFailure.{ContainerAddFailure}
 use Rattle.steps.specs.declared.container.enums.ContainerRemoveError.{ContainerRemoveError}
 use Rattle.steps.specs.declared.indices.enums.ReleaseMode.TheVariants.{Default}
-use Rattle.history.specs.ContainerRecovery.{wrote_visits}
+use Rattle.history_owners.specs.ContainerRecovery.{wrote_visits}
 use Rattle.history.specs.Held.{Holds}
-use Rattle.history.specs.History.{Called, IsBeginning}
+use Rattle.history.specs.History.{Called}
 use Rattle.history.specs.declared.view.View.{View}
 use Rattle.lock_free_queues.specs.Queues.Overflowing.{HasOverflowed, PushAdded}
 use Rattle.lock_free_queues.proofs.Queues.Sent.{length_named}
@@ -45,20 +45,13 @@ use Rattle.zero_copy_bus.specs.Rolls.{look_view, member_view, HasLooked, HasReco
 use Rattle.zero_copy_bus.specs.Sequences.{AreAll}
 use Rattle.zero_copy_bus.proofs.LaneLemmas.{same_holder}
 use Rattle.zero_copy_bus.proofs.Words.{number_in_word}
+use Rattle.zero_copy_loans.proofs.WrongEnds.{no_more}
 use Rattle.zero_copy_loans.specs.Words.{word_of}
 use Rattle.zero_copy_loans.specs.declared.words.Layout.{Layout}
 use Rattle.zero_copy_slots.specs.declared.Keeps.{Ghosts}
+use Rattle.zero_copy_slots.specs.declared.Slots.{Slots}
 use Rattle.zero_copy_slots.specs.declared.Writing.{Writing}
 use Rattle.zero_copy_slots.specs.Slots.{slot_of}
-
--- what was seen is no beginning of what stands before one of its own events
-pub no_more : (before after seen : List (Event ℕ)) (event : Event ℕ) → seen ≡ before ++ event ∷ after → IsBeginning seen before → ⊥
-no_more before after seen event is since =
-    let a = ap length is in
-    let b = length-append before (event ∷ after) in
-    let c = ap length since.is in
-    let d = length-append seen since.rest in
-    absurd (omega arith)
 
 -- ---- the publisher
 
@@ -103,8 +96,9 @@ update_drops_the_pass_that_drained old new d same =
     absurd (omega arith)
 
 -- `loan` refuses by `NoRecord` although a record is left
-pub loan_tells_no_record_with_one_left : (more : ℕ) (old new : List Holders) → IsTakenFor (1 + more) old new NoRecord → ⊥
-loan_tells_no_record_with_one_left more old new k = let none = k.1 in absurd (omega arith)
+pub loan_tells_no_record_with_one_left : {X K : Type 0} {rule : Ghosts K X} (records : Slots X K rule) (more : ℕ) (old new : List Holders)
+    → IsTakenFor records (1 + more) old new NoRecord → ⊥
+loan_tells_no_record_with_one_left records more old new k = let none = k.1 in absurd (omega arith)
 
 -- one push has one word
 one_word : (word other : ℕ) (back given : Option ℕ) (v w : View ℕ) → HasOverflowed word back v w → HasOverflowed other given v w → word ≡ other

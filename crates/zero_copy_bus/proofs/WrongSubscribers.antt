@@ -13,7 +13,7 @@ use Rattle.zero_copy_bus.specs.Sequences.{Rises}
 use Rattle.zero_copy_slots.specs.declared.Keeps.{Ghosts}
 use Rattle.zero_copy_slots.specs.declared.Reading.{Reading}
 use Rattle.zero_copy_slots.specs.Slots.{number_in, slot_in}
-use Rattle.zero_copy_bus.proofs.WrongBodies.{no_more}
+use Rattle.zero_copy_loans.proofs.WrongEnds.{no_more}
 
 -- `receive` returns a record whose number is below the one expected
 pub receive_takes_older_numbers : (from next : ℕ) (sample : Sample) → number_of sample < from → Rises from (numbers_of (Some sample)) next → ⊥

@@ -1,7 +1,7 @@
 -- What clauses see of the ends of a bus: the publisher, a seat, a subscriber, and what one that left has
 -- kept. A *view* is all that a pass or a guard knows of its queue, a *lane* the two queues between the
 -- publisher and one subscriber.
-use Rattle.std.specs.Prelude.{◌≡◌, ◌≢◌, ◌⊎◌, ℕ, ◌/◌, ◌%◌, ◌<◌, ◌≤◌, Bool, false, Ok, Err, Option, Some, None, List, [], ◌∷◌, slice_get, vec_len}
+use Rattle.std.specs.Prelude.{◌≡◌, ◌≢◌, ◌⊎◌, ℕ, ◌/◌, ◌%◌, ◌<◌, ◌≤◌, Bool, false, Ok, Err, Option, Some, None, List, [], ◌∷◌, length, slice_get, vec_len}
 use Rattle.steps.specs.declared.container.enums.ContainerRemoveError.{ContainerRemoveError}
 use Rattle.steps.specs.declared.indices.enums.ReleaseMode.TheVariants.{Default}
 use Rattle.zero_copy_slots.specs.declared.Keeps.{Ghosts}
@@ -47,15 +47,16 @@ use Rattle.zero_copy_loans.specs.Words.{word_of, IsWord}
 use Rattle.zero_copy_loans.specs.declared.error.ReadFailure.{ReadFailure}
 use Rattle.zero_copy_loans.specs.declared.error.ReadFailure.TheVariants.{Slot, Other}
 use Rattle.zero_copy_loans.specs.declared.words.Layout.{Layout}
-use Rattle.zero_copy_slots.specs.Slots.{slots_in, IsUnreadable, IsUntaken}
+use Rattle.zero_copy_slots.specs.declared.Slots.{Slots}
+use Rattle.zero_copy_slots.specs.Slots.{read_by, slots_in, written_by, IsUnreadable, IsUntaken}
 
 -- Why a loan was refused, and what it did to the table. After `StillRead` the publisher holds that slot,
--- which nobody held. Otherwise the table is unchanged, and at `NoRecord` no record to write was left.
-abbrev pub IsTakenFor : ℕ → List Holders → List Holders → LoanFailure → Type 0
-IsTakenFor spares old new (StillRead slot) =
-    (is_held (holders_at old slot) ≡ false) × ChangesAt slot publisher old new × IsLoaned new slot
-IsTakenFor spares old new (NoSlot e) = new ≡ old
-IsTakenFor spares old new NoRecord = (new ≡ old) × (spares ≡ 0)
+-- which nobody held, and it was not taken. Otherwise the table is unchanged, and at `NoRecord` no record to write was left.
+abbrev pub IsTakenFor : {X K : Type 0} {rule : Ghosts K X} → Slots X K rule → ℕ → List Holders → List Holders → LoanFailure → Type 0
+IsTakenFor records spares old new (StillRead slot failure) =
+    (is_held (holders_at old slot) ≡ false) × ChangesAt slot publisher old new × IsLoaned new slot × IsUntaken records slot failure
+IsTakenFor records spares old new (NoSlot e) = new ≡ old
+IsTakenFor records spares old new NoRecord = (new ≡ old) × (spares ≡ 0)
 
 -- the slot of a sample, in which its record lies
 abbrev pub received : Sample → ℕ
@@ -133,11 +134,15 @@ module _ {X K : Type 0} {rule : Ghosts K X} where
   abbrev pub HasNumber : Publisher X K rule → ℕ → Type 0
   HasNumber p slot = IsWord (room_of p) (slots_of p) (next_of p) slot
 
+  -- the slots that the publisher writes
+  abbrev pub records_of : Publisher X K rule → Slots X K rule
+  records_of p = written_by p.records
+
   -- why a slot is not reclaimed: the publisher does not hold it, or the slot's word says that it is read or
   -- written, or changed
   abbrev pub IsKept : ℕ → Publisher X K rule → ReclaimFailure → Type 0
   IsKept slot p NotHeld = ¬ IsLoaned (table_of p) slot
-  IsKept slot p (InUse failure) = IsUntaken p.records.now slot failure
+  IsKept slot p (InUse failure) = IsUntaken (records_of p) slot failure
 
   -- of which set of free slots the publisher's pass is
   abbrev pub set_in : Publisher X K rule → SetId
@@ -169,7 +174,7 @@ module _ {X K : Type 0} {rule : Ghosts K X} where
   -- lanes' tenancies are now.
   pub record IsSame (old new : Publisher X K rule) : Type 0 where
     pub pool : pools.IsSame old.pool new.pool
-    pub records : new.records ≡ old.records
+    pub records : records_of new ≡ records_of old
     pub layout : layout_of new ≡ layout_of old
     pub lanes : holders_in (lanes_of new) ≡ holders_in (lanes_of old)
 
@@ -193,11 +198,11 @@ module _ {X K : Type 0} {rule : Ghosts K X} where
 
   -- how many slots the bus of the subscriber has
   abbrev pub slots_at : Subscriber X K rule → ℕ
-  slots_at s = slots_in s.records.now
+  slots_at s = slots_in (read_by s.records)
 
   -- how many slots the bus of the seat has
   abbrev pub slots_before : Seat X K rule → ℕ
-  slots_before s = slots_in s.records.now
+  slots_before s = slots_in (read_by s.records)
 
   -- the place of the lane whose subscriber's end the seat has
   abbrev pub place_before : Seat X K rule → ℕ
@@ -233,7 +238,7 @@ module _ {X K : Type 0} {rule : Ghosts K X} where
 
   -- why a sample is not read: its slot is not, or the failure has another number (that it lies there, no clause says)
   abbrev pub IsUnread : Subscriber X K rule → Sample → ReadFailure → Type 0
-  IsUnread s sample (Slot failure) = IsUnreadable s.records.now (received sample) failure
+  IsUnread s sample (Slot failure) = IsUnreadable (read_by s.records) (received sample) failure
   IsUnread s sample (Other number) = number ≢ number_of sample
 
   -- the subscriber's end of the lane, which the seat has
@@ -327,6 +332,15 @@ module _ {X K : Type 0} {rule : Ghosts K X} where
       ⊎ ((receives_queue old).capacity ≡ 0) × (receives_view new ≡ receives_view old)
       ⊎ (word : ℕ) × ((slots_at old ≤ word % (layout_at old).room) ⊎ (word / (layout_at old).room < expected_at old))
       × PopOldest (Index word) (receives_view old) (receives_view new)
+
+  -- `receive` gave no sample of the subscriber as it was before each of the tries, the last one first
+  abbrev pub EachReceivedNone : List (Subscriber X K rule) → Subscriber X K rule → Subscriber X K rule → Type 0
+  EachReceivedNone [] old new = new ≡ old
+  EachReceivedNone (last ∷ before) old new = EachReceivedNone before old last × ReceivedNone last new
+
+  -- so many tries, one after the other, received none
+  abbrev pub TriedToReceive : ℕ → Subscriber X K rule → Subscriber X K rule → Type 0
+  TriedToReceive tries old new = (before : List (Subscriber X K rule)) × (length before ≡ tries) × EachReceivedNone before old new
 
   -- The slot was not given back: the queue of returns was full, or its last position is reached.
   abbrev pub TookNoneBack : ℕ → Subscriber X K rule → Subscriber X K rule → Type 0

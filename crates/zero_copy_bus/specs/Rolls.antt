@@ -7,7 +7,7 @@ use Rattle.lock_free_owners.specs.Container.Names.{capacity_of, IsLeft}
 use Rattle.lock_free_owners.specs.Container.RecoverContract as recoveries
 use Rattle.lock_free_owners.specs.Container.Contracts.{HasUpdatedState}
 use Rattle.steps.specs.Container.State.{shown_at}
-use Rattle.history.specs.ContainerLooks.{ShowsCopied}
+use Rattle.history_owners.specs.ContainerLooks.{ShowsCopied}
 use Rattle.history.specs.declared.view.View.{View}
 use Rattle.steps.specs.declared.indices.enums.ReleaseMode.TheVariants.{Default}
 use Rattle.steps.specs.declared.indices.enums.ReleaseState.{ReleaseState}

@@ -28,8 +28,8 @@ pub enum LoanFailure {
     NoSlot(#[from] UniqueIndexSetAcquireFailure),
     #[error("no record to write")]
     NoRecord,
-    #[error("slot {0} is read by one who has it not, and stays out")]
-    StillRead(u32),
+    #[error("slot {0} is not to be written, and stays out: {1}")]
+    StillRead(u32, slots::TakeFailure),
 }
 
 /// Why there is no subscriber.

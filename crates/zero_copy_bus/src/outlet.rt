@@ -10,8 +10,8 @@ ghost use Rattle.zero_copy_bus.specs.Books.{GainsNone, GainsOnly, HasNone, Keeps
 ghost use Rattle.zero_copy_bus.specs.Holders.{bit_of};
 ghost use Rattle.zero_copy_bus.specs.Pools.{slots_of, table_of, IsSame};
 ghost use Rattle.zero_copy_bus.specs.Words.{slot_back, TakesOn};
-ghost use Rattle.zero_copy_loans.specs.Words.{IsWord};
-ghost use Rattle.zero_copy_slots.specs.Slots.{laid_number, laid_slot};
+ghost use Rattle.zero_copy_loans.specs.Words.{word_of, IsWord};
+ghost use Rattle.zero_copy_slots.specs.Slots.{lying_number, lying_slot};
 
 use crate::holders::Holder;
 use crate::lane::Inlet;
@@ -21,7 +21,7 @@ use lock_free_queues::spsc::safely_overflowing_index_queue::SafelyOverflowingInd
 use lock_free_queues::spsc::{index_queue, safely_overflowing_index_queue as overflow};
 use std::sync::Wait;
 use zero_copy_loans::words::Layout;
-use zero_copy_slots::Laid;
+use zero_copy_slots::Lying;
 
 /// What the publisher knows of the subscriber of a lane.
 #[derive(Clone, Copy, Debug, PartialEq, Eq)]
@@ -186,18 +186,21 @@ impl<'a> Outlet<'a> {
         }
     }
 
-    /// Pushes a word, and returns the word that the queue handed back, if it did.
-    fn push(&mut self, word: u64) -> Option<u64>
-        requires { IsTrue (has_end self.old) }
+    /// Pushes the word of a record that lies in a slot, and returns the word that the queue handed back, if it did.
+    fn push(&mut self, layout: &Layout, lying: &Lying<'_>) -> Option<u64>
+        requires end { IsTrue (has_end self.old) }
+        requires word { IsWord layout.now.room layout.now.places (lying_number lying.now) (lying_slot lying.now) }
         ensures holder { holder_of self.new ≡ holder_of self.old }
         ensures tenancy { self.new.tenancy ≡ self.old.tenancy }
         ensures end { has_end self.new ≡ true }
         ensures waits { self.new.waits ≡ self.old.waits }
         ensures goes { 0 < (waits_queue self.old).capacity → Goes (sends_view self.old) (sends_view self.new) }
-        ensures added { IfNone result (PushAdded word (sends_view self.old) (sends_view self.new)) }
-        ensures handed_back { IfSome result (λ y. PushHandedBack (waits_queue self.old).capacity word y
+        ensures added { IfNone result (PushAdded (word_of layout.now.room (lying_number lying.now) (lying_slot lying.now))
             (sends_view self.old) (sends_view self.new)) }
+        ensures handed_back { IfSome result (λ y. PushHandedBack (waits_queue self.old).capacity
+            (word_of layout.now.room (lying_number lying.now) (lying_slot lying.now)) y (sends_view self.old) (sends_view self.new)) }
     {
+        let word = layout.word(lying);
         match &mut self.sends {
             Some(sends) => sends.push(word),
             None => unreachable!(),
@@ -208,24 +211,24 @@ impl<'a> Outlet<'a> {
     /// slot. A full queue hands its oldest word back, and the subscriber holds that slot no more. Answers
     /// whether the subscriber gained the slot: it did not if the queue handed this very slot back, since it
     /// has no room at all.
-    pub fn send(&mut self, pool: &mut Pool<'_>, layout: &Layout, laid: &Laid) -> bool
-        requires { IsWord layout.now.room layout.now.places (laid_number laid.now) (laid_slot laid.now) }
+    pub fn send(&mut self, pool: &mut Pool<'_>, layout: &Layout, lying: &Lying<'_>) -> bool
+        requires { IsWord layout.now.room layout.now.places (lying_number lying.now) (lying_slot lying.now) }
         ensures holder { holder_of self.new ≡ holder_of self.old }
         ensures taking { is_open self.new ≡ is_open self.old }
-        ensures served { IsServed layout.now.room (laid_number laid.now) (laid_slot laid.now)
+        ensures served { IsServed layout.now.room (lying_number lying.now) (lying_slot lying.now)
             (table_of pool.old) (table_of pool.new) self.old self.new }
-        ensures gained { result ≡ has_gained (laid_slot laid.now) (table_of pool.old) (table_of pool.new) self.old }
+        ensures gained { result ≡ has_gained (lying_slot lying.now) (table_of pool.old) (table_of pool.new) self.old }
         ensures others { KeepsOthers (holder_of self.old) (table_of pool.old) (table_of pool.new) }
-        ensures gains { GainsOnly (laid_slot laid.now) (table_of pool.old) (table_of pool.new) }
+        ensures gains { GainsOnly (lying_slot lying.now) (table_of pool.old) (table_of pool.new) }
         ensures loans { KeepsLoans (table_of pool.old) (table_of pool.new) }
         ensures refused { IsFalse result → table_of pool.new ≡ table_of pool.old }
         ensures pool { IsSame pool.old pool.new }
     {
-        let slot = laid.slot();
+        let slot = lying.slot();
         if !self.is_open() || !pool.can_send(slot, self.holder) {
             return false;
         }
-        let back = self.push(layout.word(laid));
+        let back = self.push(layout, lying);
         pool.exchange(slot, self.holder, slot_back(layout, back))
     }
 

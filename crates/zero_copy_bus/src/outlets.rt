@@ -7,7 +7,7 @@ ghost use Rattle.zero_copy_bus.specs.Outlets.{waits_queue, IsServed, IsSettled, 
 ghost use Rattle.zero_copy_bus.specs.Pools.{slots_of, table_of, IsSame};
 ghost use Rattle.zero_copy_bus.specs.declared.outlet.Outlet.{Outlet};
 ghost use Rattle.zero_copy_loans.specs.Words.{IsWord};
-ghost use Rattle.zero_copy_slots.specs.Slots.{laid_number, laid_slot};
+ghost use Rattle.zero_copy_slots.specs.Slots.{lying_number, lying_slot};
 
 use crate::lane::Inlet;
 use crate::outlet::Outlet;
@@ -16,7 +16,7 @@ use crate::roll::Roll;
 use lock_free_queues::spsc::safely_overflowing_index_queue as overflow;
 use std::sync::Wait;
 use zero_copy_loans::words::Layout;
-use zero_copy_slots::Laid;
+use zero_copy_slots::Lying;
 
 /// Lets the first lane that can be let: its subscriber's end, and its place. None where no lane can be let.
 pub fn free_inlet<'a>(outlets: &mut Vec<Outlet<'a>>) -> Option<(Inlet<'a>, usize)>
@@ -63,25 +63,25 @@ pub fn send_to_all(
     outlets: &mut Vec<Outlet<'_>>,
     pool: &mut Pool<'_>,
     layout: &Layout,
-    laid: &Laid,
+    lying: &Lying<'_>,
 ) -> usize
     requires placed { HaveTheirPlaces (holders_in outlets.old.items) }
-    requires word { IsWord layout.now.room layout.now.places (laid_number laid.now) (laid_slot laid.now) }
+    requires word { IsWord layout.now.room layout.now.places (lying_number lying.now) (lying_slot lying.now) }
     ensures holders { holders_in outlets.new.items ≡ holders_in outlets.old.items }
     ensures taking { open_in outlets.new.items ≡ open_in outlets.old.items }
-    ensures served { EachLane (IsServed layout.now.room (laid_number laid.now) (laid_slot laid.now) (table_of pool.old) (table_of pool.new))
+    ensures served { EachLane (IsServed layout.now.room (lying_number lying.now) (lying_slot lying.now) (table_of pool.old) (table_of pool.new))
         outlets.old.items outlets.new.items }
     ensures number { result
-        ≡ count_by (has_gained (laid_slot laid.now) (table_of pool.old) (table_of pool.new)) outlets.old.items }
+        ≡ count_by (has_gained (lying_slot lying.now) (table_of pool.old) (table_of pool.new)) outlets.old.items }
     ensures rest { KeepsRest outlets.old.items (table_of pool.old) (table_of pool.new) }
-    ensures gains { GainsOnly (laid_slot laid.now) (table_of pool.old) (table_of pool.new) }
+    ensures gains { GainsOnly (lying_slot lying.now) (table_of pool.old) (table_of pool.new) }
     ensures loans { KeepsLoans (table_of pool.old) (table_of pool.new) }
     ensures nobody { result ≡ 0 → table_of pool.new ≡ table_of pool.old }
     ensures pool { IsSame pool.old pool.new }
 {
     let mut number: usize = 0;
     for place in 0..outlets.len() {
-        if outlets[place].send(pool, layout, laid) {
+        if outlets[place].send(pool, layout, lying) {
             number = number.saturating_add(1);
         }
     }

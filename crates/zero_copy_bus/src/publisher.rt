@@ -13,7 +13,7 @@ ghost use Rattle.zero_copy_bus.specs.Outlets.{IsServed, IsSettled, IsTakenBack, 
 ghost use Rattle.zero_copy_bus.specs.Outlets.{WasLetOf, WasRejoined};
 ghost use Rattle.zero_copy_bus.specs.Pools as pools;
 ghost use Rattle.zero_copy_bus.specs.Rolls.{HasLooked, HasNotLooked, HasRecovered};
-ghost use Rattle.zero_copy_slots.specs.Slots.{slots_in};
+ghost use Rattle.zero_copy_slots.specs.Slots.{slots_in, written_by};
 
 use crate::error::{LoanFailure, ReclaimFailure, SubscribeFailure};
 use crate::holders::Holder;
@@ -28,7 +28,7 @@ use lock_free_sets::mpmc::unique_index_set::Pass;
 use std::sync::Wait;
 use std::thread;
 use zero_copy_loans::words::Layout;
-use zero_copy_slots::{Anything, Keeps, Slots};
+use zero_copy_slots::{Anything, Keeps, Slots, Writer};
 
 /// Keeps the value that lay in a slot, if one did, among the records to write.
 fn keep<X: Drop>(spares: &mut Vec<X>, old: Option<(u64, X)>) {
@@ -42,14 +42,14 @@ fn keep<X: Drop>(spares: &mut Vec<X>, old: Option<(u64, X)>) {
 /// (the drop by no clause).
 pub struct Publisher<'a, X: Drop, K: Keeps<X> = Anything> {
     pool: Pool<'a>,
-    records: &'a Slots<X, K>,
+    records: Writer<'a, X, K>,
     spares: Vec<X>,
     layout: Layout,
     next: u64,
     outlets: Vec<Outlet<'a>>,
     roll: Roll<'a>,
-    ghost sized: { slots_in records.now ≡ pools.slots_of pool },
-    ghost fits: { layout.places ≡ slots_in records.now },
+    ghost sized: { slots_in (written_by records) ≡ pools.slots_of pool },
+    ghost fits: { layout.places ≡ slots_in (written_by records) },
     ghost placed: { HaveTheirPlaces (holders_in outlets.items) },
     ghost shown: { AreShown roll (open_in outlets.items) },
 }
@@ -58,7 +58,7 @@ impl<'a, X: Drop, K: Keeps<X>> Drop for Publisher<'a, X, K> {
     fn drop(self) {
         let Self {
             pool: _pool,
-            records: _,
+            records: _records,
             spares: _spares,
             layout: _,
             next: _,
@@ -70,7 +70,8 @@ impl<'a, X: Drop, K: Keeps<X>> Drop for Publisher<'a, X, K> {
 
 impl<'a, X: Drop, K: Keeps<X>> Publisher<'a, X, K> {
     ghost use Rattle.zero_copy_bus.specs.Ends.{emptied, expected_at, first_before, lanes_of, layout_at, layout_before, layout_of, loaned, next_of, place_at};
-    ghost use Rattle.zero_copy_bus.specs.Ends.{place_before, roll_of, room_of, set_in, share_in, slots_at, slots_before, slots_of, spares_in, table_of};
+    ghost use Rattle.zero_copy_bus.specs.Ends.{place_before, records_of, roll_of, room_of, set_in, share_in, slots_at};
+    ghost use Rattle.zero_copy_bus.specs.Ends.{slots_before, slots_of, spares_in, table_of};
     ghost use Rattle.zero_copy_bus.specs.Ends.{place_left, receives_at, receives_before, receives_left, receives_queue, receives_view, record_of};
     ghost use Rattle.zero_copy_bus.specs.Relays.{LanesPassOn};
     ghost use Rattle.zero_copy_bus.specs.Ends.{CanSendToAll, HasNumber, HasTried, IsKept, IsOfLane, IsSame, IsTakenFor, WasNotSubscribed, WasSeated};
@@ -86,7 +87,7 @@ impl<'a, X: Drop, K: Keeps<X>> Publisher<'a, X, K> {
         requires placed { HaveTheirPlaces (holders_in outlets.items) }
         requires closed { NobodyTakesPart (open_in outlets.items) }
         ensures pool { result.pool ≡ pool.entry }
-        ensures records { result.records ≡ records.entry }
+        ensures records { written_by result.records ≡ records.now }
         ensures spares { spares_in result ≡ vec_len spares }
         ensures lanes { lanes_of result ≡ outlets.entry.items }
         ensures next { next_of result ≡ 0 }
@@ -94,7 +95,7 @@ impl<'a, X: Drop, K: Keeps<X>> Publisher<'a, X, K> {
         let layout = Layout::new(records.number());
         Publisher {
             pool,
-            records,
+            records: Writer::new(records),
             spares,
             layout,
             next: 0,
@@ -126,7 +127,7 @@ impl<'a, X: Drop, K: Keeps<X>> Publisher<'a, X, K> {
         let (inlet, place) = free_inlet(&mut self.outlets)?;
         Some(Seat::of(
             inlet,
-            self.records,
+            self.records.reader(),
             self.layout,
             self.next,
             member,
@@ -136,7 +137,6 @@ impl<'a, X: Drop, K: Keeps<X>> Publisher<'a, X, K> {
 
     /// A subscriber that takes part at once: a `seat`, a `join` and an `update` in one. The lane of its place takes part, so
     /// that `publish` serves it, and the subscriber receives from the queue of that lane (`leased`).
-    ///
     /// Refused where no seat is given (`NoSeat`), and where the registry does not let the owner in (`NotLetIn`). If the
     /// publisher's look at the registry does not show the subscriber, it leaves again (`NotSeen`), or the registry refuses to
     /// remove its record (`NotRemoved`).
@@ -256,7 +256,6 @@ impl<'a, X: Drop, K: Keeps<X>> Publisher<'a, X, K> {
     /// changes. `NoSlot`: each slot is out, or the pool is locked (the clause says only that nothing changes). `StillRead`:
     /// somebody reads the slot that does not hold it by the table. The slot stays out, so that the next loan gets another, and
     /// `reclaim` tries it again. If no loan comes, no record is used up.
-    ///
     /// Steps: a load and at most one compare-exchange on the slot. If the publisher keeps no slot that came back, those of
     /// `acquire_raw_index` too.
     pub fn loan(&mut self, rt: &impl Wait) -> Result<Loan<'a, X, K>, LoanFailure>
@@ -268,7 +267,7 @@ impl<'a, X: Drop, K: Keeps<X>> Publisher<'a, X, K> {
         ensures loaned { IfOk result (λ l. IsLoaned (table_of self.new) (loaned l)) }
         ensures spares { IfOk result (λ l. spares_in self.new + 1 ≡ spares_in self.old) }
         ensures kept { OnErr result (spares_in self.new ≡ spares_in self.old) }
-        ensures refused { IfErr result (IsTakenFor (spares_in self.old) (table_of self.old) (table_of self.new)) }
+        ensures refused { IfErr result (IsTakenFor (records_of self.old) (spares_in self.old) (table_of self.old) (table_of self.new)) }
         ensures taking { open_in (lanes_of self.new) ≡ open_in (lanes_of self.old) }
         ensures lanes { lanes_of self.new ≡ lanes_of self.old }
         ensures same { IsSame self.old self.new }
@@ -281,8 +280,9 @@ impl<'a, X: Drop, K: Keeps<X>> Publisher<'a, X, K> {
             Ok(slot) => slot,
             Err(failure) => return Err(LoanFailure::NoSlot(failure)),
         };
-        let Ok(writing) = self.records.take(slot) else {
-            return Err(LoanFailure::StillRead(slot));
+        let writing = match self.records.take(slot) {
+            Ok(writing) => writing,
+            Err(failure) => return Err(LoanFailure::StillRead(slot, failure)),
         };
         let Some(value) = self.spares.pop() else {
             unreachable!()
@@ -354,7 +354,6 @@ impl<'a, X: Drop, K: Keeps<X>> Publisher<'a, X, K> {
     /// Publishes a record, which has to keep the rule with the next number. It goes to each subscriber that takes part and does
     /// not hold its slot. Returns how many gained it. The slot is on loan no more. A subscriber whose queue is full loses its
     /// oldest record. After the last of 2^64 / p numbers (p: the slots, up to a power of two) each loan is given up: 0.
-    ///
     /// One step on the slot, and the steps of a push for each such subscriber.
     pub fn publish(&mut self, loan: Loan<'a, X, K>) -> usize
         requires fits { K.holds (next_of self.old) loan.value }
@@ -382,10 +381,10 @@ impl<'a, X: Drop, K: Keeps<X>> Publisher<'a, X, K> {
             return 0;
         }
         let (value, writing) = loan.into_parts();
-        let (laid, before) = writing.put(number, value);
+        let (lying, before) = self.records.put(writing, number, value);
         keep(&mut self.spares, before);
         self.next = number + 1;
-        let gained = send_to_all(&mut self.outlets, &mut self.pool, &self.layout, &laid);
+        let gained = send_to_all(&mut self.outlets, &mut self.pool, &self.layout, &lying);
         self.pool.put_back(slot as u64, Holder::publisher());
         gained
     }
@@ -488,7 +487,7 @@ impl<'a, X: Drop, K: Keeps<X>> Publisher<'a, X, K> {
     {
         let Publisher {
             pool,
-            records: _,
+            records: _records,
             spares,
             layout: _,
             next: _,

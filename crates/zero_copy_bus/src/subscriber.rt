@@ -9,7 +9,7 @@ ghost use Rattle.lock_free_queues.specs.Queues.Contracts.{HasReleased, PopOldest
 ghost use Rattle.steps.specs.declared.queues.roles.Role.TheVariants as roles;
 ghost use Rattle.lock_free_owners.specs.Robust.Contracts.{WasFreed};
 ghost use Rattle.zero_copy_bus.specs.Sequences.{Rises};
-ghost use Rattle.zero_copy_slots.specs.Slots.{number_in, slot_in, slots_in};
+ghost use Rattle.zero_copy_slots.specs.Slots.{number_in, read_by, slot_in, slots_in};
 
 use crate::lane::Inlet;
 use lock_free_owners::mpmc::container::{
@@ -21,24 +21,24 @@ use std::sync::Wait;
 use std::thread;
 use zero_copy_loans::error::ReadFailure;
 use zero_copy_loans::words::Layout;
-use zero_copy_slots::{Anything, Keeps, Reading, Slots};
+use zero_copy_slots::{Anything, Keeps, Reader, Reading};
 
 /// The subscriber's end of a free lane, which a thread takes by `join`.
 pub struct Seat<'a, X: Drop, K: Keeps<X> = Anything> {
     inlet: Inlet<'a>,
-    records: &'a Slots<X, K>,
+    records: Reader<'a, X, K>,
     layout: Layout,
     first: u64,
     members: Handle<'a, u64>,
     place: u64,
-    ghost fits: { layout.places ≡ slots_in records.now },
+    ghost fits: { layout.places ≡ slots_in (read_by records) },
 }
 
 impl<'a, X: Drop, K: Keeps<X>> Drop for Seat<'a, X, K> {
     fn drop(self) {
         let Self {
             inlet: _inlet,
-            records: _,
+            records: _records,
             layout: _,
             first: _,
             members: _members,
@@ -57,14 +57,14 @@ impl<'a, X: Drop, K: Keeps<X>> Seat<'a, X, K> {
     /// the number `first` on.
     pub(crate) fn of(
         inlet: Inlet<'a>,
-        records: &'a Slots<X, K>,
+        records: Reader<'a, X, K>,
         layout: Layout,
         first: u64,
         members: Handle<'a, u64>,
         place: u64,
     ) -> Seat<'a, X, K>
-        requires { layout.places ≡ slots_in records.now }
-        ensures slots { slots_before result ≡ slots_in records.now }
+        requires { layout.places ≡ slots_in (read_by records) }
+        ensures slots { slots_before result ≡ slots_in (read_by records.entry) }
         ensures layout { layout_before result ≡ layout }
         ensures first { first_before result ≡ first }
         ensures place { place_before result ≡ place }
@@ -138,8 +138,9 @@ impl<'a, X: Drop, K: Keeps<X>> Seat<'a, X, K> {
     }
 }
 
-/// A record by its number and its slot, which a subscriber may read until it gives it back. It may be sent to another thread.
-#[derive(Debug, Drop)]
+/// A record by its number and its slot, which a subscriber may read until it gives it back. It may be sent to another thread. It
+/// cannot be dropped: who has one gives it back, or keeps its slot (`keep`).
+#[derive(Debug)]
 pub struct Sample {
     number: u64,
     slot: u32,
@@ -161,18 +162,23 @@ impl Sample {
     {
         self.slot
     }
+
+    /// Gives the slot not back, so that it stays out until the subscriber is gone. For one that leaves, or dies. No atomic step.
+    pub fn keep(self) {
+        let Self { number: _, slot: _ } = self;
+    }
 }
 
 /// A subscriber. If it is dropped it counts as dead: the slots that it held stay out until it is recovered.
 pub struct Subscriber<'a, X: Drop, K: Keeps<X> = Anything> {
     inlet: Inlet<'a>,
-    records: &'a Slots<X, K>,
+    records: Reader<'a, X, K>,
     layout: Layout,
     expected: u64,
     members: Handle<'a, u64>,
     record: ContainerHandle,
     place: u64,
-    ghost fits: { layout.places ≡ slots_in records.now },
+    ghost fits: { layout.places ≡ slots_in (read_by records) },
     ghost own: { IsOwn (container_in members) «record» },
 }
 
@@ -180,7 +186,7 @@ impl<'a, X: Drop, K: Keeps<X>> Drop for Subscriber<'a, X, K> {
     fn drop(self) {
         let Self {
             inlet: _inlet,
-            records: _,
+            records: _records,
             layout: _,
             expected: _,
             members: _members,
@@ -232,7 +238,7 @@ impl<'a, X: Drop, K: Keeps<X>> Subscriber<'a, X, K> {
     ghost use Rattle.zero_copy_bus.specs.Ends.{expected_at, layout_at, members_left, members_view, number_of, numbers_of, place_at, place_left};
     ghost use Rattle.zero_copy_bus.specs.Ends.{queue_left, received, receives_left, receives_queue, receives_view, record_of, returns_left};
     ghost use Rattle.zero_copy_bus.specs.Ends.{returns_view, slots_at, word_at, HasHad, HasLeft, IsAgain, IsUnread};
-    ghost use Rattle.zero_copy_bus.specs.Ends.{ReceivedNone, TookNoneBack, TookOut, WasKept};
+    ghost use Rattle.zero_copy_bus.specs.Ends.{ReceivedNone, TookNoneBack, TookOut, TriedToReceive, WasKept};
 
     /// The oldest record that waits. Its number is above that of each record that this subscriber received
     /// before, and not below the number that was next when its seat was made. None where no record waits (as
@@ -261,14 +267,14 @@ impl<'a, X: Drop, K: Keeps<X>> Subscriber<'a, X, K> {
         Some(Sample { number, slot })
     }
 
-    /// The next record, by at most `tries` tries (by no clause), between which another thread may run. None
-    /// where each try received none; words that are of no record may then be popped and gone. The steps of
-    /// `receive` for each try.
+    /// The next record, by at most `tries` tries, between which another thread may run. None where each of so many tries received
+    /// none. Words that are of no record may then be popped and gone. The steps of `receive` for each try.
     pub fn receive_within(&mut self, rt: &impl Wait, tries: u64) -> Option<Sample>
         ensures within { IfSome result (λ s. received s < slots_at self.old) }
         ensures oldest { IfSome result (λ s. TookOut s self.old self.new) }
         ensures rises { Rises (expected_at self.old) (numbers_of result) (expected_at self.new) }
         ensures had { (came : List ℕ) × HasHad came (numbers_of result) self.old self.new }
+        ensures tried { IfNone result (TriedToReceive tries self.old self.new) }
         ensures same { (slots_at self.new ≡ slots_at self.old) × (layout_at self.new ≡ layout_at self.old) × (place_at self.new ≡ place_at self.old) }
     {
         for _ in 0..tries {

@@ -5,3 +5,4 @@ mod Places
 pub mod Relayed
 mod Shares
 pub mod WrongBodies
+pub mod WrongEnds

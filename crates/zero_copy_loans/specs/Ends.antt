@@ -1,7 +1,7 @@
 -- What clauses see of the ends of a channel: what a sender has sent and has in its table of places, what a
 -- receiver has received, and the parts of which both are made. A *view* is all that a pass or a guard knows
 -- of its queue.
-use Rattle.std.specs.Prelude.{◌≡◌, ◌≢◌, ◌⊎◌, ℕ, ◌+◌, ◌%◌, ◌^◌, ◌<◌, ◌≤◌, Option, Some, None, List, [], ◌∷◌, slice_set, vec_len}
+use Rattle.std.specs.Prelude.{◌≡◌, ◌≢◌, ◌⊎◌, ℕ, ◌+◌, ◌%◌, ◌^◌, ◌<◌, ◌≤◌, Option, Some, None, List, [], ◌∷◌, length, slice_set, vec_len}
 use Rattle.std.specs.List.{range_with_len}
 use Rattle.history.specs.declared.view.View.{View}
 use Rattle.lock_free_loans.specs.Loan.Places.{place_at}
@@ -28,8 +28,8 @@ use Rattle.zero_copy_loans.specs.declared.sender.Sender.{Sender}
 use Rattle.zero_copy_loans.specs.declared.sender.SenderParts.{SenderParts}
 use Rattle.zero_copy_loans.specs.declared.words.Layout.{Layout}
 use Rattle.zero_copy_loans.specs.Numbers.{Shape, AreTold, HasSentNumbers, HasReceivedNumbers, SendsOn, ReceivesOn}
-use Rattle.zero_copy_loans.specs.Words.{word_of, IsWord}
-use Rattle.zero_copy_slots.specs.Slots.{slots_in, IsUnreadable}
+use Rattle.zero_copy_loans.specs.Words.{sender_in, word_of, IsWord}
+use Rattle.zero_copy_slots.specs.Slots.{read_by, slots_in, written_by, IsUnreadable, IsUntaken}
 use Rattle.zero_copy_slots.specs.declared.Keeps.{Ghosts}
 
 -- the place of a sample, in which its value lies
@@ -83,11 +83,11 @@ module _ {X K : Type 0} {rule : Ghosts K X} where
 
   -- the sender's own sender of places
   abbrev pub sender_of : Sender X K rule → LoanSender
-  sender_of s = s.loans
+  sender_of s = sender_in s.loans
 
   -- where the sender has each of its places
   abbrev pub places_of : Sender X K rule → List Place
-  places_of s = loans.places_of s.loans
+  places_of s = loans.places_of (sender_of s)
 
   -- how many values the sender has that are not in a slot
   abbrev pub spares_in : Sender X K rule → ℕ
@@ -107,11 +107,11 @@ module _ {X K : Type 0} {rule : Ghosts K X} where
 
   -- what the sender knows of the queue that it sends through
   abbrev pub sends_view : Sender X K rule → View ℕ
-  sends_view s = loans.submission_view s.loans
+  sends_view s = loans.submission_view (sender_of s)
 
   -- the queue through which the sender sends
   abbrev pub sends_queue : Sender X K rule → QueueId
-  sends_queue s = loans.submission_of s.loans
+  sends_queue s = loans.submission_of (sender_of s)
 
   -- the shape of the sender's channel
   abbrev pub sends_shape : Sender X K rule → Shape
@@ -188,19 +188,19 @@ module _ {X K : Type 0} {rule : Ghosts K X} where
         → SendsOn (sends_shape s) (range_with_len (next_of s) count) back (sends_view s) (sent_view parts)
 
   -- Why there is no loan: no value was left to write, and no place changed; the set handed out no index, and
-  -- the table stays; or, at `StillRead`, a place that was Free is Loaned, and there is no loan of it.
+  -- the table stays; or, at `StillRead`, a place that was Free is Loaned, and there is no loan of it, since its slot was not taken.
   abbrev pub IsRefused : Sender X K rule → Sender X K rule → LoanFailure → Type 0
   IsRefused old new NoValue = (spares_in old ≡ 0) × (sender_of new ≡ sender_of old)
   IsRefused old new (NoPlace e) =
       WasRefused e (loans.pass_view (sender_of old)) (loans.pass_view (sender_of new)) × (places_of new ≡ places_of old)
-  IsRefused old new (StillRead i) =
-      (place_at (places_of old) i ≡ Free) × (places_of new ≡ slice_set (places_of old) i Loaned)
+  IsRefused old new (StillRead i failure) =
+      (place_at (places_of old) i ≡ Free) × (places_of new ≡ slice_set (places_of old) i Loaned) × IsUntaken (written_by old.writer) i failure
 
   -- ---- the receiver
 
   -- how many places the receiver reads
   abbrev pub places_in : Receiver X K rule → ℕ
-  places_in r = slots_in r.slots.now
+  places_in r = slots_in (read_by r.reader)
 
   -- what the receiver knows of the queue that it receives from
   abbrev pub receives_view : Receiver X K rule → View ℕ
@@ -238,6 +238,15 @@ module _ {X K : Type 0} {rule : Ghosts K X} where
       PopFoundNone (receives_view old) (receives_view new)
       ⊎ ((receives_queue old).capacity ≡ 0) × (receives_view new ≡ receives_view old)
       ⊎ (word : ℕ) × (places_in old ≤ word % (layout_in old).room) × PopOldest (Index word) (receives_view old) (receives_view new)
+
+  -- `receive` gave no sample of the receiver as it was before each of the tries, the last one first
+  abbrev pub EachReceivedNone : List (Receiver X K rule) → Receiver X K rule → Receiver X K rule → Type 0
+  EachReceivedNone [] old new = new ≡ old
+  EachReceivedNone (last ∷ before) old new = EachReceivedNone before old last × ReceivedNone last new
+
+  -- so many tries, one after the other, received none
+  abbrev pub TriedToReceive : ℕ → Receiver X K rule → Receiver X K rule → Type 0
+  TriedToReceive tries old new = (before : List (Receiver X K rule)) × (length before ≡ tries) × EachReceivedNone before old new
 
   -- the receiver receives from the same queue, and gives back through the same one
   abbrev pub IsSameReceiver : Receiver X K rule → Receiver X K rule → Type 0
@@ -289,7 +298,7 @@ module _ {X K : Type 0} {rule : Ghosts K X} where
 
   -- why a sample is not read: its slot is not, or the failure has another number (that it lies there, no clause says)
   abbrev pub IsUnread : Receiver X K rule → Sample → ReadFailure → Type 0
-  IsUnread r sample (Slot failure) = IsUnreadable r.slots.now (received sample) failure
+  IsUnread r sample (Slot failure) = IsUnreadable (read_by r.reader) (received sample) failure
   IsUnread r sample (Other number) = number ≢ number_of sample
 
   -- the place was not given back: the queue was full, or its last position is reached

@@ -75,6 +75,7 @@ impl<X: Drop, K: Keeps<X>> Channel<X, K> {
     ghost use Rattle.zero_copy_loans.specs.Channels.{completion_in, layout_of, next_in, places_of, sending_view, set_in};
     ghost use Rattle.zero_copy_loans.specs.Channels.{shape_of, steps_in, steps_of, submission_in};
     ghost use Rattle.zero_copy_loans.specs.Channels.{HasOpened, HasPassedOn, HasRejoined, IsReceiverOf, IsSameChannel, IsSenderOf};
+    ghost use Rattle.zero_copy_loans.specs.Relays.{GoesOn};
 
     /// Makes `places` places, from 1 to 2^24 - 2, of which at most `queue` wait, up to 2^32 - 1. Refused as
     /// `UniqueIndexSet::new` of the places, then as the queues are, and where there is no memory. No atomic step.
@@ -273,9 +274,12 @@ impl<X: Drop, K: Keeps<X>> Channel<X, K> {
         self.sending.history();
     }
 
-    /// Does nothing at run time. It tells a caller's proof that the values that were received and those that
-    /// came back merge, each once and in its order, to a beginning of what was sent.
+    /// The law of the channel, end to end. It does nothing at run time. A new channel knows that nothing was sent (`new`). What it
+    /// knew before it opened two ends, and what these sent, got back and received until it took them in again, it then knows
+    /// (`goes_on`). And of what it knows the values that were received and those that came back merge, each once and in its order,
+    /// to a beginning of what was sent (`tells`).
     pub fn passes_on(&self)
-        ensures { (sent back received : List ℕ) → HasPassedOn sent back received self.now → IsPassedOn sent received back }
+        ensures goes_on { GoesOn self.now }
+        ensures tells { (sent back received : List ℕ) → HasPassedOn sent back received self.now → IsPassedOn sent received back }
     {}
 }

@@ -10,8 +10,8 @@ pub enum LoanFailure {
     NoPlace(#[from] UniqueIndexSetAcquireFailure),
     #[error("no value to write")]
     NoValue,
-    #[error("place {0} is read or written by another, or has no slot, and stays loaned")]
-    StillRead(u32),
+    #[error("place {0} is not to be written, and stays loaned: {1}")]
+    StillRead(u32, slots::TakeFailure),
 }
 
 /// Why a sample is not read.

@@ -6,6 +6,7 @@
 
 pub mod channel;
 mod debug;
+mod each;
 pub mod error;
 pub mod pool;
 pub mod receiver;

@@ -6,20 +6,18 @@ ghost use Rattle.lock_free_queues.specs.Queues.Rings.{consumer_queue, consumer_v
 ghost use Rattle.steps.specs.declared.queues.roles.Role.TheVariants as roles;
 ghost use Rattle.lock_free_queues.specs.Queues.Contracts.{HasReleased, PopOldest, PushDone};
 ghost use Rattle.zero_copy_loans.specs.Words.{IsRoomFor};
-ghost use Rattle.zero_copy_slots.specs.Slots.{number_in, slot_in, slots_in};
+ghost use Rattle.zero_copy_slots.specs.Slots.{number_in, read_by, slot_in, slots_in};
 
 use crate::error::ReadFailure;
 use crate::words::Layout;
 use lock_free_queues::spsc::{index_queue, safely_overflowing_index_queue as overflow};
-use std::alloc::Global;
 use std::sync::Wait;
 use std::thread;
-use zero_copy_slots::{Anything, Keeps, Reading, Slots};
+use zero_copy_slots::{Anything, Keeps, Reader, Reading, Slots};
 
 /// A value that was sent, by its number and its place, which may be read until it is given back. It may be sent to another thread.
-/// One that is dropped or forgotten leaves its place Sent until its receiver is gone and the sender reclaims, which that of a
-/// `Channel` cannot.
-#[derive(Debug, Drop)]
+/// It cannot be dropped or forgotten: who has one gives it back.
+#[derive(Debug)]
 pub struct Sample {
     number: u64,
     place: u32,
@@ -65,9 +63,9 @@ pub trait Reads<X, K: Keeps<X>, A> {
 pub struct Receiver<'a, X: Drop, K: Keeps<X> = Anything> {
     receives: overflow::Consumer<'a>,
     returns: index_queue::Producer<'a>,
-    slots: &'a Slots<X, K>,
+    reader: Reader<'a, X, K>,
     layout: Layout,
-    ghost sized: { layout.places ≡ slots_in slots.now },
+    ghost sized: { layout.places ≡ slots_in (read_by reader) },
 }
 
 impl<'a, X: Drop, K: Keeps<X>> Drop for Receiver<'a, X, K> {
@@ -75,7 +73,7 @@ impl<'a, X: Drop, K: Keeps<X>> Drop for Receiver<'a, X, K> {
         let Self {
             receives: _receives,
             returns: _returns,
-            slots: _,
+            reader: _reader,
             layout: _,
         } = self;
     }
@@ -85,7 +83,7 @@ impl<'a, X: Drop, K: Keeps<X>> Receiver<'a, X, K> {
     ghost use Rattle.zero_copy_loans.specs.Ends.{layout_in, number_of, numbers_of, places_in, received, received_queue, received_view, receives_queue};
     ghost use Rattle.zero_copy_loans.specs.Ends.{receives_view, returns_queue, returns_view, word_in, HasRead, HasReceived, HasReceivedAll};
     ghost use Rattle.zero_copy_loans.specs.Ends.{IsUnread, KeepsReceives};
-    ghost use Rattle.zero_copy_loans.specs.Ends.{ReceivedNone, TookNoneBack};
+    ghost use Rattle.zero_copy_loans.specs.Ends.{ReceivedNone, TookNoneBack, TriedToReceive};
 
     /// A receiver that receives from the submission queue and gives places back through the completion queue.
     /// No atomic step.
@@ -123,7 +121,7 @@ impl<'a, X: Drop, K: Keeps<X>> Receiver<'a, X, K> {
         Receiver {
             receives,
             returns,
-            slots,
+            reader: Reader::new(slots),
             layout,
         }
     }
@@ -150,11 +148,12 @@ impl<'a, X: Drop, K: Keeps<X>> Receiver<'a, X, K> {
         }
     }
 
-    /// The next value, by at most `tries` tries (by no clause), between which another thread may run. None
-    /// where each try received none. The steps of `receive` for each try.
+    /// The next value, by at most `tries` tries, between which another thread may run. None where each of so many tries received
+    /// none. The steps of `receive` for each try.
     pub fn receive_within(&mut self, rt: &impl Wait, tries: u64) -> Option<Sample>
         ensures within { IfSome result (λ s. received s < places_in self.old) }
         ensures receives { HasReceived (numbers_of result) self.old self.new }
+        ensures tried { IfNone result (TriedToReceive tries self.old self.new) }
     {
         for _ in 0..tries {
             if let Some(sample) = self.receive(rt) {
@@ -194,7 +193,7 @@ impl<'a, X: Drop, K: Keeps<X>> Receiver<'a, X, K> {
         ensures sent { IfOk result (λ r. (number_in r ≡ number_of sample.now) × (slot_in r ≡ received sample.now)) }
         ensures refused { IfErr result (IsUnread self.now sample.now) }
     {
-        let reading = match self.slots.read(sample.place) {
+        let reading = match self.reader.read(sample.place) {
             Ok(reading) => reading,
             Err(failure) => return Err(ReadFailure::Slot(failure)),
         };
@@ -221,42 +220,6 @@ impl<'a, X: Drop, K: Keeps<X>> Receiver<'a, X, K> {
         self.returns.push(place as u64)
     }
 
-    /// What the reader tells of a sample's value, which it reads where it lies. None where the value cannot
-    /// be read, or the reader tells nothing.
-    fn read_by<A: Drop, R: Reads<X, K, A>>(&self, sample: &Sample, reader: &mut R) -> Option<A>
-        ensures { IfSome result (R.tells (number_of sample.now)) }
-    {
-        let reading = self.read(sample).ok()?;
-        reader.read(reading.get())
-    }
-
-    /// Receives `count` values, each by at most `tries` tries, reads them where they lie, and gives them
-    /// back. Returns what the reader told of each. None where a value did not come or could not be read,
-    /// where nothing was told of it, or where there is no memory; the values that came are given back then
-    /// too. The steps of `receive_within`, of `read` and of `give_back` for each.
-    pub fn read_each<A: Drop, R: Reads<X, K, A>>(
-        &mut self,
-        rt: &impl Wait,
-        alloc: Global,
-        count: usize,
-        tries: u64,
-        reader: &mut R,
-    ) -> Option<Vec<A>>
-        ensures { IfSome result (λ told. HasRead R.tells told.items self.old self.new) }
-    {
-        let mut told = Vec::new(alloc);
-        for _ in 0..count {
-            let sample = self.receive_within(rt, tries)?;
-            let read = self.read_by(&sample, reader);
-            self.give_back(sample);
-            let one = read?;
-            let Ok(()) = told.push(one) else {
-                return None;
-            };
-        }
-        Some(told)
-    }
-
     /// Hands out the passes of the two queues, for `Channel::relayed`; both roles are free. Two atomic steps.
     pub fn finish(self) -> ReceiverParts
         ensures goes { Goes (receives_view self.entry) (received_view result) }
@@ -267,7 +230,7 @@ impl<'a, X: Drop, K: Keeps<X>> Receiver<'a, X, K> {
         let Receiver {
             receives,
             returns,
-            slots: _,
+            reader: _reader,
             layout: _,
         } = self;
         ReceiverParts {

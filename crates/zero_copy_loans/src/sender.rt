@@ -18,7 +18,7 @@ ghost use Rattle.zero_copy_slots.specs.Slots.{slots_in, slot_of};
 ghost use Rattle.zero_copy_slots.specs.Words.{emptied_slot};
 
 use crate::error::LoanFailure;
-use crate::words::Layout;
+use crate::words::{Layout, Loans};
 use lock_free_loans::spsc::loan::LoanSender;
 use lock_free_queues::spsc::{index_queue, safely_overflowing_index_queue as overflow};
 use lock_free_sets::mpmc::unique_index_set::Pass;
@@ -27,7 +27,7 @@ use std::ops::Deref;
 use std::sync::Wait;
 use std::thread;
 use zero_copy_slots::words::Emptied;
-use zero_copy_slots::{Anything, Keeps, Slots, Writing};
+use zero_copy_slots::{Anything, Keeps, Slots, Writer, Writing};
 
 /// A place that is Loaned, and a value for it that is written in plain memory, until it is sent or given up. It stays in its
 /// thread. Where it is dropped, its value and what lay in its slot are dropped for good, and its place stays Loaned until it is
@@ -120,7 +120,7 @@ pub struct SenderParts {
     pub next: u64,
 }
 
-/// Keeps the value that lay in a slot, if one did, among the values to write.
+/// Keeps the value that lay in a slot, if one did, to be written again.
 fn keep<X: Drop>(spares: &mut Vec<X>, old: Option<(u64, X)>) {
     if let Some((_, value)) = old {
         let _ = spares.push(value);
@@ -129,8 +129,8 @@ fn keep<X: Drop>(spares: &mut Vec<X>, old: Option<(u64, X)>) {
 
 /// A sender of values: a `LoanSender`, whose table says where each place is, with a slot for each place.
 pub struct Sender<'a, X: Drop, K: Keeps<X> = Anything> {
-    loans: LoanSender<'a>,
-    slots: &'a Slots<X, K>,
+    loans: Loans<'a>,
+    writer: Writer<'a, X, K>,
     spares: Vec<X>,
     layout: Layout,
     next: u64,
@@ -140,7 +140,7 @@ impl<'a, X: Drop, K: Keeps<X>> Drop for Sender<'a, X, K> {
     fn drop(self) {
         let Self {
             loans: _loans,
-            slots: _,
+            writer: _writer,
             spares: _spares,
             layout: _,
             next: _,
@@ -181,8 +181,8 @@ impl<'a, X: Drop, K: Keeps<X>> Sender<'a, X, K> {
         ensures next { next_of result ≡ next }
     {
         Sender {
-            loans,
-            slots,
+            loans: Loans::of(loans),
+            writer: Writer::new(slots),
             spares,
             layout,
             next,
@@ -190,11 +190,10 @@ impl<'a, X: Drop, K: Keeps<X>> Sender<'a, X, K> {
     }
 
     /// Loans a place that was Free, with a value to write: the place is Loaned. Refused as follows:
-    ///
     /// - where no value is left to write (`NoValue`), and then nothing changes;
     /// - where no index is left, or the set is locked (`NoPlace`), and then the table stays;
-    /// - where somebody reads the place's slot although the place was Free, or where the place has no slot (`StillRead`). The
-    ///   place stays Loaned, so that the next loan gets another; `regain` tries it again.
+    /// - where somebody reads the place's slot although the place was Free, or where the place has no slot (`StillRead`, with the
+    ///   reason why the slot was not taken). The place stays Loaned, so that the next loan gets another; `regain` tries it again.
     ///
     /// The steps of `LoanSender::loan`, and on the slot a load and at most one compare-exchange.
     pub fn loan(&mut self, rt: &impl Wait) -> Result<Loan<'a, X, K>, LoanFailure>
@@ -214,8 +213,9 @@ impl<'a, X: Drop, K: Keeps<X>> Sender<'a, X, K> {
             Ok(place) => place,
             Err(failure) => return Err(LoanFailure::NoPlace(failure)),
         };
-        let Ok(writing) = self.slots.take(place) else {
-            return Err(LoanFailure::StillRead(place));
+        let writing = match self.writer.take(place) {
+            Ok(writing) => writing,
+            Err(failure) => return Err(LoanFailure::StillRead(place, failure)),
         };
         let Some(value) = self.spares.pop() else {
             unreachable!()
@@ -316,11 +316,10 @@ impl<'a, X: Drop, K: Keeps<X>> Sender<'a, X, K> {
             return Some(Back { number, place });
         }
         let (value, writing) = loan.into_parts();
-        let (laid, before) = writing.put(number, value);
+        let (lying, before) = self.writer.put(writing, number, value);
         keep(&mut self.spares, before);
         self.next = number + 1;
-        let word = self.layout.word(&laid);
-        let back = self.loans.send_as(place, word)?;
+        let back = self.loans.send(&self.layout, &lying)?;
         let (number, place) = self.layout.parts(back);
         self.loans.settle(place as u64);
         Some(Back { number, place })
@@ -403,7 +402,7 @@ impl<'a, X: Drop, K: Keeps<X>> Sender<'a, X, K> {
         if !self.loans.is_loaned(place) {
             return None;
         }
-        let Ok(writing) = self.slots.take(place) else {
+        let Ok(writing) = self.writer.take(place) else {
             return None;
         };
         let (emptied, before) = writing.clear();
@@ -461,7 +460,7 @@ impl<'a, X: Drop, K: Keeps<X>> Sender<'a, X, K> {
     {
         let Sender {
             loans,
-            slots: _,
+            writer: _writer,
             spares,
             layout: _,
             next: _,
@@ -483,7 +482,7 @@ impl<'a, X: Drop, K: Keeps<X>> Sender<'a, X, K> {
     {
         let Sender {
             loans,
-            slots: _,
+            writer: _writer,
             spares,
             layout: _,
             next,

@@ -9,8 +9,11 @@ use Rattle.zero_copy_slots.specs.declared.error.TakeFailure.TheVariants as takes
 use Rattle.zero_copy_slots.specs.declared.Keeps.{Ghosts}
 use Rattle.zero_copy_slots.specs.declared.Kept.{Kept}
 use Rattle.zero_copy_slots.specs.declared.Laid.{Laid}
+use Rattle.zero_copy_slots.specs.declared.Lying.{Lying}
+use Rattle.zero_copy_slots.specs.declared.Reader.{Reader}
 use Rattle.zero_copy_slots.specs.declared.Reading.{Reading}
 use Rattle.zero_copy_slots.specs.declared.Slots.{Slots}
+use Rattle.zero_copy_slots.specs.declared.Writer.{Writer}
 use Rattle.zero_copy_slots.specs.declared.Writing.{Writing}
 use Rattle.zero_copy_slots.specs.Words.{placed_slot, placed_number, seen_in, seen_word}
 
@@ -54,6 +57,22 @@ laid_slot laid = placed_slot laid.lies
 abbrev pub laid_number : Laid → ℕ
 laid_number laid = placed_number laid.lies
 
+-- the slot that a value lies in since its writer laid it there
+abbrev pub lying_slot : Lying → ℕ
+lying_slot lying = laid_slot lying.laid
+
+-- the number under which it lies there
+abbrev pub lying_number : Lying → ℕ
+lying_number lying = laid_number lying.laid
+
+-- the slots that a writer writes
+abbrev pub written_by : {X K : Type 0} {rule : Ghosts K X} → Writer X K rule → Slots X K rule
+written_by writer = writer.slots.now
+
+-- the slots that a reader reads
+abbrev pub read_by : {X K : Type 0} {rule : Ghosts K X} → Reader X K rule → Slots X K rule
+read_by reader = reader.slots.now
+
 -- Why a slot is not read: there is no such slot; or its word, as it was seen, says that no value lies there, or that
 -- 2^30 - 1 read it; or it changed in each of 2^64 - 1 tries.
 -- No clause says that it was seen in these slots, and in this call.
@@ -61,7 +80,9 @@ abbrev pub IsUnreadable : {X K : Type 0} {rule : Ghosts K X} → Slots X K rule 
 IsUnreadable slots slot reads.NoSlot = slots_in slots ≤ slot
 IsUnreadable slots slot (reads.NotThere seen) = (seen_in seen ≡ slot) × (seen_word seen % 4 ≢ 1)
 IsUnreadable slots slot (reads.TooMany seen) = (seen_in seen ≡ slot) × (readers (seen_word seen) ≡ 2 ^ 30 - 1)
-IsUnreadable slots slot (reads.Busy tries) = tries ≡ 2 ^ 64 - 1
+IsUnreadable slots slot (reads.Hollow seen) = (seen_in seen ≡ slot) × (seen_word seen % 4 ≡ 1)
+IsUnreadable slots slot (reads.Busy seen found) =
+    (seen_in seen ≡ slot) × (seen_in found ≡ slot) × (seen_word found ≢ seen_word seen)
 
 -- why a slot is not to be written: there is none, or its word, which was seen there, says that it is written or read,
 -- or it changed (in whose slots, and in which call, no clause says)

@@ -11,8 +11,10 @@ pub enum ReadFailure {
     NotThere(Seen),
     #[error("no further reader can be counted: word {}", .0.word())]
     TooMany(Seen),
-    #[error("it changed between the steps of {0} tries")]
-    Busy(u64),
+    #[error("nothing lies there though its word says so: word {}", .0.word())]
+    Hollow(Seen),
+    #[error("it changed in each try, at last from word {} to word {}", .0.word(), .1.word())]
+    Busy(Seen, Seen),
 }
 
 /// Why a slot is not to be written, with the words that said so.

@@ -95,6 +95,127 @@ pub struct Laid {
     lies: Lies,
 }
 
+/// Says that a value lies in a slot since its writer laid it there: it borrows the writer, so the writer has taken no slot since.
+#[derive(Debug, Drop)]
+pub struct Lying<'w> {
+    laid: Laid,
+    since: PhantomData<&'w ()>,
+}
+
+/// The end of slots by which one thread writes them. As long as a `Lying` of it lives, it takes no slot.
+pub struct Writer<'a, X, K: Keeps<X> = Anything> {
+    slots: &'a Slots<X, K>,
+}
+
+impl<'a, X, K: Keeps<X>> Drop for Writer<'a, X, K> {
+    fn drop(self) {
+        let Self { slots: _ } = self;
+    }
+}
+
+/// The end of slots by which one thread reads them: it takes and lays nothing.
+pub struct Reader<'a, X, K: Keeps<X> = Anything> {
+    slots: &'a Slots<X, K>,
+}
+
+impl<'a, X, K: Keeps<X>> Drop for Reader<'a, X, K> {
+    fn drop(self) {
+        let Self { slots: _ } = self;
+    }
+}
+
+impl<'w> Lying<'w> {
+    ghost use Rattle.zero_copy_slots.specs.Slots.{lying_number, lying_slot};
+
+    /// The slot. No atomic step.
+    pub fn slot(&self) -> u32
+        ensures { result ≡ lying_slot self.now }
+    {
+        self.laid.slot()
+    }
+
+    /// The number. No atomic step.
+    pub fn number(&self) -> u64
+        ensures { result ≡ lying_number self.now }
+    {
+        self.laid.number()
+    }
+}
+
+impl<'a, X, K: Keeps<X>> Writer<'a, X, K> {
+    ghost use Rattle.zero_copy_slots.specs.Slots.{lying_number, lying_slot, read_by, slot_of, slots_in, written_by, IsUntaken};
+
+    /// The writer of these slots. Nobody else may write them. No atomic step.
+    pub fn new(slots: &'a Slots<X, K>) -> Writer<'a, X, K>
+        ensures { written_by result ≡ slots.now }
+    {
+        Writer { slots }
+    }
+
+    /// How many slots there are. No atomic step.
+    pub fn number(&self) -> u32
+        ensures { result ≡ slots_in (written_by self.now) }
+    {
+        self.slots.number()
+    }
+
+    /// An end by which another thread reads the same slots. No atomic step.
+    pub fn reader(&self) -> Reader<'a, X, K>
+        ensures { read_by result ≡ written_by self.now }
+    {
+        Reader { slots: self.slots }
+    }
+
+    /// The right to write this slot, as by `Slots::take`.
+    pub fn take(&mut self, slot: u32) -> Result<Writing<'a, X, K>, TakeFailure>
+        ensures slot { IfOk result (λ w. (slot_of w ≡ slot) × (slot < slots_in (written_by self.old))) }
+        ensures refused { IfErr result (IsUntaken (written_by self.old) slot) }
+        ensures same { written_by self.new ≡ written_by self.old }
+    {
+        self.slots.take(slot)
+    }
+
+    /// Lays a value down as by `Writing::put`, and takes no slot as long as the answer lives.
+    pub fn put<'w>(
+        &'w self,
+        writing: Writing<'a, X, K>,
+        number: u64,
+        value: X,
+    ) -> (Lying<'w>, Option<(u64, X)>)
+        requires fits { K.holds number value }
+        ensures laid { (lying_slot result.0 ≡ slot_of writing.entry) × (lying_number result.0 ≡ number) }
+        ensures fits { IfSome result.1 (λ r. K.holds r.0 r.1) }
+    {
+        let (laid, before) = writing.put(number, value);
+        (
+            Lying {
+                laid,
+                since: PhantomData,
+            },
+            before,
+        )
+    }
+}
+
+impl<'a, X, K: Keeps<X>> Reader<'a, X, K> {
+    ghost use Rattle.zero_copy_slots.specs.Slots.{read_by, slot_in, slots_in, IsUnreadable};
+
+    /// A reader of these slots. No atomic step.
+    pub fn new(slots: &'a Slots<X, K>) -> Reader<'a, X, K>
+        ensures { read_by result ≡ slots.now }
+    {
+        Reader { slots }
+    }
+
+    /// Reads the value of this slot, as by `Slots::read`.
+    pub fn read(&self, slot: u32) -> Result<Reading<'_, X, K>, ReadFailure>
+        ensures slot { IfOk result (λ r. (slot_in r ≡ slot) × (slot < slots_in (read_by self.now))) }
+        ensures refused { IfErr result (IsUnreadable (read_by self.now) slot) }
+    {
+        self.slots.read(slot)
+    }
+}
+
 impl<'a, X, K: Keeps<X>> Reading<'a, X, K> {
     ghost use Rattle.zero_copy_slots.specs.Slots.{number_in, value_in};
 
@@ -264,7 +385,7 @@ impl<X, K: Keeps<X>> Slots<X, K> {
             return Err(ReadFailure::NoSlot);
         };
         let cell: &Counted<Option<Kept<X, K>>> = cell;
-        for _ in 0..u64::MAX {
+        for tries in 0..u64::MAX {
             let seen = look(cell, slot);
             let word = seen.word();
             if word % 4 != PRESENT {
@@ -276,6 +397,9 @@ impl<X, K: Keeps<X>> Slots<X, K> {
             let (found, claim) = turn(cell, seen, word + ONE_READER);
             if found.word() != word {
                 claim.done();
+                if tries == u64::MAX - 1 {
+                    return Err(ReadFailure::Busy(seen, found));
+                }
                 continue;
             }
             if claim.get().is_some() {
@@ -283,8 +407,9 @@ impl<X, K: Keeps<X>> Slots<X, K> {
             }
             // (no call leaves a slot PRESENT and empty)
             claim.leave();
+            return Err(ReadFailure::Hollow(seen));
         }
-        Err(ReadFailure::Busy(u64::MAX))
+        unreachable!()
     }
 
     /// The right to write this slot. Refused where there is no such slot (`NoSlot`), where the word that it saw there says that

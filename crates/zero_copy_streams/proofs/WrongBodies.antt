@@ -4,6 +4,8 @@ use Rattle.std.proofs.Common.{refl, sym, ap, subst, ◌∙◌, arith, length-app
 use Rattle.std.proofs.lemmas.List.{append_cancel_left}
 use Rattle.zero_copy_loans.specs.Numbers.{AreTold}
 use Rattle.zero_copy_slots.specs.declared.Keeps.{Ghosts}
+use Rattle.zero_copy_streams.specs.Streams.{IsNotMade}
+use Rattle.zero_copy_streams.specs.declared.error.StreamError.TheVariants.{TooManySlots}
 use Rattle.zero_copy_streams.specs.Ends.{received, received_so_far, sent, sent_so_far, next_of, is_at_end, is_end, has_ended, has_finished}
 use Rattle.zero_copy_streams.specs.Ends.{HasFound, HasLooked, HasRead}
 use Rattle.zero_copy_streams.specs.declared.receiver.Found.TheVariants as found
@@ -38,6 +40,12 @@ told_many tells [] [] all = refl
 told_many tells [] (a ∷ told) all = absurd all
 told_many tells (n ∷ ns) [] all = absurd all
 told_many tells (n ∷ ns) (a ∷ told) all = (let more = told_many tells ns told all.1 in omega arith)
+
+-- ---- `new`
+
+-- `new` refuses slots for which there is room
+pub new_refuses_few_slots : (capacity slots : ℕ) → slots ≤ capacity → IsNotMade capacity slots TooManySlots → ⊥
+new_refuses_few_slots capacity slots few k = absurd (omega arith)
 
 module _ {X K : Type 0} {rule : Ghosts K X} where
   module _ (old new : Sender X K rule) where

@@ -1,11 +1,18 @@
 -- What clauses see of a stream that has no ends yet.
-use Rattle.std.specs.Prelude.{◌≡◌, ℕ}
+use Rattle.std.specs.Prelude.{◌≡◌, ◌<◌, ◌≤◌, ℕ}
 use Rattle.history.specs.Views.{first_view}
 use Rattle.lock_free_queues.specs.Queues.Values.{QueueId, inner, queue_id, view, IsPassOf}
 use Rattle.zero_copy_slots.specs.declared.Keeps.{Ghosts}
 use Rattle.zero_copy_slots.specs.Slots.{slots_in}
+use Rattle.zero_copy_streams.specs.declared.error.StreamError.{StreamError}
+use Rattle.zero_copy_streams.specs.declared.error.StreamError.TheVariants.{Part, TooManySlots}
 use Rattle.zero_copy_streams.specs.declared.stream.Passes.{Passes}
 use Rattle.zero_copy_streams.specs.declared.stream.Stream.{Stream}
+
+-- why a stream of this CAPACITY with so many slots is not made: they are more, or they are not, and a part refused
+abbrev pub IsNotMade : (capacity slots : ℕ) → StreamError → Type 0
+IsNotMade capacity slots TooManySlots = capacity < slots
+IsNotMade capacity slots (Part failure) = slots ≤ capacity
 
 module _ {X K : Type 0} {CAPACITY : ℕ} {rule : Ghosts K X} where
   -- how many slots the stream has

@@ -1,6 +1,16 @@
-//! Why a value is not sent, and why not all were read.
+//! Why a stream is not made, why a value is not sent, and why not all were read.
+use steps::enums::UniqueIndexCreationError;
 use thiserror::Error;
 use zero_copy_slots::error::TakeFailure;
+
+/// Why a stream is not made.
+#[derive(Debug, Drop, Error)]
+pub enum StreamError {
+    #[error("a slot that comes back may find no room")]
+    TooManySlots,
+    #[error("a part is not made: {0}")]
+    Part(#[from] UniqueIndexCreationError),
+}
 
 /// Why a value is not sent.
 #[derive(Debug, Drop, Error)]

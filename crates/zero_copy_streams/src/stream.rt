@@ -1,7 +1,8 @@
 //! A stream (`Stream`): its slots and its two queues, which both ends share, and how the ends are made.
-ghost use Rattle.std.specs.Prelude.{◌≡◌, [], false, IfOk, IfSome};
+ghost use Rattle.std.specs.Prelude.{◌≡◌, ◌≤◌, [], false, IfErr, IfOk, IfSome, OnOk};
 ghost use Rattle.zero_copy_streams.specs.Ends.{sender_queue, receiver_queue, next_of, sent_so_far, received_so_far, is_at_end};
 
+use crate::error::StreamError;
 use crate::receiver::Receiver;
 use crate::sender::Sender;
 use lock_free_queues::spsc::queue::{Pass, Queue};
@@ -17,8 +18,8 @@ pub type Ticket = (u64, u64);
 /// The slots of a stream, the queue by which tickets go forth, and the one by which slots come back. Each queue has room for
 /// CAPACITY of them. A value lies in its slot until another is laid there, or the stream is dropped.
 ///
-/// With fewer slots than CAPACITY there is always room for an end beside them (no clause says so): then a sender that is dropped
-/// ends the stream, and a sender learns that its receiver is gone. With more slots than CAPACITY slots may be lost.
+/// There are at most CAPACITY slots, so there is always room for a slot that comes back. With fewer there is room for an end beside
+/// them too (no clause says either): then a sender that is dropped ends the stream, and a sender learns that its receiver is gone.
 pub struct Stream<X: Drop, const CAPACITY: usize, K: Keeps<X> = Anything> {
     tickets: Queue<Element<Ticket>, CAPACITY>,
     places: Queue<Element<u32>, CAPACITY>,
@@ -61,21 +62,30 @@ impl Passes {
 }
 
 impl<X: Drop, const CAPACITY: usize, K: Keeps<X>> Stream<X, CAPACITY, K> {
-    ghost use Rattle.zero_copy_streams.specs.Streams.{slots_of, tickets_of, ArePassesOf};
+    ghost use Rattle.zero_copy_streams.specs.Streams.{slots_of, tickets_of, ArePassesOf, IsNotMade};
 
-    /// A stream with `slots` empty slots, and the first passes of its queues. Refused are a CAPACITY above
-    /// 2^32 - 1 and memory. No atomic step. This project's own.
-    pub fn new(
-        alloc: Global,
-        slots: u32,
-    ) -> Result<(Stream<X, CAPACITY, K>, Passes), UniqueIndexCreationError>
+    /// A stream with `slots` empty slots, and the first passes of its queues. Refused are more slots than CAPACITY
+    /// (`TooManySlots`), since a slot that comes back could find no room and be lost, and a CAPACITY above 2^32 - 1 and memory
+    /// (`Part`). No atomic step. This project's own.
+    pub fn new(alloc: Global, slots: u32) -> Result<(Stream<X, CAPACITY, K>, Passes), StreamError>
         ensures slots { IfOk result (λ r. slots_of r.0 ≡ slots) }
+        ensures admitted { OnOk result (slots ≤ CAPACITY) }
+        ensures refused { IfErr result (IsNotMade CAPACITY slots) }
         ensures passes { IfOk result (λ r. ArePassesOf r.0 r.1) }
     {
-        let (tickets, forth) = Queue::<Element<Ticket>, CAPACITY>::new(alloc)?;
-        let (places, back) = Queue::<Element<u32>, CAPACITY>::new(alloc)?;
+        if slots as usize > CAPACITY {
+            return Err(StreamError::TooManySlots);
+        }
+        let (tickets, forth) = match Queue::<Element<Ticket>, CAPACITY>::new(alloc) {
+            Ok(made) => made,
+            Err(failure) => return Err(StreamError::Part(failure)),
+        };
+        let (places, back) = match Queue::<Element<u32>, CAPACITY>::new(alloc) {
+            Ok(made) => made,
+            Err(failure) => return Err(StreamError::Part(failure)),
+        };
         let Ok(slots) = Slots::new(alloc, slots) else {
-            return Err(UniqueIndexCreationError::NoMemory);
+            return Err(StreamError::Part(UniqueIndexCreationError::NoMemory));
         };
         let stream = Stream {
             tickets,

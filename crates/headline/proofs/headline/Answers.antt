@@ -1,4 +1,4 @@
--- The law `headline` (src/lib.rt; clauses `reached`, `runs`, `turn`, `lock_free`, `lock_free_by_default`, `lock_free_container` and
+-- The law `headline` (src/lib.rt; clauses `reached`, `runs`, `turn`, `strong`, `lock_free`, `lock_free_by_default`, `lock_free_container` and
 -- `lock_free_channel`): `Holds` is true of a machine of every kind, at every admitted capacity, after every list of turns, of which
 -- those that are refused change nothing.
 use Rattle.std.proofs.Common.{◌≡◌, ◌⊎◌, ⊎_elim, ℕ, Bool, false, None, refl}
@@ -23,6 +23,7 @@ use Rattle.headline.proofs.Ends.{ends}
 use Rattle.headline.proofs.Picking.{picked}
 use Rattle.headline.proofs.Reached.{holds}
 use Rattle.headline.proofs.Reaching.{reaches}
+use Rattle.headline.proofs.Strong.{strong_runs}
 use Rattle.headline.proofs.headline.Goals as goal
 
 pub returns-clause-reached : goal.returns-clause-reached
@@ -59,6 +60,9 @@ returns-clause-turn g c t turn r e =
       found_there = container_finds t turn (after_turn t turn) is_turn;
       looked = looks t turn (after_turn t turn) is_turn;
     }
+
+pub returns-clause-strong : goal.returns-clause-strong
+returns-clause-strong g c = strong_runs _
 
 pub returns-clause-lock_free : goal.returns-clause-lock_free
 returns-clause-lock_free g c kind = one_ends _ kind

@@ -1,5 +1,5 @@
 -- The law `passes_keep_ending` (src/lib.rt; clauses `ends`, `keep` and `known`): of the kinds that have a bound in `lock_free_bound`,
--- where the calls that a pass has seen are of parties with numbers below n.
+-- by the parties that have acted.
 use Rattle.headline_threads.specs.Ends.{PassesEnd, PassesKeepEnding, KnownKeepsEnding}
 use Rattle.headline_threads.proofs.Ending.{part_ends}
 use Rattle.headline_threads.proofs.passes_keep_ending.Goals as goal

@@ -12,7 +12,7 @@ use Rattle.model.specs.declared.families.queues.calls.OverflowCall.{OverflowCall
 use Rattle.model.specs.declared.families.queues.calls.OverflowCall.TheVariants as overflows
 use Rattle.laws_queues.proofs.Queues.Core.{Core, Holds}
 use Rattle.laws_queues.proofs.Queues.Core.{GoesUp}
-pub use Rattle.laws_queues.specs.Fresh.{IsFreshOver}
+pub use Rattle.model.specs.Fresh.{IsFreshOver}
 
 -- ---- the calls by their stages
 

@@ -20,7 +20,8 @@ use Rattle.model.specs.Families.Queues.Spans.{HandsOut}
 use Rattle.laws_queues.proofs.Queues.Invariant.{Scene, Inv}
 use Rattle.laws_queues.proofs.Overflow.Core.{none_passes, one_passes, oldest, push_over}
 use Rattle.laws_queues.proofs.Queues.Core.{Holds, filled, taken, fills, one_filled, takes, word_at, set_at}
-use Rattle.laws_queues.proofs.Overflow.Knows.{overflow_push_at, IsFreshOver, KnowsOverflowPush, overflow_push_number}
+use Rattle.laws_queues.proofs.Overflow.Knows.{overflow_push_at, KnowsOverflowPush, overflow_push_number}
+use Rattle.model.specs.Fresh.{IsFreshOver}
 use Rattle.laws_queues.proofs.Queues.Knows.{free, layout, has_written}
 use Rattle.laws_queues.proofs.Queues.Keeping.{clash, same_roles, kept}
 use Rattle.laws_queues.proofs.Queues.Pending.{pending_after, few_wait, none_hangs}

@@ -20,7 +20,7 @@ use Rattle.laws_queues.proofs.Queues.Core.{GoesUp}
 use Rattle.laws_queues.proofs.Queues.Values.{Val, item}
 use Rattle.laws_queues.proofs.Ring.Knows.{ring_number, PushAt, PopAt, PeekAt}
 use Rattle.laws_queues.proofs.Overflow.Knows.{KnowsBacks, backs_keep, overflow_wrote, overflow_push_number, overflow_pop_number, OverflowAt}
-pub use Rattle.laws_queues.specs.Fresh.{IsFreshStore, IsFreshAt, IsFreshCall}
+pub use Rattle.model.specs.Fresh.{IsFreshStore, IsFreshAt, IsFreshCall}
 
 -- ---- the words
 

@@ -27,10 +27,12 @@ use Rattle.model.specs.declared.families.Registry.TheVariants as registries
 use Rattle.model.proofs.FamilyLaws as laws
 use Rattle.model.proofs.FamilyLaws.{Opens, Turns, AllTurns, Owed, OwesAll}
 use Rattle.model.proofs.Orders.{Keeps}
-pub use Rattle.laws_queues.proofs.Queues.Fresh.{IsFreshTurn, IsFreshRun, fresh_there, fresh_any, fresh_more, fresh_opening}
+pub use Rattle.model.specs.Fresh.{IsFreshTurn, IsFreshRun}
+pub use Rattle.laws_queues.proofs.Queues.Fresh.{fresh_there, fresh_any}
+pub use Rattle.lemmas.proofs.Fresh.{fresh_more, fresh_opening}
 use Rattle.laws_queues.proofs.Queues.Justified.{writes}
 use Rattle.laws_queues.proofs.Queues.Pending.{none_hangs}
-use Rattle.laws_queues.proofs.Queues.Runs.{run_sound}
+use Rattle.lemmas.proofs.MayRuns.{run_sound}
 use Rattle.laws_queues.proofs.Queues.Steps.{comes, begin_comes, no_question, few_turns}
 
 -- a cell has the words of one value

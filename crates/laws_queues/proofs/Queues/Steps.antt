@@ -26,9 +26,11 @@ use Rattle.laws_queues.proofs.Overflow.Knows.{overflow_push_at, overflow_pop_at}
 use Rattle.laws_queues.proofs.Overflow.Pops.{overflow_pop_step}
 use Rattle.laws_queues.proofs.Overflow.Pushes.{overflow_push_step}
 use Rattle.laws_queues.proofs.Queues.Begins.{IsFirst, first_is}
-use Rattle.laws_queues.proofs.Queues.Fresh.{IsFreshTurn, fresh_there}
+use Rattle.model.specs.Fresh.{IsFreshTurn}
+use Rattle.laws_queues.proofs.Queues.Fresh.{fresh_there}
 use Rattle.laws_queues.proofs.Queues.Invariant.{Queue, machine_kind, Scene, Inv, Shows, family, holds_more, owes, queue_part}
-use Rattle.laws_queues.proofs.Queues.Knows.{IsFreshAt, layout, in_one, in_cell, has_written}
+use Rattle.model.specs.Fresh.{IsFreshAt}
+use Rattle.laws_queues.proofs.Queues.Knows.{layout, in_one, in_cell, has_written}
 use Rattle.laws_queues.proofs.Queues.Knows.{KnowsLen, KnowsFlight, number_of, LengthAt, IndexAt, ValueAt, At}
 use Rattle.laws_queues.proofs.Queues.Lengths.{len_step, is_empty_step, is_full_step}
 use Rattle.laws_queues.proofs.Queues.Pending.{pending_put, hangs_same}
@@ -38,7 +40,8 @@ use Rattle.laws_queues.proofs.Queues.Values.{Val, item}
 use Rattle.laws_queues.proofs.Ring.Kinds as ring
 use Rattle.laws_queues.proofs.Ring.Calls.{RingStep}
 use Rattle.laws_queues.proofs.Ring.Kinds.{Ring, of_indices, of_values, kind_of, Room, words_in, enc}
-use Rattle.laws_queues.proofs.Ring.Knows.{IsFresh, ring_number, PushAt, PopAt, PeekAt}
+use Rattle.model.specs.Fresh.{IsFresh}
+use Rattle.laws_queues.proofs.Ring.Knows.{ring_number, PushAt, PopAt, PeekAt}
 use Rattle.laws_queues.proofs.Ring.Peeks.{peek_step}
 use Rattle.laws_queues.proofs.Ring.Pops.{pop_step}
 use Rattle.laws_queues.proofs.Ring.Pushes.{push_step}

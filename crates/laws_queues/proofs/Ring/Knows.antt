@@ -12,7 +12,7 @@ use Rattle.steps.specs.Queues.Ring.{cell_word}
 use Rattle.model.specs.declared.families.queues.calls.RingCall.{RingCall}
 use Rattle.model.specs.declared.families.queues.calls.RingCall.TheVariants as rings
 use Rattle.laws_queues.proofs.Queues.Core.{Core, Holds}
-pub use Rattle.laws_queues.specs.Fresh.{IsFresh}
+pub use Rattle.model.specs.Fresh.{IsFresh}
 
 -- ---- the calls by their stages
 

@@ -23,7 +23,8 @@ use Rattle.laws_queues.proofs.Ring.Kinds.{none_hangs, cells_are, list_after_push
 use Rattle.laws_queues.proofs.Ring.Kinds.{push_roles, push_grants, push_tells, push_producer, push_consumer}
 use Rattle.laws_queues.proofs.Ring.Kinds.{false_is_right, true_is_right, named, wrote_false, wrote_true, most_push}
 use Rattle.laws_queues.proofs.Ring.Keeping.{fill_keeps, publish_keeps}
-use Rattle.laws_queues.proofs.Ring.Knows.{push_at, IsFresh, KnowsPush, push_number}
+use Rattle.laws_queues.proofs.Ring.Knows.{push_at, KnowsPush, push_number}
+use Rattle.model.specs.Fresh.{IsFresh}
 
 -- The party `p` holds the producer's role and pushes `v`. `c` is the capacity, `k` the queue before the
 -- step (positions, values that wait, cells).

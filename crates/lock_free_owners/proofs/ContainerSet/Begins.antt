@@ -16,11 +16,11 @@ use Rattle.steps.specs.declared.container.replace.Replace.{Replace as Replacing}
 use Rattle.steps.specs.declared.indices.robust.looks.BorrowedIndices.{BorrowedIndices as Counting}
 use Rattle.steps.specs.declared.indices.robust.looks.IsLocked.{IsLocked as Looking}
 use Rattle.model.specs.declared.turn.Kind.TheVariants as kinds
-use Rattle.history.proofs.ContainerAdds.{container_add_keeps, container_add_first, container_replace_keeps}
-use Rattle.history.proofs.ContainerAdds.{container_replace_first}
-use Rattle.history.proofs.ContainerCalls.{container_count_keeps, container_count_first, container_lock_keeps}
-use Rattle.history.proofs.ContainerCalls.{container_lock_first, remove_call, container_remove_keeps}
-use Rattle.history.proofs.ContainerCalls.{container_remove_first}
+use Rattle.history_owners.proofs.ContainerAdds.{container_add_keeps, container_add_first, container_replace_keeps}
+use Rattle.history_owners.proofs.ContainerAdds.{container_replace_first}
+use Rattle.history_owners.proofs.ContainerCalls.{container_count_keeps, container_count_first, container_lock_keeps}
+use Rattle.history_owners.proofs.ContainerCalls.{container_lock_first, remove_call, container_remove_keeps}
+use Rattle.history_owners.proofs.ContainerCalls.{container_remove_first}
 use Rattle.lock_free_owners.specs.Container.Idle.{IsIdle}
 use Rattle.lock_free_owners.specs.Container.Turns.{CallAt, BeginsAdd, BeginsRemove, BeginsReplace, BeginsCount}
 use Rattle.lock_free_owners.specs.Container.Turns.{BeginsLock, AddAt, AddEnds, RemoveAt, RemoveEnds, ReplaceAt}

@@ -5,7 +5,7 @@ use Rattle.lock_free_owners.proofs.Names.{false, fold-append, Event, Turn, event
 use Rattle.model.specs.declared.turn.Kind.TheVariants as kinds
 use Rattle.model.specs.World.{opening}
 use Rattle.laws_robust.specs.Gone.{Word}
-use Rattle.laws_robust.specs.Open.{IsReachedOpen, open_refusal}
+use Rattle.model.specs.Open.{IsReachedOpen, open_refusal}
 use Rattle.laws_container.proofs.Allowed.{allowed_open}
 use Rattle.laws_container.proofs.OpenRuns.{reached_open_sound}
 use Rattle.laws_container.proofs.Terms.{Terms}

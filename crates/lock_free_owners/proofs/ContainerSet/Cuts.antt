@@ -19,7 +19,7 @@ use Rattle.model.specs.Parties.{party_of}
 use Rattle.model.specs.Turns.{AreAllowedBy, after_turns, events_of_answer, events_of_next, events_of_decision, step_in}
 use Rattle.model.specs.World.{opening}
 use Rattle.history.specs.History.{AreFirst, AreFresh, Knows}
-use Rattle.history.proofs.Containers.{kept_there}
+use Rattle.history_owners.proofs.Containers.{kept_there}
 use Rattle.history.proofs.OneRun.{know_one, first_none}
 use Rattle.history.proofs.Reached.{reached_as_opening, fresh_as_opening}
 use Rattle.history.proofs.Turns.{run_more}

@@ -15,14 +15,14 @@ use Rattle.steps.specs.declared.indices.enums.ReleaseState.TheVariants as states
 use Rattle.model.specs.declared.families.container.ContainerStart.TheVariants.{IsLocked}
 use Rattle.model.specs.declared.families.container.calls.CountOf.TheVariants as counts
 use Rattle.model.specs.declared.turn.Kind.TheVariants as kinds
-use Rattle.history.specs.Container as container
+use Rattle.history_owners.specs.Container as container
 use Rattle.lock_free_owners.specs.Robust.Contracts.{WroteAt, WasFilled, WasGranted, WasFreed, HasReleased, FoundLock}
 use Rattle.lock_free_owners.specs.Container.Contracts.{IsSound, HasMade, HasAdded, HasRemoved, HasReplaced, HasCounted}
 use Rattle.lock_free_owners.specs.Container.Contracts.{HasTested, HasLooked, Answered, WasNotAdded}
 use Rattle.lock_free_owners.specs.Container.Contracts.{RemovesRight, IsRightRemove, IsRightReplace, IsRightLength, IsRightTest, IsRightLook}
 use Rattle.lock_free_owners.specs.Worn.{MayBeWorn}
 use Rattle.lock_free_owners.specs.Container.Turns.{AddEnds, RemoveEnds, ReplaceEnds, CountEnds, LockEnds}
-use Rattle.history.specs.Settled.{EndsSettled}
+use Rattle.history_owners.specs.Settled.{EndsSettled}
 use Rattle.lock_free_owners.proofs.ContainerSet.Sound.{sound_history}
 use Rattle.lock_free_owners.proofs.ContainerSet.Resting.{settled_so}
 use Rattle.lock_free_owners.proofs.ContainerSet.Began.{history_of as began_history, capacity_from}

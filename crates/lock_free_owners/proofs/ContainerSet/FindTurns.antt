@@ -15,9 +15,9 @@ use Rattle.steps.specs.declared.container.find.FindStage.TheVariants as finds
 use Rattle.model.specs.declared.families.container.ContainerStart.TheVariants as starts
 use Rattle.model.specs.declared.turn.Kind.TheVariants as kinds
 use Rattle.threaded.specs.Driver.{Next, Told, Owes}
-use Rattle.history.proofs.ContainerFinds.{find_call, container_find_keeps, container_find_word, container_find_hears}
-use Rattle.history.proofs.ContainerFinds.{container_find_first, find_copied, find_rests_so, no_ends, copies_span}
-use Rattle.history.proofs.Settling.{KeepsWhere}
+use Rattle.history_owners.proofs.ContainerFinds.{find_call, container_find_keeps, container_find_word, container_find_hears}
+use Rattle.history_owners.proofs.ContainerFinds.{container_find_first, find_copied, find_rests_so, no_ends, copies_span}
+use Rattle.history_owners.proofs.Settling.{KeepsWhere}
 use Rattle.lock_free_owners.specs.Container.FindContract.{copied, Rests, HasSearched, below_question, asked_below}
 use Rattle.lock_free_owners.specs.Container.FindTurns.{words_in, Copying, BeginsFind, finding, find_goes, find_copying}
 use Rattle.lock_free_owners.specs.Container.FindTurns.{FindBegun, FindOver, FindAt, FindDone, FindTells, IsAtWord, IsLeft}

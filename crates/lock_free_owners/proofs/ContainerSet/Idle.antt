@@ -11,7 +11,7 @@ use Rattle.model.specs.declared.families.Registry.TheVariants as registries
 use Rattle.model.specs.declared.families.container.calls.ContainerFlight.{ContainerFlight}
 use Rattle.model.specs.declared.families.container.calls.ContainerFlight.TheVariants as calls
 use Rattle.model.specs.declared.turn.Kind.TheVariants as kinds
-use Rattle.history.specs.Settled.{AtRested}
+use Rattle.history_owners.specs.Settled.{AtRested}
 use Rattle.lock_free_owners.specs.Container.Idle.{asks, is_at_question, may_rest, IsIdle}
 
 module _ {T : Type 0} (code : Coding T) (v : View T) (fresh : v.other ≡ []) (some : 0 < v.share.part) where

@@ -17,7 +17,7 @@ use Rattle.model.specs.declared.turn.Kind.TheVariants as kinds
 use Rattle.model.specs.Families.Container.States.{settled}
 use Rattle.threaded.specs.Driver.{Next, Told}
 use Rattle.history.specs.History.{Knows}
-use Rattle.history.proofs.StateRests.{state_rests_keep, state_rests_idle, state_rests_rested}
+use Rattle.history_owners.proofs.StateRests.{state_rests_keep, state_rests_idle, state_rests_rested}
 use Rattle.lock_free_owners.specs.Container.Bare.{Still, LookStands, LookEnds}
 use Rattle.lock_free_owners.specs.Container.Idle.{IsIdle}
 use Rattle.lock_free_owners.specs.Container.LookTurns.{IsOnHistory, LookAt, LookOver, IsPast, LookOnAt, LookOnOver}

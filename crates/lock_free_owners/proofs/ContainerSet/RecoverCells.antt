@@ -5,7 +5,7 @@ use Rattle.steps.specs.declared.container.recover.Recover.{Recover}
 use Rattle.steps.specs.declared.container.recover.RecoverStage.{RecoverStage}
 use Rattle.steps.specs.declared.container.recover.RecoverStage.TheVariants as recovers
 use Rattle.threaded.specs.Driver.{Next}
-use Rattle.history.specs.ContainerRecovery.{Came}
+use Rattle.history_owners.specs.ContainerRecovery.{Came}
 use Rattle.lock_free_owners.specs.Container.RecoverTurns.{recover_goes, RecoverAt, RecoverEnds, at_cell}
 
 module _ {T : Type 0} (code : Coding T) (given : DeadOwner) (capacity cell : ℕ) where

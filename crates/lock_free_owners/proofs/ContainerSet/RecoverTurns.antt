@@ -21,8 +21,8 @@ use Rattle.model.specs.declared.turn.Kind.TheVariants as kinds
 use Rattle.laws_robust.proofs.Sound.{raise_asks_none, lock_asks_none}
 use Rattle.laws_container.specs.Gone.{AsksBy}
 use Rattle.threaded.specs.Driver.{Next, Owes}
-use Rattle.history.specs.ContainerRecovery.{Came, visits_after, VisitsAt}
-use Rattle.history.specs.ValueQueue.{value_there}
+use Rattle.history_owners.specs.ContainerRecovery.{Came, visits_after, VisitsAt}
+use Rattle.history.specs.Rooms.{value_there}
 use Rattle.lock_free_owners.specs.Robust.Contracts.{FoundState}
 use Rattle.lock_free_owners.specs.Container.FindTurns.{words_in}
 use Rattle.lock_free_owners.specs.Container.Idle.{IsIdle}

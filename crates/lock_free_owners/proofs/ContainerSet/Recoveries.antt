@@ -10,7 +10,7 @@ use Rattle.steps.specs.declared.container.recover.Recover.{Recover}
 use Rattle.steps.specs.declared.container.recover.RecoverStage.{RecoverStage}
 use Rattle.steps.specs.declared.container.recover.RecoverStage.TheVariants as recovers
 use Rattle.threaded.specs.Driver.{Next}
-use Rattle.history.specs.ContainerRecovery.{RecoverIn, Came}
+use Rattle.history_owners.specs.ContainerRecovery.{RecoverIn, Came}
 use Rattle.lock_free_owners.specs.Container.FindTurns.{words_in}
 use Rattle.lock_free_owners.specs.Container.Questions.{TakesValues}
 use Rattle.lock_free_owners.specs.Container.RecoverTurns.{Visiting, IsRecovered, recover_goes, recover_visiting, RecoverAt}

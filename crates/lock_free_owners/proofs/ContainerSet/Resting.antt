@@ -8,7 +8,7 @@ use Rattle.model.specs.declared.families.Registry.{Registry}
 use Rattle.model.specs.declared.families.Registry.TheVariants as registries
 use Rattle.model.specs.declared.families.container.calls.ContainerFlight.TheVariants as calls
 use Rattle.model.specs.declared.turn.Kind.TheVariants as kinds
-use Rattle.history.specs.Settled as machine
+use Rattle.history_owners.specs.Settled as machine
 use Rattle.lock_free_owners.specs.Container.Resting.{FindEndsAs, EndsAs, IsResting, Settles, SettledFrom}
 
 module _ {T : Type 0} (code : Coding T) where

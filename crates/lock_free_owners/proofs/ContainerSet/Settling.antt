@@ -6,9 +6,9 @@ use Rattle.atomic_table.specs.Table as table
 use Rattle.atomic_table.proofs.Lists.{set_here}
 use Rattle.steps.specs.declared.ask.Op.TheVariants.{Load}
 use Rattle.model.specs.declared.turn.Kind.TheVariants as kinds
-use Rattle.history.proofs.ContainerRests.{container_hears}
+use Rattle.history_owners.proofs.ContainerRests.{container_hears}
 use Rattle.history.proofs.Known.{within}
-use Rattle.history.proofs.Settling.{Rests, view_settled, table_settled, machine_settled, settles}
+use Rattle.history_owners.proofs.Settling.{Rests, view_settled, table_settled, machine_settled, settles}
 use Rattle.lock_free_owners.specs.Container.Bare.{IsCounted}
 use Rattle.lock_free_owners.specs.Container.Idle.{IsIdle}
 use Rattle.lock_free_owners.specs.Container.Settling.{HasSettled}

@@ -4,7 +4,7 @@ use Rattle.lock_free_owners.proofs.Names.{ReleaseState, CountOf, coding_by, adds
 use Rattle.lock_free_owners.proofs.Names.{Calling, Ends, LeavesState}
 use Rattle.steps.specs.declared.words.Words.{Ghosts}
 use Rattle.model.specs.declared.turn.Kind.TheVariants as kinds
-use Rattle.history.specs.Settled.{EndsSettled}
+use Rattle.history_owners.specs.Settled.{EndsSettled}
 use Rattle.lock_free_owners.specs.declared.mpmc.container.Pass.{Pass}
 use Rattle.lock_free_owners.specs.Container.Calls.{KeepsPass}
 use Rattle.lock_free_owners.specs.Container.Names.{container_of, view}

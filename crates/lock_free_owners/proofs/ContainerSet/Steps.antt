@@ -9,7 +9,7 @@ use Rattle.model.specs.declared.families.container.calls.LookOf.{LookOf}
 use Rattle.model.specs.declared.families.container.calls.LookOf.TheVariants as which_looks
 use Rattle.model.specs.declared.turn.Kind.TheVariants as kinds
 use Rattle.model.specs.Progress.{Guarantee, WaitFree, ObstructionFree, guarantee_of}
-use Rattle.history.proofs.Containers.{container_pays}
+use Rattle.history_owners.proofs.Containers.{container_pays}
 use Rattle.history.proofs.Paid.{AllowsOne, TakesBy, takes}
 use Rattle.lock_free_owners.specs.Container.RecoverTurns.{Visiting, RecoverEnds, recovering}
 use Rattle.lock_free_owners.specs.Container.Steps.{one_if_some, to_settle, TakesFew, ContainerTakes, RemoveTakes, RecoverTakes, LookTakes}

@@ -7,7 +7,7 @@ use Rattle.model.specs.declared.families.container.ContainerStart.TheVariants.{U
 use Rattle.model.specs.declared.turn.Kind.TheVariants as kinds
 use Rattle.laws_robust.proofs.OpenRuns.{reached_open_more}
 use Rattle.model.proofs.Reached.{kept_by}
-use Rattle.laws_robust.specs.Open.{IsReachedOpen, open_refusal}
+use Rattle.model.specs.Open.{IsReachedOpen, open_refusal}
 use Rattle.laws_container.proofs.OpenRuns.{reached_open_sound}
 use Rattle.laws_machine.specs.Changes.{changes_of, CountsChanges, MeetsChanges}
 use Rattle.laws_machine.proofs.UpdateAnswers.{turn_kept, first_known}

@@ -18,9 +18,9 @@ use Rattle.model.specs.declared.families.indices.robust.calls.RobustFlight.TheVa
 use Rattle.model.specs.declared.turn.Kind.TheVariants as kinds
 use Rattle.laws_robust.specs.Gone.{AsksBy}
 use Rattle.laws_robust.proofs.Sound.{raise_asks_none, lock_asks_none}
-use Rattle.history.specs.Robust.{RecoverIn, Came, HasFreed}
-use Rattle.history.specs.Robust.{VisitsAt, visits_after}
-use Rattle.history.proofs.RobustVisits.{one_more}
+use Rattle.history_owners.specs.Robust.{RecoverIn, Came, HasFreed}
+use Rattle.history_owners.specs.Robust.{VisitsAt, visits_after}
+use Rattle.history_owners.proofs.RobustVisits.{one_more}
 use Rattle.lock_free_owners.specs.Robust.Turns.{RecoverAt}
 use Rattle.history.proofs.Locks.{not_locked}
 use Rattle.lock_free_owners.proofs.RobustSet.Events.{find_own, covers}

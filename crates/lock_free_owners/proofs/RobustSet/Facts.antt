@@ -22,7 +22,7 @@ use Rattle.lock_free_owners.specs.Worn.{MayBeWorn}
 use Rattle.laws_robust.specs.Gone.{Word, AnswersBy}
 use Rattle.model.specs.Progress.{guarantee_of}
 use Rattle.history.proofs.Paid.{AllowsOne, TakesBy, takes}
-use Rattle.history.proofs.Robusts.{robust_pays}
+use Rattle.history_owners.proofs.Robusts.{robust_pays}
 use Rattle.history.specs.Steps.{TakesAtMost, TakesAlone}
 use Rattle.lock_free_owners.specs.Robust.Callable.{HasVisited}
 use Rattle.lock_free_owners.specs.Robust.Steps.{ReleaseTakes, RecoverTakes}

@@ -13,7 +13,7 @@ use Rattle.steps.specs.Indices.Robust.Find.{at_find, first_find, find_comes_to, 
 use Rattle.model.specs.declared.turn.Kind.TheVariants as kinds
 use Rattle.model.specs.Families.Indices.Robust.Reading.{filled_of}
 use Rattle.history.specs.Steps.{TakesAtMost}
-use Rattle.history.proofs.Finds.{tells_owner, tells_other, owned_none, owned_later, owned_more, owned_past}
+use Rattle.history_owners.proofs.Finds.{tells_owner, tells_other, owned_none, owned_later, owned_more, owned_past}
 use Rattle.history.proofs.Looking.{looks_then}
 use Rattle.lock_free_owners.specs.Robust.Callable.{HasFound}
 use Rattle.lock_free_owners.specs.Robust.Stages.{says}

@@ -8,7 +8,7 @@ use Rattle.steps.specs.Indices.Robust.Recover.{first_recover, recover_asks, reco
 use Rattle.steps.specs.declared.indices.robust.recover.RecoverStage.TheVariants as recovers
 use Rattle.threaded.specs.Driver.{Next}
 use Rattle.threaded.specs.declared.driver.seated.Seated.{Seated}
-use Rattle.history.specs.Robust.{visits_after}
+use Rattle.history_owners.specs.Robust.{visits_after}
 use Rattle.lock_free_owners.specs.Robust.Callable.{questions_of, TakesQuestions, TakesFreed, HasVisited}
 use Rattle.lock_free_owners.specs.Robust.Recovering.{StandsSo, EndsSo, LedTo, MayAsk, LeadsOn}
 use Rattle.lock_free_owners.specs.Robust.Stages.{RecoverAsks, RecoverMoves}

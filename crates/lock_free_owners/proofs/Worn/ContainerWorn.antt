@@ -37,7 +37,7 @@ use Rattle.model.specs.World.{Trace, opening, capacity_error}
 use Rattle.model.proofs.Frame as frame
 use Rattle.model.proofs.Scenes.{stands_there}
 use Rattle.laws_robust.specs.Gone.{Word}
-use Rattle.laws_robust.specs.Open.{open_refusal, IsReachedOpen}
+use Rattle.model.specs.Open.{open_refusal, IsReachedOpen}
 use Rattle.laws_robust.proofs.Opening.{admitted_is}
 use Rattle.laws_container.proofs.AllRuns.{shown}
 use Rattle.laws_container.proofs.Invariant.{family_by, FlightAt}

@@ -31,7 +31,7 @@ use Rattle.model.specs.World.{Trace, opening, capacity_error}
 use Rattle.model.proofs.Frame as frame
 use Rattle.model.proofs.Scenes.{stands_there}
 use Rattle.laws_robust.specs.Gone.{Word}
-use Rattle.laws_robust.specs.Open.{IsReachedOpen}
+use Rattle.model.specs.Open.{IsReachedOpen}
 use Rattle.laws_robust.proofs.Invariant.{family_by, FlightAt}
 use Rattle.laws_robust.proofs.OpenRuns.{open_turn_sound}
 use Rattle.laws_robust.proofs.Opening.{admitted_is}

@@ -23,7 +23,7 @@ use Rattle.model.specs.Parties.{party_of, doing_of, flight_of}
 use Rattle.model.specs.Reading.{span_of}
 use Rattle.model.specs.Refusals.{is_due}
 use Rattle.model.specs.Step.{Step, answer_in}
-use Rattle.laws_robust.proofs.OpenRuns.{possible_open}
+use Rattle.lemmas.proofs.Open.{possible_open}
 use Rattle.model.specs.Turns.{old_of, words_after, number_of, ask_of_doing, party_at_begin, after_begin, doing_after, after_step, step_in}
 use Rattle.model.specs.Turns.{after_answer, events_of_step, events_of_answer, after_next, events_of_next}
 use Rattle.model.specs.Turns.{after_decision, events_of_decision, events_of, ending_of, after_turn}
@@ -33,7 +33,7 @@ use Rattle.model.proofs.Locks.{locked_later}
 use Rattle.model.proofs.Parties.{party_put_same, party_put_other}
 use Rattle.model.proofs.Readings.{Each-less}
 use Rattle.model.proofs.Rows.{MayStart, MayGoOn}
-use Rattle.laws_robust.specs.Open.{open_refusal, IsReachedOpen}
+use Rattle.model.specs.Open.{open_refusal, IsReachedOpen}
 use Rattle.model.proofs.Reached.{kept_by}
 use Rattle.lock_free_owners.specs.Worn.{change, changes, may_lock, is_locking, BeginsAlone, LocksApart}
 use Rattle.laws_robust.proofs.Counter.{tested}

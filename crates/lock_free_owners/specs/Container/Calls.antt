@@ -13,7 +13,7 @@ use Rattle.steps.specs.declared.indices.enums.ReleaseState.{ReleaseState}
 use Rattle.steps.specs.declared.indices.robust.release.GiveBack.{GiveBack}
 use Rattle.model.specs.Families.Indices.Reading.{is_locked}
 use Rattle.history.specs.declared.view.View.{View}
-use Rattle.history.specs.ContainerLooks.{KeepsState, ShowsCopied}
+use Rattle.history_owners.specs.ContainerLooks.{KeepsState, ShowsCopied}
 use Rattle.history.specs.Passes.{Goes}
 use Rattle.lock_free_owners.specs.declared.mpmc.container.Container.{Container}
 use Rattle.lock_free_owners.specs.declared.mpmc.container.Pass.{Pass}

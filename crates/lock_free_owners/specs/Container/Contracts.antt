@@ -39,9 +39,9 @@ use Rattle.laws_robust.specs.Gone.{Word, IsHonest}
 use Rattle.laws_container.specs.Gone.{AsksBy, RecoversBy, AnswersBy, HasRecoveredBy, FilledSinceEachBy}
 use Rattle.laws_machine.specs.Changes.{changes_of, MeetsChanges}
 use Rattle.history.specs.declared.view.View.{View}
-use Rattle.history.specs.Container as container
-use Rattle.history.specs.ContainerFind.{HasCopied}
-use Rattle.history.specs.ContainerLooks.{HasLookedAll}
+use Rattle.history_owners.specs.Container as container
+use Rattle.history_owners.specs.ContainerFind.{HasCopied}
+use Rattle.history_owners.specs.ContainerLooks.{HasLookedAll}
 use Rattle.history.specs.History.{Called, IsBeginning, IsRun}
 use Rattle.history.specs.Passes as passes
 use Rattle.lock_free_owners.specs.Robust.Contracts.{MetFull}

@@ -14,11 +14,11 @@ use Rattle.model.specs.Coding.{Coding}
 use Rattle.model.specs.Families.Queues.Calls.{fresh_cell, kept_at}
 use Rattle.threaded.specs.Driver.{Next}
 use Rattle.history.specs.declared.view.View.{View}
-use Rattle.history.specs.ContainerFind.{find_copies, finds_values}
-use Rattle.history.specs.ContainerLooks.{KeepsState}
+use Rattle.history_owners.specs.ContainerFind.{find_copies, finds_values}
+use Rattle.history_owners.specs.ContainerLooks.{KeepsState}
 use Rattle.history.specs.History.{Knows}
 use Rattle.history.specs.Passes.{Goes}
-use Rattle.history.specs.Settled.{AtRested, EndsRested, EndsAsked}
+use Rattle.history_owners.specs.Settled.{AtRested, EndsRested, EndsAsked}
 use Rattle.history.specs.Stages.{Calling, AtAsked, Ends}
 use Rattle.history.specs.Steps.{TakesAtMost}
 use Rattle.lock_free_owners.specs.Container.Idle.{IsIdle}

@@ -13,7 +13,7 @@ use Rattle.model.specs.declared.families.container.calls.LookOf.{LookOf}
 use Rattle.model.specs.Coding.{Coding}
 use Rattle.threaded.specs.Driver.{Next}
 use Rattle.history.specs.declared.view.View.{View}
-use Rattle.history.specs.ContainerLooks.{BeginsWith, RestedLooks, RestedLooked}
+use Rattle.history_owners.specs.ContainerLooks.{BeginsWith, RestedLooks, RestedLooked}
 use Rattle.lock_free_owners.specs.Container.Bare.{IsCounted, Still, LookStands}
 
 module _ {T : Type 0} (code : Coding T) (which : LookOf) (from : View T) (shown : Showing T) (seen : Numbers) where

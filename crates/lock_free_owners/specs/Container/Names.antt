@@ -15,7 +15,7 @@ use Rattle.threaded.specs.declared.share.Share.{Share}
 use Rattle.history.specs.declared.view.View.{View}
 use Rattle.history.specs.History.{IsHistory}
 use Rattle.history.specs.Passes as passes
-use Rattle.history.specs.ContainerLooks.{KeepsState}
+use Rattle.history_owners.specs.ContainerLooks.{KeepsState}
 use Rattle.lock_free_owners.specs.Container.Contracts.{HasJoined}
 use Rattle.lock_free_owners.specs.Container.Steps.{FewAside}
 use Rattle.lock_free_owners.specs.declared.mpmc.container.Container.{Container}

@@ -9,7 +9,7 @@ use Rattle.model.specs.declared.event.Start.TheVariants.{Container}
 use Rattle.model.specs.declared.families.container.ContainerStart.TheVariants.{Recover}
 use Rattle.model.specs.Families.Indices.Reading.{is_locked}
 use Rattle.history.specs.declared.view.View.{View}
-use Rattle.history.specs.ContainerRecovery.{Came, HasAsked, HasFound, HasFreed, MayCome, wrote_visits}
+use Rattle.history_owners.specs.ContainerRecovery.{Came, HasAsked, HasFound, HasFreed, MayCome, wrote_visits}
 use Rattle.history.specs.History.{Called}
 use Rattle.lock_free_owners.specs.Container.Resting.{SettledFrom}
 use Rattle.lock_free_owners.specs.Container.Questions.{Answered, AnswersAscend, asks}

@@ -15,8 +15,8 @@ use Rattle.model.specs.Coding.{Coding}
 use Rattle.model.specs.Families.Queues.Calls.{fresh_cell, kept_at}
 use Rattle.threaded.specs.Driver.{Next}
 use Rattle.history.specs.declared.view.View.{View}
-use Rattle.history.specs.ContainerRecovery.{Came, recover_visits, recovers_values}
-use Rattle.history.specs.Settled.{AtRested, EndsRested}
+use Rattle.history_owners.specs.ContainerRecovery.{Came, recover_visits, recovers_values}
+use Rattle.history_owners.specs.Settled.{AtRested, EndsRested}
 use Rattle.history.specs.Stages.{Calling, AtAsked, Ends}
 use Rattle.lock_free_owners.specs.Container.FindTurns.{words_in}
 use Rattle.lock_free_owners.specs.Container.RecoverContract.{HasRecovered}

@@ -2,7 +2,7 @@
 use Rattle.model.specs.declared.turn.Kind.TheVariants as kinds
 use Rattle.model.specs.Coding.{Coding}
 use Rattle.history.specs.declared.view.View.{View}
-use Rattle.history.specs.Settled.{SettledFrom}
+use Rattle.history_owners.specs.Settled.{SettledFrom}
 use Rattle.lock_free_owners.specs.Container.Bare.{IsCounted}
 
 -- if the last call of the pass rested, it has ended (`from`); then one further operation may be counted

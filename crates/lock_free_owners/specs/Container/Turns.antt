@@ -22,8 +22,8 @@ use Rattle.model.specs.Coding.{Coding}
 use Rattle.threaded.specs.Seats.{seen, table_of, key_of, IsSame}
 use Rattle.threaded.specs.declared.driver.seated.Seated.{Seated}
 use Rattle.history.specs.declared.view.View.{View}
-use Rattle.history.specs.Container.{adds_value, removes_value, replaces_value, counts_values, sees_lock}
-use Rattle.history.specs.Settled.{AtRested, EndsRested}
+use Rattle.history_owners.specs.Container.{adds_value, removes_value, replaces_value, counts_values, sees_lock}
+use Rattle.history_owners.specs.Settled.{AtRested, EndsRested}
 use Rattle.history.specs.Stages.{Calling, At, Ends}
 use Rattle.lock_free_owners.specs.Robust.Turns.{Stands, Goes}
 

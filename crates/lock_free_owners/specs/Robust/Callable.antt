@@ -7,8 +7,8 @@ use Rattle.steps.specs.declared.enums.CallbackProgression.{CallbackProgression}
 use Rattle.steps.specs.declared.enums.CallbackProgression.TheVariants.{Continue, Stop}
 use Rattle.model.specs.declared.event.Event.{Event}
 use Rattle.threaded.specs.Callable.{Ascends}
-use Rattle.history.specs.Finds.{WereOwned}
-use Rattle.history.specs.Robust.{Visit, Came, HasAsked, WasTold}
+use Rattle.history_owners.specs.Finds.{WereOwned}
+use Rattle.history_owners.specs.Robust.{Visit, Came, HasAsked, WasTold}
 
 -- ---- find
 

@@ -32,7 +32,7 @@ use Rattle.threaded.specs.Shares.{IsAll}
 use Rattle.history.specs.declared.view.View.{View}
 use Rattle.history.specs.History.{Called, IsBeginning, IsOfParties, IsRun, AreFirst}
 use Rattle.history.specs.Known.{events_by}
-use Rattle.history.specs.Robust as robust
+use Rattle.history_owners.specs.Robust as robust
 use Rattle.lock_free_owners.specs.Robust.Callable.{HasFound, HasVisited}
 use Rattle.lock_free_owners.specs.Worn.{MayBeWorn}
 

@@ -13,7 +13,7 @@ use Rattle.model.specs.Coding.{one_word}
 use Rattle.model.specs.Families.Indices.Robust.Reading.{filled_of}
 use Rattle.threaded.specs.Callable.{Ascends}
 use Rattle.history.specs.declared.view.View.{View}
-use Rattle.history.specs.Finds.{WereOwned}
+use Rattle.history_owners.specs.Finds.{WereOwned}
 use Rattle.history.specs.Steps.{TakesAtMost}
 use Rattle.history.specs.Views.{Looks}
 use Rattle.lock_free_owners.specs.Robust.Callable.{WentOn, HasFound}

@@ -11,7 +11,7 @@ use Rattle.steps.specs.declared.indices.robust.recover.RecoverStage.{RecoverStag
 use Rattle.steps.specs.declared.indices.robust.recover.RecoverStage.TheVariants as recovers
 use Rattle.model.specs.Families.Indices.Reading.{is_locked}
 use Rattle.history.specs.declared.view.View.{View}
-use Rattle.history.specs.Robust.{Visit, WasTold, came_to}
+use Rattle.history_owners.specs.Robust.{Visit, WasTold, came_to}
 use Rattle.lock_free_owners.specs.Robust.Callable.{Owned, Asked, TheyAscend, QuestionsAscend, asks, tells}
 use Rattle.lock_free_owners.specs.Robust.Callable.{questions_of, freed_of, TakesQuestions, HasVisited}
 use Rattle.lock_free_owners.specs.Robust.Turns.{RecoverAt, RecoverEnds}

@@ -15,7 +15,7 @@ use Rattle.threaded.specs.Driver.{Next}
 use Rattle.threaded.specs.Seats.{seen, table_of, key_of, IsSame}
 use Rattle.threaded.specs.declared.driver.seated.Seated.{Seated}
 use Rattle.history.specs.declared.view.View.{View}
-use Rattle.history.specs.Robust.{takes_owned, counts_owned, recovers_owned, Visit, visits_after}
+use Rattle.history_owners.specs.Robust.{takes_owned, counts_owned, recovers_owned, Visit, visits_after}
 use Rattle.history.specs.Stages.{At, AtAsked, Ends}
 
 -- how many words the machine of a set has: the counter, and a cell for each index

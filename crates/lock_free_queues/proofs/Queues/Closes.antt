@@ -10,9 +10,9 @@ use Rattle.lock_free_queues.proofs.Names.{Event, length-drop}
 use Rattle.std.proofs.Common.{length-append}
 use Rattle.std.proofs.lemmas.List.{take-append-drop}
 use Rattle.steps.specs.Objects.Lists.{Bounded}
-use Rattle.plain.specs.Queues.{words_from, value_at, values_from, Represents}
-use Rattle.plain.proofs.Lists.Cells.{values_length}
-use Rattle.plain.proofs.Words.{words_all}
+use Rattle.plain_queues.specs.Queues.{words_from, value_at, values_from, Represents}
+use Rattle.plain_queues.proofs.Lists.Cells.{values_length}
+use Rattle.plain_queues.proofs.Words.{words_all}
 use Rattle.lock_free_queues.specs.Queues.Closes.{Closes, IsWhatWaits}
 use Rattle.lock_free_queues.specs.Queues.Kinds.{words_in_cells}
 use Rattle.lock_free_queues.specs.Queues.Reads.{WasRead, LastWords, LastSeen}

@@ -23,7 +23,7 @@ use Rattle.lock_free_queues.specs.Queues.Contracts.{HasMeasured, HasAcquired, Ha
 use Rattle.model.specs.Families.Queues.Book.{AnswersRight}
 use Rattle.lock_free_queues.specs.Queues.Kinds.{NoneTaken, NoneMarked, most_waiting}
 use Rattle.lock_free_queues.specs.Queues.Contracts.{push_of, popped_item}
-use Rattle.history.proofs.Holders.{held, one_holder, queue_role}
+use Rattle.history_queues.proofs.Holders.{held, one_holder, queue_role}
 use Rattle.history.proofs.OneHolder.{ArePlain, IsPlain, first_wrote, listed, none_looked, none_since, none_to_end}
 
 -- ---- what a history says of itself

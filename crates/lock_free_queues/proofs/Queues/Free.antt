@@ -8,7 +8,7 @@ use Rattle.lock_free_queues.proofs.Names.{Coding, producer_of, waiting, pending}
 use Rattle.lock_free_queues.proofs.Names.{GrantsRight, Each, Trace, waiting_is, Hangs, IsRun, takes, gives}
 use Rattle.lock_free_queues.proofs.Names.{role_after, sum_first, sound_of, granted}
 use Rattle.model.specs.declared.turn.Kind.TheVariants as kinds
-use Rattle.history.proofs.Holders.{held}
+use Rattle.history_queues.proofs.Holders.{held}
 
 -- 1 where a role has a holder, else 0.
 abbrev one : Option ℕ → ℕ

@@ -8,9 +8,9 @@ use Rattle.lock_free_queues.proofs.Names.{gives_role, looks_role, counts_waiting
 use Rattle.lock_free_queues.proofs.Names.{index_owes, values_owe}
 use Rattle.steps.specs.declared.ask.Want.{Want}
 use Rattle.steps.specs.Queues.Roles.{acquire_want, acquire_after, release_want, release_after, look_want, look_after}
-use Rattle.history.proofs.OverflowRoles.{over_acquire_keeps, over_release_keeps, over_look_keeps, over_lens_keep}
-use Rattle.history.proofs.QueueRoles.{acquire_keeps, release_keeps, look_keeps, lens_keep}
-use Rattle.history.proofs.ValueQueueRoles.{value_acquire_keeps, value_release_keeps, value_look_keeps, value_lens_keep}
+use Rattle.history_queues.proofs.OverflowRoles.{over_acquire_keeps, over_release_keeps, over_look_keeps, over_lens_keep}
+use Rattle.history_queues.proofs.QueueRoles.{acquire_keeps, release_keeps, look_keeps, lens_keep}
+use Rattle.history_queues.proofs.ValueQueueRoles.{value_acquire_keeps, value_release_keeps, value_look_keeps, value_lens_keep}
 use Rattle.lock_free_queues.specs.Queues.Kinds.{words_in_cells, opened_by}
 use Rattle.lock_free_queues.specs.Queues.Opened.{position_at}
 use Rattle.lock_free_queues.specs.Queues.Roles.{LacksRole}

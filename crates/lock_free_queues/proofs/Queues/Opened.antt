@@ -23,7 +23,7 @@ use Rattle.laws_queues.proofs.Queues.Core as core
 use Rattle.laws_queues.proofs.Queues.Stages.{asked_place}
 use Rattle.history.proofs.Alone as alone
 use Rattle.history.specs.History.{Knows}
-use Rattle.history.proofs.ValueOpened.{mix, mix_step}
+use Rattle.history.proofs.Mixed.{mix, mix_step}
 use Rattle.lock_free_queues.specs.Queues.Contracts.{push_of, popped_item}
 use Rattle.model.specs.declared.turn.Turn.{Turn}
 use Rattle.model.specs.declared.turn.Turn.TheVariants.{Begin, Next}

@@ -6,7 +6,7 @@ use Rattle.lock_free_queues.proofs.Names.{sum_by, arith, list_in, Producer, Even
 use Rattle.lock_free_queues.proofs.Names.{published, handed_out, waiting, IsAll, View, IsHistory, takes, gives, [], ◌++◌}
 use Rattle.lock_free_queues.proofs.Names.{map, append-nil}
 use Rattle.steps.specs.Objects.Lists.{Bounded}
-use Rattle.plain.specs.Overflowing.{Represents}
+use Rattle.plain_queues.specs.Overflowing.{Represents}
 use Rattle.model.specs.declared.turn.Kind.TheVariants as kinds
 use Rattle.lock_free_queues.specs.Queues.Closes.{Closes, IsNewestThatWaits}
 use Rattle.lock_free_queues.specs.Queues.Reads.{LastWords}

@@ -12,7 +12,7 @@ use Rattle.steps.specs.declared.queues.overflow.PushStage as pushes
 use Rattle.steps.specs.Queues.Overflow.{pop_answer, push_asks}
 use Rattle.steps.specs.Queues.Ring as rings
 use Rattle.model.specs.declared.turn.Kind.TheVariants as kinds
-use Rattle.history.specs.Overflow.{HasActed}
+use Rattle.history_queues.specs.Overflow.{HasActed}
 use Rattle.lock_free_queues.specs.Queues.Overflowing.{HasOverflowed, PushAdded, PushReplaced, over_push_events}
 use Rattle.lock_free_queues.specs.Queues.Contracts.{HasPublished, HasPopped, WasAtEnd, popped_item, pop_events, HasTakenFirst, PopOldest, PopFoundNone}
 use Rattle.lock_free_queues.proofs.Queues.Ended.{was_at_end, has_popped, IsPop}

@@ -9,8 +9,8 @@ use Rattle.model.specs.declared.turn.Kind.TheVariants as kinds
 use Rattle.model.specs.Progress.{guarantee_of}
 use Rattle.history.specs.Steps.{TakesAtMost, TakesAlone}
 use Rattle.history.proofs.Paid.{AllowsOne, TakesBy, takes, left_takes}
-use Rattle.history.proofs.Queues.{queue_pays}
-use Rattle.history.specs.Overflow.{pushes_over}
+use Rattle.history_queues.proofs.Queues.{queue_pays}
+use Rattle.history_queues.specs.Overflow.{pushes_over}
 
 -- a call had not begun in the view `base`, and has ended in the view `w`
 module _ {T : Type 0} {code : Coding T} {base w : View T} (idle : base.going ≡ None) where

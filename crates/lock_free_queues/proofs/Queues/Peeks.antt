@@ -12,7 +12,7 @@ use Rattle.steps.specs.Queues.Ring.{pop_answer}
 use Rattle.model.specs.Families.Queues.Lengths.{TellsLength}
 use Rattle.model.specs.Families.Queues.Objects.{answer_of_item}
 use Rattle.lock_free_queues.specs.Queues.Contracts.{popped_item, HasPeeked, HasSeenRole, HasTakenOut, WasEmpty}
-use Rattle.history.proofs.Holders.{held, one_holder, queue_role}
+use Rattle.history_queues.proofs.Holders.{held, one_holder, queue_role}
 use Rattle.history.proofs.OneHolder.{none_to_end}
 use Rattle.model.specs.Families.Queues.Reading.{producer_after, consumer_after, consumer_of}
 use Rattle.lock_free_queues.proofs.Queues.Facts.{IsAlone, IsSeen, before_end, to_end, by_its_holder, grants, tells_lengths, listed_always}

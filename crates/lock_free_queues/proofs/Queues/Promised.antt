@@ -7,12 +7,15 @@ use Rattle.lock_free_queues.proofs.Names.{of_values, View, IsHistory, history_by
 use Rattle.lock_free_queues.proofs.Names.{over_listed}
 use Rattle.model.specs.declared.families.queues.QueueKind.TheVariants as queues
 use Rattle.model.specs.Linearizable.{IsLinearizable}
-use Rattle.model.specs.Linearized.{as_list, IsLinearized}
+use Rattle.model.specs.Linearized.{as_list, is_push_or_pop}
 use Rattle.model.specs.Progress.{KeepsGuarantees}
-use Rattle.model.proofs.Linearizable.Kinds.{run_linearizable}
+use Rattle.model.specs.Promises.{IsKeptBy}
+use Rattle.model.specs.StronglyLinearizable.{AreStronglyLinearizable, IsLinearizedBy}
+use Rattle.model.proofs.Linearizable.Kinds.{list_by_acts}
+use Rattle.model.proofs.Linearizable.Strong.{order, strongly}
 use Rattle.model.proofs.Progress.{keeps_guarantees}
-use Rattle.laws_queues.proofs.Queues.Sound.{kept_on}
-use Rattle.history.proofs.Reached.{queue_run}
+use Rattle.laws_queues.proofs.Queues.Sound.{kept_on, promised_by}
+use Rattle.history_queues.proofs.QueueRuns.{queue_run}
 use Rattle.lock_free_queues.specs.Queues.Bounded.{IsBounded, machine_kind}
 use Rattle.lock_free_queues.specs.Queues.Positions.{IsPublished, IsTaken, IsSound, IsOverSound}
 use Rattle.lock_free_queues.specs.Queues.Contracts.{HasPublished, HasTakenOut, HasTakenFirst, WasEmpty, FoundNone, WasFull}
@@ -25,30 +28,25 @@ module _ {T : Type 0} (code : Coding T) where
   abbrev IsSeen : QueueKind → ℕ → List (Event T) → Type 0
   IsSeen kind capacity events = IsHistory code (machine_kind kind) capacity events
 
-  -- the run behind each history of a queue is linearizable
-  linearized : (kind : QueueKind) (capacity : ℕ) (events : List (Event T))
-      → (h : IsHistory code (machine_kind kind) capacity events) → IsLinearized (machine_kind kind) h.trace
-  linearized kind capacity events h =
-      (let trace_now = h.trace in
-      let run_now = h.run in
+  -- a history of a queue is linearizable as a list of this kind and capacity, in the order in which its calls act
+  by_acts : (kind : QueueKind) (capacity : ℕ) (events : List (Event T)) → IsSeen kind capacity events
+      → IsLinearizedBy (as_list kind capacity) (order is_push_or_pop events) events
+  by_acts kind capacity events is_seen =
+      let trace_now = is_seen.trace in
+      let run_now = is_seen.run in
       let run_here = queue_run code capacity kind trace_now run_now in
-      subst (λ k. IsLinearized k trace_now) run_now.of_kind
-      (run_linearizable trace_now (kept_on kind trace_now run_now.of_kind run_here.reached.coded run_here.reached.admitted run_here.fresh)))
+      let kept = kept_on kind trace_now run_now.of_kind run_here.reached.coded run_here.reached.admitted run_here.fresh in
+      subst (λ es. IsLinearizedBy (as_list kind capacity) (order is_push_or_pop es) es) (sym is_seen.is)
+      (subst (λ n. IsLinearizedBy (as_list kind n) (order is_push_or_pop trace_now.events) trace_now.events) run_now.sized
+      (list_by_acts kind (subst (λ P. IsKeptBy P trace_now) (promised_by kind trace_now run_now.of_kind) kept)))
 
   -- what a pass has seen of a queue is linearizable as a list of this kind and capacity
   pub linearizable : (kind : QueueKind) (capacity : ℕ) (v : View T) → IsSeen kind capacity v.seen → IsLinearizable (as_list kind capacity) v.seen
-  linearizable queues.IndexQueue capacity v is_seen =
-      subst (λ es. IsLinearizable (as_list queues.IndexQueue capacity) es) (sym is_seen.is)
-      (subst (λ n. IsLinearizable (as_list queues.IndexQueue n) is_seen.trace.events) is_seen.run.sized
-      (linearized queues.IndexQueue capacity v.seen is_seen))
-  linearizable queues.Overflow capacity v is_seen =
-      subst (λ es. IsLinearizable (as_list queues.Overflow capacity) es) (sym is_seen.is)
-      (subst (λ n. IsLinearizable (as_list queues.Overflow n) is_seen.trace.events) is_seen.run.sized
-      (linearized queues.Overflow capacity v.seen is_seen))
-  linearizable queues.Queue capacity v is_seen =
-      subst (λ es. IsLinearizable (as_list queues.Queue capacity) es) (sym is_seen.is)
-      (subst (λ n. IsLinearizable (as_list queues.Queue n) is_seen.trace.events) is_seen.run.sized
-      (linearized queues.Queue capacity v.seen is_seen))
+  linearizable kind capacity v is_seen = let ordered = by_acts kind capacity v.seen is_seen in ordered.by
+
+  -- one function orders the calls of each history of a queue
+  pub strong : (kind : QueueKind) (capacity : ℕ) → AreStronglyLinearizable (IsSeen kind capacity) (as_list kind capacity)
+  strong kind capacity = strongly (IsSeen kind capacity) (as_list kind capacity) (by_acts kind capacity)
 
   -- In the machine of a history each call keeps to its guarantee.
   guaranteed : (kind : QueueKind) (capacity : ℕ) (v : View T) → (h : IsHistory code (machine_kind kind) capacity v.seen) → KeepsGuarantees h.trace

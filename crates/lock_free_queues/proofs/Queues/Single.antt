@@ -20,7 +20,7 @@ use Rattle.model.specs.declared.families.Flight.TheVariants as flights
 use Rattle.model.specs.declared.families.Registry.{Registry}
 use Rattle.model.specs.declared.families.queues.Roles.{Roles}
 use Rattle.model.specs.declared.families.queues.calls.RingCall.TheVariants as rings
-use Rattle.laws_queues.proofs.Ring.Knows.{IsFresh}
+use Rattle.model.specs.Fresh.{IsFresh}
 use Rattle.lock_free_queues.specs.Queues.Contracts.{push_of, popped_item}
 
 -- a room in which nothing was put

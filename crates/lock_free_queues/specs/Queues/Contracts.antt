@@ -18,7 +18,7 @@ use Rattle.threaded.specs.Shares.{IsAll}
 use Rattle.history.specs.declared.view.View.{View}
 use Rattle.history.specs.History.{Called, IsBeginning}
 pub use Rattle.history.specs.Passes.{HasSplit, HasJoined}
-use Rattle.history.specs.Queues.{length_start}
+use Rattle.history_queues.specs.Queues.{length_start}
 use Rattle.history.specs.Roles.{acquire_start, release_start, look_start, holder_by}
 
 module _ {T : Type 0} where

@@ -10,7 +10,7 @@ use Rattle.threaded.specs.Driver.{Next}
 use Rattle.threaded.specs.Seats.{IsAt}
 use Rattle.history.specs.declared.view.View.{View}
 use Rattle.history.specs.Stages.{At, Ends}
-use Rattle.history.specs.Queues.{counts_waiting}
+use Rattle.history_queues.specs.Queues.{counts_waiting}
 use Rattle.lock_free_queues.specs.declared.spsc.ring.rule.Origin.{Origin}
 use Rattle.lock_free_queues.specs.Queues.Bounded.{machine_kind}
 use Rattle.lock_free_queues.specs.Queues.Kinds.{words_in_cells}

@@ -8,7 +8,7 @@ use Rattle.model.specs.Families.Queues.Lengths.{TellsLength}
 use Rattle.model.specs.Families.Queues.Reading.{published, handed_out, waiting}
 use Rattle.model.specs.Families.Queues.Roles.{GrantsRight}
 use Rattle.model.specs.Reading.{Each}
-use Rattle.history.specs.Overflow.{ByOverHolder}
+use Rattle.history_queues.specs.Overflow.{ByOverHolder}
 use Rattle.history.specs.Roles.{ByHolder}
 
 module _ {T : Type 0} where

@@ -80,18 +80,20 @@ pub struct Pass<E: Kind, T: Words> {
 }
 
 /// The guard that pushes. There is one at a time. It owns the pass that it was acquired with, and gives the role back
-/// when it is dropped. After `Producer` of the Rust crate.
+/// when it is dropped. Its lifetime is that of the borrow of the queue, which `into_owned` lets go of. After `Producer`
+/// of the Rust crate.
 pub struct Producer<'a, E: Kind, T: Words> {
-    ring: &'a Ring<E, T>,
+    of: &'a (),
     pub(crate) token: Token<E, T>,
     ghost role: { HasRole roles.Producer token.seated.seat.me.0.made
         × LacksRole roles.Consumer token.seated.seat.me.0.made },
 }
 
 /// The guard that pops. There is one at a time. It owns the pass that it was acquired with, and gives the role back
-/// when it is dropped. After `Consumer` of the Rust crate.
+/// when it is dropped. Its lifetime is that of the borrow of the queue, which `into_owned` lets go of. After `Consumer`
+/// of the Rust crate.
 pub struct Consumer<'a, E: Kind, T: Words> {
-    ring: &'a Ring<E, T>,
+    of: &'a (),
     pub(crate) token: Token<E, T>,
     ghost role: { HasRole roles.Consumer token.seated.seat.me.0.made
         × LacksRole roles.Producer token.seated.seat.me.0.made },
@@ -156,7 +158,7 @@ impl<E: Kind, T: Words> Drop for Pass<E, T> {
 impl<'a, E: Kind, T: Words> Drop for Producer<'a, E, T> {
     /// Gives the role back. One atomic step.
     fn drop(self) {
-        let Self { ring: _, mut token } = self;
+        let Self { of: _, mut token } = self;
         token.leave::<Pushing>();
     }
 }
@@ -164,7 +166,7 @@ impl<'a, E: Kind, T: Words> Drop for Producer<'a, E, T> {
 impl<'a, E: Kind, T: Words> Drop for Consumer<'a, E, T> {
     /// Gives the role back. One atomic step.
     fn drop(self) {
-        let Self { ring: _, mut token } = self;
+        let Self { of: _, mut token } = self;
         token.leave::<Popping>();
     }
 }

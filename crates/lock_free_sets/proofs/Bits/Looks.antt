@@ -9,7 +9,7 @@ use Rattle.steps.specs.declared.bits.looks.IsSet.{IsSet as Looking}
 use Rattle.model.specs.declared.families.bits.BitsStart.TheVariants.{IsSet}
 use Rattle.model.specs.declared.turn.Kind.TheVariants as kinds
 use Rattle.history.proofs.CallsIn.{last_tells}
-use Rattle.history.proofs.Sets.{bits_starts, set_effects}
+use Rattle.history_bits.proofs.Sets.{bits_starts, set_effects}
 use Rattle.lock_free_sets.specs.Driven.{IsIdle, HasMade}
 use Rattle.lock_free_sets.specs.Bits.Looks.{looks_at, IsSetDone}
 use Rattle.lock_free_sets.specs.Sets.Kinds.{Flags, words_of}

@@ -12,7 +12,7 @@ use Rattle.steps.specs.declared.bits.bit_set.Set.{Set as Setting}
 use Rattle.steps.specs.declared.bits.bit_set.SetStage.{SetStage}
 use Rattle.steps.specs.declared.bits.bit_set.SetStage.TheVariants as sets
 use Rattle.model.specs.declared.turn.Kind.TheVariants as kinds
-use Rattle.history.proofs.Sets.{bits_starts, set_effects}
+use Rattle.history_bits.proofs.Sets.{bits_starts, set_effects}
 use Rattle.lock_free_sets.specs.Driven.{IsIdle}
 use Rattle.lock_free_sets.specs.Bits.Stages.{set_wrote, sets_place}
 use Rattle.lock_free_sets.specs.Bits.Contracts.{HasSet, StoodOnce, SetDone}

@@ -9,7 +9,7 @@ use Rattle.steps.specs.declared.bits.counting_bit_set.Set as counting
 use Rattle.model.specs.declared.event.Event.TheVariants.{Counted}
 use Rattle.model.specs.declared.turn.Kind.TheVariants as kinds
 use Rattle.history.proofs.CallsIn.{last_tells}
-use Rattle.history.proofs.Sets.{counts_starts, set_effects}
+use Rattle.history_bits.proofs.Sets.{counts_starts, set_effects}
 use Rattle.lock_free_sets.specs.Driven.{IsIdle}
 use Rattle.lock_free_sets.specs.Counts.Stages.{counts_place}
 use Rattle.lock_free_sets.specs.Counts.Contracts.{HasCounted, AnswersCount, SetDone}

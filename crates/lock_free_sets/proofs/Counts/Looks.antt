@@ -9,7 +9,7 @@ use Rattle.steps.specs.declared.bits.looks.Count.{Count as Looking}
 use Rattle.model.specs.declared.families.bits.BitsStart.TheVariants.{Count}
 use Rattle.model.specs.declared.turn.Kind.TheVariants as kinds
 use Rattle.history.proofs.CallsIn.{last_tells}
-use Rattle.history.proofs.Sets.{counts_starts, set_effects}
+use Rattle.history_bits.proofs.Sets.{counts_starts, set_effects}
 use Rattle.lock_free_sets.specs.Driven.{IsIdle, HasMade}
 use Rattle.lock_free_sets.specs.Counts.Looks.{looks_at, CountDone}
 use Rattle.lock_free_sets.specs.Sets.Kinds.{Counts, words_of}

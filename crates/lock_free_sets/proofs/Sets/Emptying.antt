@@ -18,7 +18,7 @@ use Rattle.history.specs.Known.{owned}
 use Rattle.history.specs.Stages.{Starts, IsFirst}
 use Rattle.history.proofs.CallsIn.{OwnStep, each_tells, last_tells}
 use Rattle.history.proofs.Drives.{NeverPushes}
-use Rattle.history.proofs.Sets.{bits_starts, counts_starts, set_effects}
+use Rattle.history_bits.proofs.Sets.{bits_starts, counts_starts, set_effects}
 use Rattle.lock_free_sets.specs.Driven.{IsIdle}
 use Rattle.lock_free_sets.specs.Sets.Kinds.{SetKind, Flags, Counts, machine_kind, first_word, words_of}
 use Rattle.lock_free_sets.specs.Sets.Stages.{all_words, word_of, flight_at, emptied, empties, empties_none}

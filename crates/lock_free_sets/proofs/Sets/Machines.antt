@@ -1,7 +1,7 @@
 -- The machines of a bit set and of a counting bit set, for the seats of a table.
 use Rattle.lock_free_sets.proofs.Names.{ℕ, one_word}
 use Rattle.history.proofs.KindLaws.{KindLaws, LoneMachines}
-use Rattle.history.proofs.Sets.{bits_owe, counts_owe, set_effects}
+use Rattle.history_bits.proofs.Sets.{bits_owe, counts_owe, set_effects}
 use Rattle.lock_free_sets.specs.Sets.Kinds.{SetKind, Flags, Counts, machine_kind, words_of}
 
 -- The machine of a set of either kind keeps the laws of its kind.

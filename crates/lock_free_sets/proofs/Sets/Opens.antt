@@ -2,7 +2,7 @@
 -- machine at its opening.
 use Rattle.lock_free_sets.proofs.Names.{◌≡◌, ℕ, ◌+◌, ◌<◌, ◌^◌, List, [], opening, one_word, IsMachine, first_view}
 use Rattle.std.proofs.Common.{replicate}
-use Rattle.history.proofs.Sets.{bits_open, counts_open}
+use Rattle.history_bits.proofs.Sets.{bits_open, counts_open}
 use Rattle.lock_free_sets.specs.Sets.Kinds.{SetKind, Flags, Counts, machine_kind, words_of}
 
 -- Zeros are the words with which a set of either kind opens, and the first view fits them.

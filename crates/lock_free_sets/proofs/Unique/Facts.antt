@@ -21,9 +21,9 @@ use Rattle.model.specs.Promises.Spans.{Stands}
 use Rattle.laws_indices.proofs.Sound.{kept_on, reached_on_sound}
 use Rattle.model.specs.Families.Indices.Reading.{holder_of, is_locked}
 use Rattle.model.specs.Reading.{Span, Never, Open, Ended, span_of}
-use Rattle.history.specs.Indices.{claimed_by}
+use Rattle.history_indices.specs.Indices.{claimed_by}
 use Rattle.history.specs.History.{Continues, Knows}
-use Rattle.history.proofs.Indices.{is_index_set}
+use Rattle.history_indices.proofs.Indices.{is_index_set}
 use Rattle.history.proofs.Locks.{not_locked}
 use Rattle.history.proofs.OneHolder.{first_wrote}
 use Rattle.lock_free_sets.specs.Unique.Held.{HoldsNothing, IsSound}

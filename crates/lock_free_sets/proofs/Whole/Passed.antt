@@ -32,7 +32,7 @@ use Rattle.model.proofs.Reached.{kept_by, kept_by_runs_on}
 use Rattle.model.proofs.Rows.{may_begin, row_passed, not_some}
 use Rattle.model.specs.Refusals.{call_refusal}
 use Rattle.model.specs.Turns.{IsReachedOn}
-use Rattle.laws_robust.specs.Open.{IsReachedOpen, open_refusal}
+use Rattle.model.specs.Open.{IsReachedOpen, open_refusal}
 use Rattle.history.specs.History.{IsReachedAs}
 use Rattle.lock_free_sets.specs.Whole.{begins, ends, IsInside, AllInside}
 use Rattle.lock_free_sets.proofs.Whole.Inside.{step_inside}

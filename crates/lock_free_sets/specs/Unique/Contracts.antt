@@ -18,7 +18,7 @@ use Rattle.model.specs.Families.Indices.Reading.{holder_of, is_locked}
 use Rattle.history.specs.declared.view.View.{View}
 use Rattle.history.specs.History.{IsBeginning}
 use Rattle.history.specs.Held.{Holds}
-use Rattle.history.specs.Indices.{claimed_by, given_by}
+use Rattle.history_indices.specs.Indices.{claimed_by, given_by}
 use Rattle.lock_free_sets.specs.Driven.{HasMade}
 use Rattle.lock_free_sets.specs.Unique.Held.{HoldsNothing, HoldsAll}
 

@@ -9,7 +9,7 @@ ghost use Rattle.laws_value.specs.Stored.{stored};
 ghost use Rattle.model.specs.declared.turn.Kind.TheVariants as kinds;
 ghost use Rattle.model.specs.Coding.{coding_by};
 ghost use Rattle.history.specs.History.{Knows};
-ghost use Rattle.history.specs.Value.{HasProducer};
+ghost use Rattle.history_value.specs.Value.{HasProducer};
 ghost use Rattle.history.proofs.KnownRuns.{knows_prop};
 ghost use Rattle.lock_free_value.specs.Roles.{LacksProducer};
 

@@ -1,5 +1,5 @@
 -- What is promised of every run of a queue and of the single value makes it linearizable.
-use Rattle.model.proofs.Names.{Answer, Coding, Event, IsKept, IsKeptBy, IsLinearizable, Item, Kind, List, QueueKind}
+use Rattle.model.proofs.Names.{Answer, Coding, Event, IsKept, IsKeptBy, Item, Kind, List, QueueKind}
 use Rattle.model.proofs.Names.{Start, Trace, [], arith, false, moments, promise_of, true, ℕ, ◌∷◌, ◌≡◌}
 use Rattle.model.specs.declared.families.queues.QueueKind.TheVariants as queue_kinds
 use Rattle.model.specs.declared.turn.Kind.TheVariants.{IndexQueue, Overflow, Queue, Atomic}
@@ -7,7 +7,8 @@ use Rattle.model.specs.Families.Atomic.Promises as value_promises
 use Rattle.model.specs.Families.Queues.Objects.{list_of}
 use Rattle.model.specs.Families.Queues.Promises as queue_promises
 use Rattle.model.specs.Linearized.{is_push_or_pop, as_list, is_store_or_load, as_value, IsLinearized, IsLinearizableRun}
-use Rattle.model.proofs.Linearizable.Order.{linearizable}
+use Rattle.model.specs.StronglyLinearizable.{IsLinearizedBy}
+use Rattle.model.proofs.Linearizable.Strong.{order, by_acts}
 use Rattle.model.proofs.Linearizable.Spans.{acts_once}
 
 module _ {T : Type 0} where
@@ -24,10 +25,11 @@ module _ {T : Type 0} where
       → is_push_or_pop start ≡ false → (list_of kind capacity).after items start ≡ items
   others_of_list = grind arith
 
-  -- A run of a queue that keeps its promise is linearizable.
-  queue_linearizable : (kind : QueueKind) {t : Trace T} → IsKeptBy (queue_promises.promise kind) t → IsLinearizable (as_list kind t.world.capacity) t.events
-  queue_linearizable kind {t} kept =
-      linearizable (as_list kind t.world.capacity) (others_of_list kind t.world.capacity)
+  -- A run of a queue that keeps its promise is linearizable, in the order in which its calls act.
+  pub list_by_acts : (kind : QueueKind) {t : Trace T} → IsKeptBy (queue_promises.promise kind) t
+      → IsLinearizedBy (as_list kind t.world.capacity) (order is_push_or_pop t.events) t.events
+  list_by_acts kind {t} kept =
+      by_acts (as_list kind t.world.capacity) (others_of_list kind t.world.capacity) t.events
       (acts_once (queue_promises.promise kind) t.world.capacity is_push_or_pop (one_of_list kind t.world.capacity) t.events kept.spans) kept.promised.moments
 
   -- ---- the single value
@@ -42,20 +44,21 @@ module _ {T : Type 0} where
       → (value_promises.value_of_zeros code).after value start ≡ value
   others_of_value = grind arith
 
-  -- A run of the single value that keeps its promise is linearizable.
-  value_linearizable : {t : Trace T} → IsKeptBy value_promises.promise t → IsLinearizable (as_value t.world.coding) t.events
-  value_linearizable {t} kept =
-      linearizable (as_value t.world.coding) (others_of_value t.world.coding)
+  -- A run of the single value that keeps its promise is linearizable, in the order in which its calls act.
+  pub value_by_acts : {t : Trace T} → IsKeptBy value_promises.promise t
+      → IsLinearizedBy (as_value t.world.coding) (order is_store_or_load t.events) t.events
+  value_by_acts {t} kept =
+      by_acts (as_value t.world.coding) (others_of_value t.world.coding) t.events
       (acts_once value_promises.promise t.world.capacity is_store_or_load (one_of_value t.world.capacity) t.events kept.spans) kept.promised.moments
 
   -- ---- every kind
 
   -- the history of each queue and value that keeps its promises is linearizable; of other kinds nothing is said
   by_kind : (kind : Kind) (t : Trace T) → IsKeptBy (promise_of kind) t → IsLinearized kind t
-  by_kind IndexQueue t kept = queue_linearizable queue_kinds.IndexQueue kept
-  by_kind Overflow t kept = queue_linearizable queue_kinds.Overflow kept
-  by_kind Queue t kept = queue_linearizable queue_kinds.Queue kept
-  by_kind Atomic t kept = value_linearizable kept
+  by_kind IndexQueue t kept = let o = list_by_acts queue_kinds.IndexQueue {t = t} kept in o.by
+  by_kind Overflow t kept = let o = list_by_acts queue_kinds.Overflow {t = t} kept in o.by
+  by_kind Queue t kept = let o = list_by_acts queue_kinds.Queue {t = t} kept in o.by
+  by_kind Atomic t kept = let o = value_by_acts {t = t} kept in o.by
   by_kind kind t kept = tt
 
   pub run_linearizable : (t : Trace T) → IsKept t → IsLinearizableRun t

@@ -257,3 +257,10 @@ module _ {T State : Type 0} (spec : Specification T State) where
 
           go : Comes spec.is_call x history 0 (λ p. None) (λ p. 0) → (spec.is_call x.0.start ≡ true) × Contains (calls_of history) x.0
           go its_source = (its_source.call, begins its_source.source)
+
+  -- The sequential history that it gives is the order in which the calls act.
+  pub in_that_order : (others : (s : State) (start : Start T) → spec.is_call start ≡ false → spec.object.after s start ≡ s)
+      (history : List (Event T)) (once : ActsOnce spec.is_call history (λ p. None)) (legal : IsLegal spec.object (moments history))
+      → (linearizable others {history = history} once legal).sequential ≡ order_in spec.is_call history 0 (λ p. 0)
+  unfolding linearizable
+  in_that_order others history once legal = refl

@@ -1,12 +1,12 @@
 -- The calls under way and those that have ended are counted together: a begin adds one, and any other turn
--- leaves the number as it was. And a party that takes a step has a call under way.
-use Rattle.model.proofs.Names.{After, AllByRecursion, Ask, GoOn, IsBelow, List}
+-- leaves the number as it was. And a party that takes a step has a call under way. Each party is counted once.
+use Rattle.model.proofs.Names.{After, AllByRecursion, Ask, GoOn, IsAmong, List}
 use Rattle.model.proofs.Names.{None, Option, Refusal, Some, Trace, World, [], after_answer, after_begin}
-use Rattle.model.proofs.Names.{after_step, after_turn, after_turns, answer_in, ap, arith, Bool, ask_of_doing, cases_eq}
+use Rattle.model.proofs.Names.{after_step, after_turn, after_turns, answer_in, ap, arith, Bool, ask_of_doing, inl, inr, subst}
 use Rattle.model.proofs.Names.{change_of, doing_after, doing_of, ending_of, ends}
 use Rattle.model.proofs.Names.{events_of, events_of_answer, events_of_decision, events_of_next, events_of_step, false}
 use Rattle.model.proofs.Names.{first_of, flight_in, flight_of, is_none, is_some, number_of, old_of, one_if}
-use Rattle.model.proofs.Names.{beside_of, party_of, refl, step_in, suc, sym, world_after, zero, ℕ, ⊎_elim, ◌+◌, ◌<◌, ◌∙◌, ◌∷◌, ◌≡◌, ◌≢◌, ◌≤◌}
+use Rattle.model.proofs.Names.{beside_of, party_of, refl, step_in, sym, world_after, ℕ, ⊎_elim, ◌+◌, ◌∙◌, ◌∷◌, ◌≡◌, ◌≢◌, ◌≤◌}
 use Rattle.steps.specs.declared.ask.After.TheVariants.{Done}
 use Rattle.model.specs.declared.event.Answer.{Answer}
 use Rattle.model.specs.declared.event.Start.{Start}
@@ -22,7 +22,8 @@ use Rattle.model.proofs.Parties.{party_put_same}
 use Rattle.model.proofs.Rows.{IsPossible}
 use Rattle.model.proofs.LockFree.Stays.{begun as begun_stays, answered, IsUnder, under_way}
 use Rattle.model.proofs.LockFree.Weighed.{ended_more}
-use Rattle.model.specs.LockFree.{steps_of}
+use Rattle.model.specs.LockFree.{IsOneIn, steps_of}
+use Rattle.model.proofs.LockFree.Apart.{AreApart}
 use Rattle.model.specs.Loads.{begin_in, begins_in, begun_of, begun, pending}
 use Rattle.model.specs.Promises.Turns.{ask_in}
 use Rattle.model.specs.Turns.{AreAllowedBy}
@@ -34,53 +35,51 @@ module _ {T : Type 0} where
   abbrev under : World T → ℕ → ℕ
   under w p = one_if (is_some (flight_in w p))
 
-  -- If no call of a party below n has moved, the number of calls under way is as it was.
-  same_pending : (n : ℕ) (old new : World T) → ((q : ℕ) → q < n → flight_in new q ≡ flight_in old q) → pending n new ≡ pending n old
-  same_pending zero old new same = refl
-  same_pending (suc n) old new same =
-      let rest = same_pending n old new (λ q less. same q (omega (arith, less))) in
-      let last = same n (omega arith) in
-      rw (rest, last) refl
+  -- If no call of these parties has moved, the number of calls under way is as it was.
+  same_pending : (ps : List ℕ) (old new : World T) → ((q : ℕ) → IsOneIn ps q → flight_in new q ≡ flight_in old q) → pending ps new ≡ pending ps old
+  same_pending [] old new same = refl
+  same_pending (p ∷ ps) old new same =
+      let rest = same_pending ps old new (λ q one. same q (inr one)) in
+      let here = same p (inl refl) in
+      rw (rest, here) refl
 
   -- If only one party's call has moved, the number of calls under way changes by this call.
-  moves : (n : ℕ) (old new : World T) (p : ℕ) → p < n → ((q : ℕ) → q ≢ p → flight_in new q ≡ flight_in old q)
-      → pending n new + under old p ≡ pending n old + under new p
-  moves zero old new p below others = absurd (omega arith)
-  moves (suc n) old new p below others = ⊎_elim last (λ ne. before ne (moves n old new p)) (cases_eq p n)
+  moves : (ps : List ℕ) → AreApart ps → (old new : World T) (p : ℕ) → IsOneIn ps p → ((q : ℕ) → q ≢ p → flight_in new q ≡ flight_in old q)
+      → pending ps new + under old p ≡ pending ps old + under new p
+  moves [] apart old new p one others = absurd one
+  moves (q ∷ ps) apart old new p one others = ⊎_elim first (λ in_rest. later in_rest (moves ps apart.1 old new p in_rest others)) one
     where
-      -- The case that the party is the last one.
-      last : p ≡ n → pending (suc n) new + under old p ≡ pending (suc n) old + under new p
-      last e =
-          let rest = same_pending n old new (λ q less. others q (λ same. absurd (omega (arith, less, same, e)))) in
+      -- the party stands first, so the calls of the others have not moved
+      first : p ≡ q → pending (q ∷ ps) new + under old p ≡ pending (q ∷ ps) old + under new p
+      first e =
+          let rest = same_pending ps old new (λ r in_rest. others r (λ same. apart.0 (subst (IsOneIn ps) (same ∙ e) in_rest))) in
           rw (rest, e) (omega arith)
 
-      -- p is another party than the last one: the count of the parties before it moves, and the last one's stays
-      before : p ≢ n
-          → (p < n → ((q : ℕ) → q ≢ p → flight_in new q ≡ flight_in old q) → pending n new + under old p ≡ pending n old + under new p)
-          → pending (suc n) new + under old p ≡ pending (suc n) old + under new p
-      before ne more =
-          let rest = more (omega (arith, ne)) others in
-          let last = others n (λ same. ne (sym same)) in
-          rw last (omega arith)
+      -- the party stands later, so the call of the first has not moved
+      later : IsOneIn ps p → pending ps new + under old p ≡ pending ps old + under new p
+          → pending (q ∷ ps) new + under old p ≡ pending (q ∷ ps) old + under new p
+      later in_rest rest =
+          let here = others q (λ same. apart.0 (subst (IsOneIn ps) (sym same) in_rest)) in
+          rw here (omega arith)
 
-  abbrev CountsCalls : ℕ → World T → World T → ℕ → ℕ → Type 0
-  CountsCalls n old new ended begins = pending n new + ended ≡ pending n old + begins
+  abbrev CountsCalls : List ℕ → World T → World T → ℕ → ℕ → Type 0
+  CountsCalls ps old new ended begins = pending ps new + ended ≡ pending ps old + begins
 
   -- a turn that begins a call puts one more call under way, and ends none
-  begins : (n : ℕ) (w : World T) (p : ℕ) (start : Start T) → p < n → (o : Option (Flight T)) → is_none o ≡ false → flight_in w p ≡ None
-      → CountsCalls n w (after_begin w p start o) 0 1
-  begins n w p start below None some free = absurd (cc)
-  begins n w p start below (Some flight) some free =
+  begins : (ps : List ℕ) → AreApart ps → (w : World T) (p : ℕ) (start : Start T) → IsOneIn ps p → (o : Option (Flight T)) → is_none o ≡ false
+      → flight_in w p ≡ None → CountsCalls ps w (after_begin w p start o) 0 1
+  begins ps apart w p start below None some free = absurd (cc)
+  begins ps apart w p start below (Some flight) some free =
       let here : flight_in (after_begin w p start (Some flight)) p ≡ Some flight = ap (λ o. flight_of (doing_of o)) (party_put_same p _ w.latest) in
       let one : under (after_begin w p start (Some flight)) p ≡ 1 = rw here refl in
       let none : under w p ≡ 0 = rw free refl in
-      omega (arith, moves n w (after_begin w p start (Some flight)) p below (λ q ne. begun_stays w p start (Some flight) q ne))
+      omega (arith, moves ps apart w (after_begin w p start (Some flight)) p below (λ q ne. begun_stays w p start (Some flight) q ne))
 
   -- a step of a call, or an answer to it, ends the call or none: the calls under way are fewer by those that end
-  goes : (n : ℕ) (w : World T) (p : ℕ) {flight : Flight T} (u : IsUnder w p flight) (ask : Option Ask) (answer : ℕ) → p < n
-      → CountsCalls n w (after_answer w p u.party ask answer (Going flight u.since))
+  goes : (ps : List ℕ) → AreApart ps → (w : World T) (p : ℕ) {flight : Flight T} (u : IsUnder w p flight) (ask : Option Ask) (answer : ℕ)
+      → IsOneIn ps p → CountsCalls ps w (after_answer w p u.party ask answer (Going flight u.since))
       (ends (events_of_answer w p u.party answer (Going flight u.since))) 0
-  goes n w p {flight} u ask answer below = by_after s.after refl
+  goes ps apart w p {flight} u ask answer below = by_after s.after refl
     where
       x : Party T
       x = u.party
@@ -92,8 +91,8 @@ module _ {T : Type 0} where
       new : World T
       new = after_step w p x u.since ask s
 
-      moved : pending n new + under w p ≡ pending n w + under new p
-      moved = moves n w new p below (λ q ne. answered w p x ask answer (Going flight u.since) q ne)
+      moved : pending ps new + under w p ≡ pending ps w + under new p
+      moved = moves ps apart w new p below (λ q ne. answered w p x ask answer (Going flight u.since) q ne)
 
       one : under w p ≡ 1
       one = rw (u.found, u.doing) refl
@@ -115,7 +114,7 @@ module _ {T : Type 0} where
           )
 
       -- a step that leads on leaves as many calls under way, and one that ends its call leaves one fewer
-      by_after : (a : After (Flight T) (Answer T)) → s.after ≡ a → CountsCalls n w new (ends (events_of_step p x.start s)) 0
+      by_after : (a : After (Flight T) (Answer T)) → s.after ≡ a → CountsCalls ps w new (ends (events_of_step p x.start s)) 0
       by_after (GoOn next) leads =
           let there : under new p ≡ 1 = rw (here (GoOn next) leads) refl in
           let none : ends (ending_of p x.start (answer_in s.after)) ≡ 0 = rw leads refl in
@@ -125,42 +124,42 @@ module _ {T : Type 0} where
           let end : ends (ending_of p x.start (answer_in s.after)) ≡ 1 = rw leads refl in
           omega (arith, ended, moved, one)
 
-  -- A turn `Next` of a party below n keeps the count of calls under way, but for those that end.
-  nexts : (n : ℕ) (w : World T) (p : ℕ) → p < n → {flight : Flight T} → flight_in w p ≡ Some flight
-      → CountsCalls n w (world_after w (Next p)) (ends (events_of w (Next p))) 0
-  nexts n w p below {flight} flight_is =
+  -- A turn `Next` of one of these parties keeps the count of calls under way, but for those that end.
+  nexts : (ps : List ℕ) → AreApart ps → (w : World T) (p : ℕ) → IsOneIn ps p → {flight : Flight T} → flight_in w p ≡ Some flight
+      → CountsCalls ps w (world_after w (Next p)) (ends (events_of w (Next p))) 0
+  nexts ps apart w p below {flight} flight_is =
       let u = under_way w p flight flight_is in
       let ask = ask_of_doing w.coding (Going flight u.since) in
-      rw (u.found, u.doing) (goes n w p u ask (old_of w.words ask) below)
+      rw (u.found, u.doing) (goes ps apart w p u ask (old_of w.words ask) below)
 
-  -- A decision for a party below n keeps the count of calls under way, but for those that end.
-  decides : (n : ℕ) (w : World T) (p : ℕ) (said : Bool) → p < n → {flight : Flight T} → flight_in w p ≡ Some flight
-      → CountsCalls n w (world_after w (Decide p said)) (ends (events_of w (Decide p said))) 0
-  decides n w p said below {flight} flight_is =
+  -- A decision for one of these parties keeps the count of calls under way, but for those that end.
+  decides : (ps : List ℕ) → AreApart ps → (w : World T) (p : ℕ) (said : Bool) → IsOneIn ps p → {flight : Flight T} → flight_in w p ≡ Some flight
+      → CountsCalls ps w (world_after w (Decide p said)) (ends (events_of w (Decide p said))) 0
+  decides ps apart w p said below {flight} flight_is =
       let u = under_way w p flight flight_is in
-      rw (u.found, u.doing) (goes n w p u None (number_of said) below)
+      rw (u.found, u.doing) (goes ps apart w p u None (number_of said) below)
 
   -- each turn adds the call that it begins to those under way, and takes off the one that it ends
-  pub turn_counts : (n : ℕ) (w : World T) (turn : Turn T) → IsPossible w turn → IsBelow n turn
-      → CountsCalls n w (world_after w turn) (ends (events_of w turn)) (begin_in turn)
-  turn_counts n w (Begin p start) may below = begins n w p start below (first_of w.kind w.capacity start w.kept) may.call may.free
-  turn_counts n w (Next p) may below = nexts n w p below may.is
-  turn_counts n w (Decide p said) may below = decides n w p said below may.0.is
-  turn_counts n w (Die owner) may below = omega (arith, same_pending n w (world_after w (Die owner)) (λ q less. refl))
+  pub turn_counts : (ps : List ℕ) → AreApart ps → (w : World T) (turn : Turn T) → IsPossible w turn → IsAmong ps turn
+      → CountsCalls ps w (world_after w turn) (ends (events_of w turn)) (begin_in turn)
+  turn_counts ps apart w (Begin p start) may below = begins ps apart w p start below (first_of w.kind w.capacity start w.kept) may.call may.free
+  turn_counts ps apart w (Next p) may below = nexts ps apart w p below may.is
+  turn_counts ps apart w (Decide p said) may below = decides ps apart w p said below may.0.is
+  turn_counts ps apart w (Die owner) may below = omega (arith, same_pending ps w (world_after w (Die owner)) (λ q one. refl))
 
   -- ---- a list of turns
 
   module _ (refuses : World T → Turn T → Option Refusal) (possible : (w : World T) (turn : Turn T) → refuses w turn ≡ None → IsPossible w turn) where
     -- over a list of turns: the calls under way and those that ended are those from before and those that began
-    pub counted : (n : ℕ) (t : Trace T) (turns : List (Turn T)) → AreAllowedBy refuses t turns → AllByRecursion (IsBelow n) turns
-        → pending n (after_turns t turns).world + ends (after_turns t turns).events ≡ pending n t.world + ends t.events + begins_in turns
-    counted n t [] allowed below = omega arith
-    counted n t (turn ∷ turns) allowed below =
+    pub counted : (ps : List ℕ) → AreApart ps → (t : Trace T) (turns : List (Turn T)) → AreAllowedBy refuses t turns → AllByRecursion (IsAmong ps) turns
+        → pending ps (after_turns t turns).world + ends (after_turns t turns).events ≡ pending ps t.world + ends t.events + begins_in turns
+    counted ps apart t [] allowed below = omega arith
+    counted ps apart t (turn ∷ turns) allowed below =
         let more = ended_more t.events (events_of t.world turn) in
-        let rest = counted n (after_turn t turn) turns allowed.1 below.1 in
-        let all : pending n (after_turns (after_turn t turn) turns).world + ends (after_turns (after_turn t turn) turns).events
-        ≡ pending n (world_after t.world turn) + (ends t.events + ends (events_of t.world turn)) + begins_in turns = rw more at rest in
-        omega (arith, turn_counts n t.world turn (possible t.world turn allowed.0) below.0)
+        let rest = counted ps apart (after_turn t turn) turns allowed.1 below.1 in
+        let all : pending ps (after_turns (after_turn t turn) turns).world + ends (after_turns (after_turn t turn) turns).events
+        ≡ pending ps (world_after t.world turn) + (ends t.events + ends (events_of t.world turn)) + begins_in turns = rw more at rest in
+        omega (arith, turn_counts ps apart t.world turn (possible t.world turn allowed.0) below.0)
 
   -- a step of a call, or an answer to its question, writes no begin
   answer_begins : (w : World T) (p : ℕ) (x : Party T) (answer : ℕ) (doing : Doing T) → begun (events_of_answer w p x answer doing) ≡ 0
@@ -202,24 +201,20 @@ module _ {T : Type 0} where
 
   -- ---- a step
 
-  -- If a party below n has a call under way, then at least one call is under way.
-  one_pending : (n : ℕ) (w : World T) (p : ℕ) (flight : Flight T) → p < n → flight_in w p ≡ Some flight → 1 ≤ pending n w
-  one_pending zero w p flight below flight_is = absurd (omega arith)
-  one_pending (suc n) w p flight below flight_is = ⊎_elim last (λ ne. before ne (one_pending n w p flight)) (cases_eq p n)
+  -- If one of these parties has a call under way, then at least one call is under way.
+  pub one_pending : (ps : List ℕ) (w : World T) (p : ℕ) (flight : Flight T) → IsOneIn ps p → flight_in w p ≡ Some flight → 1 ≤ pending ps w
+  one_pending [] w p flight one flight_is = absurd one
+  one_pending (q ∷ ps) w p flight one flight_is = ⊎_elim first (λ later. omega (arith, one_pending ps w p flight later flight_is)) one
     where
-      -- The case that the party is the last one.
-      last : p ≡ n → 1 ≤ pending (suc n) w
-      last same =
+      first : p ≡ q → 1 ≤ pending (q ∷ ps) w
+      first same =
           let here : under w p ≡ 1 = rw flight_is refl in
-          let one : under w n ≡ 1 = rw same at here in
+          let one : under w q ≡ 1 = rw same at here in
           omega arith
 
-      before : p ≢ n → (p < n → flight_in w p ≡ Some flight → 1 ≤ pending n w) → 1 ≤ pending (suc n) w
-      before ne more = let rest = more (omega (arith, ne)) flight_is in omega arith
-
   -- a turn takes a step only where a call is under way
-  pub steps_pending : (n : ℕ) (w : World T) (turn : Turn T) → IsPossible w turn → IsBelow n turn → steps_of w turn ≤ pending n w
-  steps_pending n w (Begin p start) may below = omega arith
-  steps_pending n w (Next p) may below = omega (arith, steps_small (ask_in w (Next p)), one_pending n w p may.flight below may.is)
-  steps_pending n w (Decide p said) may below = omega arith
-  steps_pending n w (Die owner) may below = omega arith
+  pub steps_pending : (ps : List ℕ) (w : World T) (turn : Turn T) → IsPossible w turn → IsAmong ps turn → steps_of w turn ≤ pending ps w
+  steps_pending ps w (Begin p start) may below = omega arith
+  steps_pending ps w (Next p) may below = omega (arith, steps_small (ask_in w (Next p)), one_pending ps w p may.flight below may.is)
+  steps_pending ps w (Decide p said) may below = omega arith
+  steps_pending ps w (Die owner) may below = omega arith

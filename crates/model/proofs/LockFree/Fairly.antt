@@ -1,6 +1,6 @@
 -- From finite loads that end to calls that end where their parties go on.
 use Rattle.std.proofs.Common.{Bool, true, false, if◌then◌else◌}
-use Rattle.model.proofs.Names.{AllByRecursion, AreAllowedOn, Bound, IsBelow, List, None, Trace, World, []}
+use Rattle.model.proofs.Names.{AllByRecursion, AreAllowedOn, Bound, IsAmong, List, None, Trace, World, []}
 use Rattle.model.proofs.Names.{after_turn, after_turns, ap, arith, call_refusal, cases_eq, flight_in, inl, inr, length, refl, steps_in, subst, suc, sym, zero}
 use Rattle.model.proofs.Names.{ℕ, ⊎_elim, ◌++◌, ◌+◌, ◌<◌, ◌==◌, ◌∙◌, ◌∷◌, ◌≡◌, ◌≢◌, ◌≤◌, ◌⊎◌}
 use Rattle.model.specs.declared.event.Start.{Start}
@@ -60,12 +60,12 @@ module _ {T : Type 0} where
   rests_by p t rounds each most within many = ⊎_elim (λ one. one) (λ few. absurd (omega (arith, few))) (rests_or_many p t rounds each)
 
   pub rounds_end : (kind : Kind) (bound : Bound) → EndsLoad T kind bound → EndsInRounds T kind bound
-  rounds_end kind bound ends t is r n p rounds allowed below each many =
-      rests_by p t rounds each _ (ends t is r n (turns_of rounds) allowed below) many
+  rounds_end kind bound ends t is r ps p rounds allowed below each many =
+      rests_by p t rounds each _ (ends t is r ps (turns_of rounds) allowed below) many
 
   pub rounds_end_of : (kind : Kind) (Such : Start T → Type 0) (bound : Bound) → EndsLoadOf T kind Such bound → EndsInRoundsOf T kind Such bound
-  rounds_end_of kind Such bound ends t is r before n p rounds allowed below such each many =
-      rests_by p t rounds each _ (ends t is r before n (turns_of rounds) allowed below such) many
+  rounds_end_of kind Such bound ends t is r before ps p rounds allowed below such each many =
+      rests_by p t rounds each _ (ends t is r before ps (turns_of rounds) allowed below such) many
 
   pub rounds_end_runs : (kind : Kind) (bound : Bound) → EndsLoadRuns T kind bound → EndsInRoundsRuns T kind bound
   rounds_end_runs kind bound ends t is r p rounds allowed each many = rests_by p t rounds each _ (ends t is r (turns_of rounds) allowed) many
@@ -170,8 +170,8 @@ module _ {T : Type 0} where
 
   -- where every finite load ends, each call ends whose party goes on
   pub fair_end : (kind : Kind) (bound : Bound) → EndsLoad T kind bound → EndsIfFair T kind bound
-  fair_end kind bound ends t is r n calls turns goes below few p fair =
-      let b = bound n t.world.capacity t.world.coding.size in
-      fair_by fair (load b (pending n t.world + calls))
-      (λ k. load_up turns t b (pending n t.world) calls (steps_in t (first turns k)) k (few k)
-      (ends t is r n (first turns k) (all_allowed t turns goes k) (all_of t turns (IsBelow n) below k)))
+  fair_end kind bound ends t is r ps calls turns goes below few p fair =
+      let b = bound (length ps) t.world.capacity t.world.coding.size in
+      fair_by fair (load b (pending ps t.world + calls))
+      (λ k. load_up turns t b (pending ps t.world) calls (steps_in t (first turns k)) k (few k)
+      (ends t is r ps (first turns k) (all_allowed t turns goes k) (all_of t turns (IsAmong ps) below k)))

@@ -1,8 +1,8 @@
 -- Lock-freedom of a family whose frame holds of every run without a bound of turns: from a measure of its
 -- calls it follows that calls keep ending.
-use Rattle.model.proofs.Names.{AreWithinEnds, Begin, Bool, Bound, Coding, Die, Flight, Going, IsBelow, IsReachedOn}
-use Rattle.model.proofs.Names.{KeepsEnding, Kind, None, Party, Some, Start, Trace, after_turns, call_refusal}
-use Rattle.model.proofs.Names.{ends, flight_in, is_question, kept_after_begin, kept_after_death, number_of, old_of}
+use Rattle.model.proofs.Names.{AreWithinEnds, Begin, Bool, Bound, Coding, Die, Flight, Going, IsAmong, IsReachedOn}
+use Rattle.model.proofs.Names.{KeepsEnding, Kind, List, None, Party, Some, Start, Trace, after_turns, call_refusal}
+use Rattle.model.proofs.Names.{ends, flight_in, is_question, kept_after_begin, kept_after_death, length, number_of, old_of}
 use Rattle.model.proofs.Names.{party_of, refl, steps_in, stretch, subst, sym, true, want_of, ℕ, ◌∙◌, ◌≡◌, ◌≤◌}
 use Rattle.model.proofs.Frame.{Family, Sound}
 use Rattle.model.proofs.LockFree.Measure.{Measure, Owed, Leaves, Harmless, FallsBy, asked}
@@ -49,8 +49,8 @@ module _ {T : Type 0} (kind : Kind) (F : Coding T → ℕ → Family T) (M : ℕ
     there_sound {t = t} is_there = L.sound t is_there.is is_there.reached
 
     -- what the measure has to show of each turn follows from the laws of the kind
-    owed : {c : ℕ} (n : ℕ) → Owed (M c) call_refusal (IsThere c) (IsBelow n)
-    owed {c} n =
+    owed : {c : ℕ} (ps : List ℕ) → Owed (M c) call_refusal (IsThere c) (IsAmong ps)
+    owed {c} ps =
         record {
           keeps = λ t turn e may h.
               (let making = turn_making t.world turn in
@@ -75,9 +75,9 @@ module _ {T : Type 0} (kind : Kind) (F : Coding T → ℕ → Family T) (M : ℕ
 
     -- from each machine reached, calls end as often as the bound says
     pub framed_keep_ending : (bound : Bound) → ((c n size : ℕ) → bound n c size ≡ stretch n (M c).changes (M c).alone) → KeepsEnding T kind bound
-    framed_keep_ending bound same t is r n turns allowed below =
+    framed_keep_ending bound same t is r ps turns allowed below =
         let c = t.world.capacity in
         subst (λ b. AreWithinEnds b (steps_in t turns) (ends t.events) (ends (after_turns t turns).events))
-        (sym (same c n t.world.coding.size))
-        (calls_end possible_on (owed n) n (λ turn may. may) t
+        (sym (same c (length ps) t.world.coding.size))
+        (calls_end possible_on (owed ps) ps (λ turn may. may) t
         (record { is = is; capacity = refl; reached = r }) turns allowed below)

@@ -1,17 +1,18 @@
 -- From a measure of each call to a bound of the steps between two ends.
-use Rattle.model.proofs.Names.{After, Answer, Ask, Begin, Bool, Die, Flight, GoOn, Going, List, None, Option}
+use Rattle.model.proofs.Names.{After, Answer, Ask, Begin, Bool, Die, Flight, GoOn, Going, List, None, Option, length}
 use Rattle.model.proofs.Names.{Party, Refusal, Registry, Some, Start, Step, Trace, Turn, World, after_step, after_turn}
 use Rattle.model.proofs.Names.{answer_in, ap, arith, ask_of, change_of, doing_after, doing_of}
 use Rattle.model.proofs.Names.{ending_of, ends, events_of_step, flight_in, flight_of, is_question, kept_after_begin}
 use Rattle.model.proofs.Names.{kept_after_death, number_of, old_of, party_after, party_of, refl, step_count, step_in}
 use Rattle.model.proofs.Names.{stretch, true, want_of, words_after, ℕ, ⊎_elim, ◌*◌, ◌+◌, ◌-◌}
-use Rattle.model.proofs.Names.{◌<◌, ◌∙◌, ◌≡◌, ◌≢◌, ◌≤◌, ◌⊎◌}
+use Rattle.model.proofs.Names.{◌∙◌, ◌≡◌, ◌≢◌, ◌≤◌, ◌⊎◌}
 use Rattle.steps.specs.declared.ask.After.TheVariants.{Done}
 use Rattle.model.proofs.Counts.{steps_small}
 use Rattle.model.proofs.Parties.{party_put_same, party_put_other, each_by}
 use Rattle.model.proofs.LockFree.Stays.{IsUnder}
 use Rattle.model.proofs.LockFree.Weighed.{ended_more}
-use Rattle.model.proofs.LockFree.Sums.{sum_below, sum_le, sum_falls, sum_rises, sum_most}
+use Rattle.model.specs.LockFree.{IsOneIn}
+use Rattle.model.proofs.LockFree.Sums.{sum_over, sum_le, sum_falls, sum_rises, sum_most}
 
 -- more of them are worth more
 pub worth : (fewer more each : ℕ) → fewer ≤ more → fewer * each ≤ more * each
@@ -84,7 +85,7 @@ module _ {T : Type 0} (M : Measure T) where
         → party_of p t.world.latest ≡ Some x → x.doing ≡ Going flight since
         → is_question (want_of t.world.coding flight) ≡ true → FallsBy t.world p x flight None (number_of said)
 
-  -- ---- what all parties below n have left
+  -- ---- what the parties of a list have left
 
   -- How many steps a party's call can take alone, by the measure. A party without a call may begin one, and
   -- has the most.
@@ -104,17 +105,17 @@ module _ {T : Type 0} (M : Measure T) where
   abbrev pub pays_at : World T → ℕ → ℕ
   pays_at w p = pays_of (flight_in w p)
 
-  module _ (n : ℕ) where
-    -- What one change of a word can cost the other n - 1 parties in steps.
+  module _ (ps : List ℕ) where
+    -- What one change of a word can cost the other parties in steps.
     abbrev pub price : ℕ
-    price = (n - 1) * M.alone
+    price = (length ps - 1) * M.alone
 
-    -- The weight of a machine: the steps that the parties below n can take before one of their calls ends.
+    -- The weight of a machine: the steps that these parties can take before one of their calls ends.
     abbrev pub weight : World T → ℕ
-    weight w = sum_below n (pays_at w) * price + sum_below n (left_at w)
+    weight w = sum_over ps (pays_at w) * price + sum_over ps (left_at w)
 
     abbrev pub bound : ℕ
-    bound = stretch n M.changes M.alone
+    bound = stretch (length ps) M.changes M.alone
 
     -- No party has more steps to take, or more changes to make, than the measure allows a call.
     pub record IsWithin (w : World T) : Type 0 where
@@ -124,29 +125,29 @@ module _ {T : Type 0} (M : Measure T) where
     -- the weight of a machine is never above the bound
     pub at_most : {w : World T} → IsWithin w → weight w ≤ bound
     at_most {w} within =
-        let pays = sum_most n (pays_at w) M.changes within.pays in
-        omega (arith, sum_most n (left_at w) M.alone within.left, worth (sum_below n (pays_at w)) (n * M.changes) price pays)
+        let pays = sum_most ps (pays_at w) M.changes within.pays in
+        omega (arith, sum_most ps (left_at w) M.alone within.left, worth (sum_over ps (pays_at w)) (length ps * M.changes) price pays)
 
     -- ---- one turn
 
     -- With a turn in which party p has `steps` steps less to take, and no party more, the weight
     -- falls by these steps.
-    pub by_left : (old new : World T) (p steps : ℕ) → p < n → ((q : ℕ) → left_at new q ≤ left_at old q) → left_at new p + steps ≤ left_at old p
+    pub by_left : (old new : World T) (p steps : ℕ) → IsOneIn ps p → ((q : ℕ) → left_at new q ≤ left_at old q) → left_at new p + steps ≤ left_at old p
         → ((q : ℕ) → pays_at new q ≤ pays_at old q) → steps + weight new ≤ weight old
     by_left old new p steps below left here pays =
-        let no_more = worth (sum_below n (pays_at new)) (sum_below n (pays_at old)) price (sum_le n (pays_at new) (pays_at old) pays) in
-        omega (arith, sum_falls n (left_at new) (left_at old) p steps below left here)
+        let no_more = worth (sum_over ps (pays_at new)) (sum_over ps (pays_at old)) price (sum_le ps (pays_at new) (pays_at old) pays) in
+        omega (arith, sum_falls ps (left_at new) (left_at old) p steps below left here)
 
     -- A step that changes a word may give other parties more steps to take. Its call pays for that with one
     -- of its changes.
-    by_change : (old new : World T) (p steps : ℕ) → p < n → ((q : ℕ) → left_at new q ≤ M.alone) → left_at new p + steps ≤ left_at old p
+    by_change : (old new : World T) (p steps : ℕ) → IsOneIn ps p → ((q : ℕ) → left_at new q ≤ M.alone) → left_at new p + steps ≤ left_at old p
         → ((q : ℕ) → pays_at new q ≤ pays_at old q) → pays_at new p + 1 ≤ pays_at old p → steps + weight new ≤ weight old
     by_change old new p steps below left left_here pays here =
-        let less = sum_falls n (pays_at new) (pays_at old) p 1 below pays here in
+        let less = sum_falls ps (pays_at new) (pays_at old) p 1 below pays here in
         omega (
           arith,
-          sum_rises n (left_at new) (left_at old) p steps M.alone below left left_here,
-          worth (sum_below n (pays_at new) + 1) (sum_below n (pays_at old)) price less,
+          sum_rises ps (left_at new) (left_at old) p steps M.alone below left left_here,
+          worth (sum_over ps (pays_at new) + 1) (sum_over ps (pays_at old)) price less,
         )
 
     -- what a turn shows
@@ -154,7 +155,7 @@ module _ {T : Type 0} (M : Measure T) where
     Shows old new steps ended = steps + weight new ≤ weight old + ended * (bound + 1)
 
     -- an answer by which a call ends, or falls as `FallsBy` says, shows what a turn shows (`Shows`), if all are within the measure then
-    pub resumes : (w : World T) (p : ℕ) {flight : Flight T} (u : IsUnder w p flight) (answer : ℕ) (ask : Option Ask) → p < n
+    pub resumes : (w : World T) (p : ℕ) {flight : Flight T} (u : IsUnder w p flight) (answer : ℕ) (ask : Option Ask) → IsOneIn ps p
         → FallsBy w p u.party flight ask answer → IsWithin (after_step w p u.party u.since ask (step_in w p u.party flight answer))
         → Shows w (after_step w p u.party u.since ask (step_in w p u.party flight answer)) (step_count ask)
         (ends (events_of_step p u.party.start (step_in w p u.party flight answer)))

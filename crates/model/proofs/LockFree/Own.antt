@@ -1,7 +1,7 @@
 -- What holds of the machines of a family of which nothing has to be known but where each call under way may stand: every turn
 -- keeps it, and from a measure of those calls it follows that calls keep ending.
 use Rattle.model.proofs.Names.{After, AllByRecursion, Answer, AreWithinEnds, Ask, Begin, Bool, Bound, Coding, Decide}
-use Rattle.model.proofs.Names.{Die, Doing, Flight, GoOn, Going, IsBelow, IsCoding, KeepsEnding, Kind, List}
+use Rattle.model.proofs.Names.{Die, Doing, Flight, GoOn, Going, IsAmong, IsCoding, KeepsEnding, Kind, List}
 use Rattle.model.proofs.Names.{Next, None, Option, Over, Party, Refusal, Registry, Some, Start, Trace, Turn, World, []}
 use Rattle.model.proofs.Names.{after_answer, after_begin, after_decision, after_next, after_of, after_turn, after_turns}
 use Rattle.model.proofs.Names.{arith, ask_of, ask_of_doing, beside_of, call_refusal, capacity_error}
@@ -316,14 +316,14 @@ module _ {T : Type 0} (K : Outline T) where
         falls_by (measure_of w) w p w.words (step_in w p x flight (number_of said)).kept 0 flight
         (goes_of w.coding p flight (number_of said) w.kept) (L.decides w.words p w.kept x.start flight said stands_at own.kept asks) next (sym told ∙ e)
 
-    abbrev May : ℕ → Turn T → Type 0
-    May n turn = IsBelow n turn × BeginsSuch K.Such turn
+    abbrev May : List ℕ → Turn T → Type 0
+    May ps turn = IsAmong ps turn × BeginsSuch K.Such turn
 
     -- Turns of parties below n that begin only calls of which `Such` holds are turns that may be taken.
-    both_may : (n : ℕ) (turns : List (Turn T)) → AllByRecursion (IsBelow n) turns → AllByRecursion (BeginsSuch K.Such) turns
-        → AllByRecursion (May n) turns
-    both_may n [] below such = tt
-    both_may n (turn ∷ turns) below such = ((below.0, such.0), both_may n turns below.1 such.1)
+    both_may : (ps : List ℕ) (turns : List (Turn T)) → AllByRecursion (IsAmong ps) turns → AllByRecursion (BeginsSuch K.Such) turns
+        → AllByRecursion (May ps) turns
+    both_may ps [] below such = tt
+    both_may ps (turn ∷ turns) below such = ((below.0, such.0), both_may ps turns below.1 such.1)
 
     abbrev IsAt : Coding T → ℕ → Trace T → Type 0
     IsAt code c t = IsOwn t.world × (t.world.coding ≡ code) × (t.world.capacity ≡ c)
@@ -351,8 +351,8 @@ module _ {T : Type 0} (K : Outline T) where
           (opens world_now.coding world_now.capacity world_now.parties r.coded (subst (λ kind. capacity_error kind world_now.capacity ≡ None) is r.admitted))))
 
       -- what the measure has to show of each turn follows from these laws
-      owed : (code : Coding T) (c n : ℕ) → Owed (measured_in code c) refuses (IsAt code c) (May n)
-      owed code c n =
+      owed : (code : Coding T) (c : ℕ) (ps : List ℕ) → Owed (measured_in code c) refuses (IsAt code c) (May ps)
+      owed code c ps =
           record {
             keeps = λ t turn e may h.
                 (turn_keeps t.world turn may.1 h.0, (turn_making t.world turn).coding ∙ h.1, (turn_making t.world turn).capacity ∙ h.2);
@@ -381,11 +381,12 @@ module _ {T : Type 0} (K : Outline T) where
       -- from each machine reached, calls end as often as the bound says
       pub keeps_ending_by : (bound : Bound) → ((code : Coding T) (c n : ℕ) → bound n c code.size ≡ measured code c n)
           → KeepsEndingBy refuses K.kind K.Such bound
-      keeps_ending_by bound same t is r such_before n turns allowed below such =
+      keeps_ending_by bound same t is r such_before ps turns allowed below such =
           let world_now = t.world in
-          subst (λ b. AreWithinEnds b (steps_in t turns) (ends t.events) (ends (after_turns t turns).events)) (sym (same world_now.coding world_now.capacity n))
-          (calls_end possible (owed world_now.coding world_now.capacity n) n
-          (λ turn may. may.0) t (reached_own is r such_before, refl, refl) turns allowed (both_may n turns below such))
+          subst (λ b. AreWithinEnds b (steps_in t turns) (ends t.events) (ends (after_turns t turns).events))
+          (sym (same world_now.coding world_now.capacity (length ps)))
+          (calls_end possible (owed world_now.coding world_now.capacity ps) ps
+          (λ turn may. may.0) t (reached_own is r such_before, refl, refl) turns allowed (both_may ps turns below such))
 
     -- where any call may begin, all turns begin such calls
     all_such : ((start : Start T) → K.Such start) → (turns : List (Turn T)) → AllByRecursion (BeginsSuch K.Such) turns
@@ -402,5 +403,5 @@ module _ {T : Type 0} (K : Outline T) where
     -- If `Such` holds of every call, calls keep ending with the bound of the measure.
     pub keeps_ending : ((start : Start T) → K.Such start) → (bound : Bound) → ((code : Coding T) (c n : ℕ) → bound n c code.size ≡ measured code c n)
         → KeepsEnding T K.kind bound
-    keeps_ending any bound same t is r n turns allowed below =
-        keeps_ending_by call_refusal possible_on bound same t is r (all_such any r.turns) n turns allowed below (all_such any turns)
+    keeps_ending any bound same t is r ps turns allowed below =
+        keeps_ending_by call_refusal possible_on bound same t is r (all_such any r.turns) ps turns allowed below (all_such any turns)

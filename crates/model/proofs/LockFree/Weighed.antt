@@ -1,7 +1,7 @@
 -- From a weight of machines, which each turn that ends no call lowers by its steps, to a bound of the steps between ends.
-use Rattle.model.proofs.Names.{AllByRecursion, AreWithinEnds, Bound, Event, IsBelow, Kind, List, None, Option, Refusal}
+use Rattle.model.proofs.Names.{AllByRecursion, AreWithinEnds, Bound, Event, IsAmong, Kind, List, None, Option, Refusal}
 use Rattle.model.proofs.Names.{Start, Trace, Turn, World, []}
-use Rattle.model.proofs.Names.{after_turn, after_turns, arith, ends, events_of, steps_in, sum_by-append, world_after, ℕ}
+use Rattle.model.proofs.Names.{after_turn, after_turns, arith, ends, events_of, length, steps_in, sum_by-append, world_after, ℕ}
 use Rattle.model.proofs.Names.{◌*◌, ◌++◌, ◌+◌, ◌∷◌, ◌≡◌, ◌≤◌}
 use Rattle.model.specs.LockFree.{BeginsSuch, end_of, steps_of}
 use Rattle.model.specs.Turns.{AreAllowedBy, IsReachedBy}
@@ -39,6 +39,6 @@ module _ {T : Type 0} (refuses : World T → Turn T → Option Refusal) (May : T
 abbrev pub KeepsEndingBy : {T : Type 0} (refuses : World T → Turn T → Option Refusal) → Kind → (Start T → Type 0) → Bound → Type 0
 KeepsEndingBy {T} refuses kind Such bound =
     (t : Trace T) → t.world.kind ≡ kind → (r : IsReachedBy refuses t) → AllByRecursion (BeginsSuch Such) r.turns
-    → (n : ℕ) (turns : List (Turn T))
-    → AreAllowedBy refuses t turns → AllByRecursion (IsBelow n) turns → AllByRecursion (BeginsSuch Such) turns
-    → AreWithinEnds (bound n t.world.capacity t.world.coding.size) (steps_in t turns) (ends t.events) (ends (after_turns t turns).events)
+    → (parties : List ℕ) (turns : List (Turn T))
+    → AreAllowedBy refuses t turns → AllByRecursion (IsAmong parties) turns → AllByRecursion (BeginsSuch Such) turns
+    → AreWithinEnds (bound (length parties) t.world.capacity t.world.coding.size) (steps_in t turns) (ends t.events) (ends (after_turns t turns).events)

@@ -13,13 +13,13 @@ use Rattle.steps.specs.declared.container.enums.ContainerAddFailure.{ContainerAd
 use Rattle.steps.specs.declared.container.add.Add.{Add}
 use Rattle.steps.specs.declared.container.add.AddStage.TheVariants as adds
 use Rattle.steps.specs.declared.container.add.Owned.{Owned}
-use Rattle.plain.specs.Alone.{BehavesAs}
+use Rattle.plain_queues.specs.Alone.{BehavesAs}
 use Rattle.plain.specs.Robust as robust
 use Rattle.plain.specs.Robust.{owner_in, owners_in}
 use Rattle.plain.specs.Contents.{Contents, changed, handle_at, added, put_at, after_add, contents_in, Represents}
-use Rattle.plain.proofs.Alone.{Runs}
+use Rattle.plain_queues.proofs.Alone.{Runs}
 use Rattle.plain.proofs.Walks.{plus, plus_sum, Walks, WalksOn, OnEnd, longer, part_walks, runs}
-use Rattle.plain.proofs.Words.{stored}
+use Rattle.plain_queues.proofs.Words.{stored}
 use Rattle.plain.proofs.Fronts.{Behind, stays, front_walks}
 use Rattle.plain.proofs.Elements.Sets.{AcquireLow, acquire_goes_low, acquire_below, acquire_front}
 use Rattle.plain.proofs.Elements.Values.{Codes, front_fits, behind_contents, behind_fits, hidden, shown, shows, after_change}

@@ -8,7 +8,7 @@ use Rattle.std.proofs.lemmas.List.FromFn.{length-map-range_with_len}
 use Rattle.steps.specs.declared.container.enums.ContainerAddFailure.{ContainerAddFailure}
 use Rattle.steps.specs.declared.indices.enums.UniqueIndexSetAcquireFailure.{UniqueIndexSetAcquireFailure}
 use Rattle.steps.specs.Objects.Owners.{Owners, acquired, without, raised, taken, given_back}
-use Rattle.plain.specs.Alone.{BehavesAs}
+use Rattle.plain_queues.specs.Alone.{BehavesAs}
 use Rattle.plain.specs.Contents.{Contents, opened, changed, names, added, put_at, after_add, after_remove, after_replace}
 use Rattle.plain.specs.Contents.{counted, value_at, contents_in, IsFilled, Represents, Holds}
 use Rattle.plain.proofs.Elements.Adds.{acquired_low, owners_long}

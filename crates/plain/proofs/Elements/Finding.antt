@@ -10,18 +10,18 @@ use Rattle.steps.specs.Objects.Owners.{indices_of}
 use Rattle.steps.specs.declared.container.find.Find.{Find}
 use Rattle.steps.specs.declared.enums.CallbackProgression.{CallbackProgression}
 use Rattle.steps.specs.declared.enums.CallbackProgression.TheVariants.{Continue, Stop}
-use Rattle.plain.specs.declared.drive.Stop as stops
-use Rattle.plain.specs.Alone.{CanStop, StopsAlike}
+use Rattle.plain_queues.specs.declared.drive.Stop as stops
+use Rattle.plain_queues.specs.Alone.{CanStop, StopsAlike}
 use Rattle.plain.specs.Callable.{TakesIndices, HasFound, index_in, as_answer}
 use Rattle.plain.specs.Robust.{owners_in}
 use Rattle.plain.specs.Contents.{Contents, contents_in}
 use Rattle.plain.specs.Visited.{handle_of, MaySee, Sees}
-use Rattle.plain.proofs.Alone.{Halts, can_stop, stops_so}
+use Rattle.plain_queues.proofs.Alone.{Halts, can_stop, stops_so}
 use Rattle.plain.proofs.Found.{Visited, found_all, joined, visit_more, found_some}
 use Rattle.plain.proofs.Walks.{plus, plus_sum, WalksOn}
 use Rattle.plain.proofs.Rooms.{with_room, want_both, after_both, Apart, halts_both}
 use Rattle.plain.proofs.Robust.Finds.{mine}
-use Rattle.plain.proofs.Words.{Room}
+use Rattle.plain_queues.proofs.Words.{Room}
 use Rattle.plain.proofs.Elements.Finds.{Ready, cells, cells_long, front, AsksAt, StopsAt, finds_on}
 
 -- A find with its closure: how values are read, the container and its words as the find began, the owner whose

@@ -13,14 +13,14 @@ use Rattle.steps.specs.declared.ask.Question.TheVariants as questions
 use Rattle.steps.specs.declared.container.find.Find.{Find}
 use Rattle.steps.specs.declared.container.find.FindStage.{FindStage}
 use Rattle.steps.specs.declared.container.find.FindStage.TheVariants as finds
-use Rattle.plain.specs.declared.drive.Stop.{Stop}
-use Rattle.plain.specs.declared.drive.Stop.TheVariants.{Asked, Ended}
-use Rattle.plain.specs.Queues.{words_from}
+use Rattle.plain_queues.specs.declared.drive.Stop.{Stop}
+use Rattle.plain_queues.specs.declared.drive.Stop.TheVariants.{Asked, Ended}
+use Rattle.plain_queues.specs.Queues.{words_from}
 use Rattle.plain.specs.Contents.{Contents, value_at, contents_in, Represents, Holds}
 use Rattle.plain.specs.Visited.{Stands}
 use Rattle.plain.proofs.Walks.{plus, Walks, WalksOn, longer}
 use Rattle.plain.proofs.Rooms.{with_room, want_both, after_both}
-use Rattle.plain.proofs.Words.{Room, read_in, value_read}
+use Rattle.plain_queues.proofs.Words.{Room, read_in, value_read}
 use Rattle.plain.proofs.Robust.Parts.{head_or, tail_of, split, here, past, next_cell, owner_some}
 use Rattle.plain.proofs.Robust.Finds.{mine, hits, misses}
 use Rattle.plain.proofs.Elements.Filled.{IsSome}

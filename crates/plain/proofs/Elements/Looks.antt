@@ -9,11 +9,11 @@ use Rattle.steps.specs.declared.indices.robust.parts.Counted as ends
 use Rattle.steps.specs.declared.indices.robust.looks.BorrowedIndices.{BorrowedIndices}
 use Rattle.steps.specs.declared.indices.robust.looks.IsLocked.{IsLocked}
 use Rattle.steps.specs.Objects.Owners.{borrowed, raised}
-use Rattle.plain.specs.Alone.{BehavesAs}
+use Rattle.plain_queues.specs.Alone.{BehavesAs}
 use Rattle.plain.specs.Robust as robust
 use Rattle.plain.specs.Robust.{owners_in}
 use Rattle.plain.specs.Contents.{is_locked, number, counted, contents_in, Represents}
-use Rattle.plain.proofs.Alone.{Runs}
+use Rattle.plain_queues.proofs.Alone.{Runs}
 use Rattle.plain.proofs.Walks.{plus, plus_sum, Walks, OnEnd, LowThen, runs}
 use Rattle.plain.proofs.Fronts.{stays, front_walks}
 use Rattle.plain.proofs.Robust.Looks.{borrowed_walks}

@@ -5,7 +5,7 @@ use Rattle.std.proofs.Common.{is_ok, is_err, false, true≢false, if◌then◌el
 use Rattle.plain.proofs.Names.{range_with_len, length-replicate}
 use Rattle.steps.specs.Indices.Robust.Parts.{empty}
 use Rattle.steps.specs.Objects.Owners.{opened_at}
-use Rattle.plain.specs.Queues.{words_from}
+use Rattle.plain_queues.specs.Queues.{words_from}
 use Rattle.plain.specs.Contents.{opened, value_at, contents_in}
 use Rattle.plain.proofs.Robust.Looks.{opens}
 

@@ -14,14 +14,14 @@ use Rattle.steps.specs.declared.container.recover.Recover.{Recover}
 use Rattle.steps.specs.declared.container.recover.RecoverStage.{RecoverStage}
 use Rattle.steps.specs.declared.container.recover.RecoverStage.TheVariants as recovers
 use Rattle.steps.specs.declared.container.recover.DeadOwner.{DeadOwner}
-use Rattle.plain.specs.declared.drive.Stop.{Stop}
-use Rattle.plain.specs.declared.drive.Stop.TheVariants as stops
-use Rattle.plain.specs.Alone.{CanStop, StopsAlike}
+use Rattle.plain_queues.specs.declared.drive.Stop.{Stop}
+use Rattle.plain_queues.specs.declared.drive.Stop.TheVariants as stops
+use Rattle.plain_queues.specs.Alone.{CanStop, StopsAlike}
 use Rattle.plain.specs.Callable.{Asked, questions, agreed, asks, TakesQuestions}
 use Rattle.plain.specs.Robust.{owners_in}
 use Rattle.plain.specs.Contents.{Contents, contents_in, Holds}
 use Rattle.plain.specs.Visited.{Stands, to_ask, MayAsk, Says, freed, all_freed, one_change, HasRecovered}
-use Rattle.plain.proofs.Alone.{Halts, can_stop, stops_so}
+use Rattle.plain_queues.proofs.Alone.{Halts, can_stop, stops_so}
 use Rattle.plain.proofs.Walks.{plus, plus_sum}
 use Rattle.plain.proofs.Rooms.{Apart, halts_both}
 use Rattle.plain.proofs.Robust.Releases.{counter_then, given_back_is}
@@ -29,7 +29,7 @@ use Rattle.plain.proofs.Found.{folds_more}
 use Rattle.plain.proofs.Robust.Recovering.{locked_leaves, an_answer, questions_more, agreed_no, agreed_yes}
 use Rattle.plain.proofs.Elements.Finds.{Ready, counter, cells, cells_long, front}
 use Rattle.plain.proofs.Elements.Frees.{counter_low}
-use Rattle.plain.proofs.Words.{Room}
+use Rattle.plain_queues.proofs.Words.{Room}
 use Rattle.plain.proofs.Elements.Recovers.{Recovery, of_owner, AsksAt, StopsAt, recovers_on, begin_walk, frees_on}
 
 -- A recovery with its closure: how values are read, the container and its words as the recovery began, the dead

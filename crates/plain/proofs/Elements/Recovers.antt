@@ -16,15 +16,15 @@ use Rattle.steps.specs.declared.container.recover.RecoverStage.{RecoverStage}
 use Rattle.steps.specs.declared.container.recover.RecoverStage.TheVariants as recovers
 use Rattle.steps.specs.declared.container.recover.DeadOwner.{DeadOwner}
 use Rattle.steps.specs.declared.indices.robust.parts.Raise.TheVariants as raises
-use Rattle.plain.specs.declared.drive.Stop.{Stop}
-use Rattle.plain.specs.declared.drive.Stop.TheVariants.{Asked, Ended}
+use Rattle.plain_queues.specs.declared.drive.Stop.{Stop}
+use Rattle.plain_queues.specs.declared.drive.Stop.TheVariants.{Asked, Ended}
 use Rattle.plain.specs.Robust.{owner_in, owners_in}
 use Rattle.plain.specs.Contents.{Contents, contents_in, Holds}
 use Rattle.plain.specs.Visited.{Stands, to_ask, freed, one_change}
 use Rattle.plain.proofs.Walks.{plus, Walks, WalksOn, longer, goes_longer, part_walks, any_low}
 use Rattle.plain.proofs.Fronts.{Behind, behind_more}
 use Rattle.plain.proofs.Rooms.{with_room, want_both, after_both}
-use Rattle.plain.proofs.Words.{Room, read_in, value_read}
+use Rattle.plain_queues.proofs.Words.{Room, read_in, value_read}
 use Rattle.plain.proofs.Robust.Parts.{tail_of, here, past, next_small, owner_free, owner_some}
 use Rattle.plain.proofs.Robust.Releases.{counter_then}
 use Rattle.plain.proofs.Elements.Finds.{counter, cells_long, front, cell_is, odd_at, stands_at, small_at, long_read}

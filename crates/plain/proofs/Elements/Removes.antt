@@ -13,11 +13,11 @@ use Rattle.steps.specs.declared.container.enums.ContainerRemoveError.TheVariants
 use Rattle.steps.specs.declared.container.remove.Remove.{Remove}
 use Rattle.steps.specs.declared.container.remove.RemoveStage.{RemoveStage}
 use Rattle.steps.specs.declared.container.remove.RemoveStage.TheVariants as removes
-use Rattle.plain.specs.Alone.{BehavesAs}
+use Rattle.plain_queues.specs.Alone.{BehavesAs}
 use Rattle.plain.specs.Robust as robust
 use Rattle.plain.specs.Robust.{owners_in}
 use Rattle.plain.specs.Contents.{Contents, changed, names, removed, after_remove, contents_in, Represents}
-use Rattle.plain.proofs.Alone.{Runs}
+use Rattle.plain_queues.proofs.Alone.{Runs}
 use Rattle.plain.proofs.Walks.{plus, plus_sum, WalksOn, OnEnd, part_walks, runs}
 use Rattle.plain.proofs.Fronts.{Behind, stays, front_walks}
 use Rattle.plain.proofs.Elements.Adds.{IsAnswer}

@@ -12,11 +12,11 @@ use Rattle.steps.specs.declared.container.replace.Replace.{Replace}
 use Rattle.steps.specs.declared.container.replace.ReplaceStage.{ReplaceStage}
 use Rattle.steps.specs.declared.container.replace.ReplaceStage.TheVariants as replaces
 use Rattle.steps.specs.declared.container.replace.Replacement.{Replacement}
-use Rattle.plain.specs.Alone.{BehavesAs}
+use Rattle.plain_queues.specs.Alone.{BehavesAs}
 use Rattle.plain.specs.Contents.{Contents, changed, names, replaced, after_replace, contents_in, Represents}
-use Rattle.plain.proofs.Alone.{Runs}
+use Rattle.plain_queues.proofs.Alone.{Runs}
 use Rattle.plain.proofs.Walks.{Walks, WalksOn, OnEnd, longer, runs}
-use Rattle.plain.proofs.Words.{stored}
+use Rattle.plain_queues.proofs.Words.{stored}
 use Rattle.plain.proofs.Elements.Handles.{has_word, has_past, names_own}
 use Rattle.plain.proofs.Elements.Values.{Codes, front_fits, hidden, shown, shows, after_change, change_fits, change_contents, all_small, cell_within}
 

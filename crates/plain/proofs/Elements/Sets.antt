@@ -22,7 +22,7 @@ use Rattle.steps.specs.declared.indices.robust.release.Release.{Release}
 use Rattle.steps.specs.declared.indices.robust.release.ReleaseStage.{ReleaseStage}
 use Rattle.steps.specs.declared.indices.robust.release.ReleaseStage.TheVariants as releases
 use Rattle.steps.specs.Objects.Owners.{acquired, after_acquire, released, after_release}
-use Rattle.plain.specs.Alone.{BehavesAs}
+use Rattle.plain_queues.specs.Alone.{BehavesAs}
 use Rattle.plain.specs.Robust.{owners_in, Represents}
 use Rattle.plain.proofs.Walks.{plus, plus_sum, Walks, OnEnd, LowThen}
 use Rattle.plain.proofs.Fronts.{AsksBelow}

@@ -13,13 +13,13 @@ use Rattle.steps.specs.declared.container.look.Look.{Look}
 use Rattle.steps.specs.declared.container.look.LookStage.{LookStage}
 use Rattle.steps.specs.declared.container.look.LookStage.TheVariants as looks
 use Rattle.steps.specs.declared.container.state.Element.{Element}
-use Rattle.plain.specs.Queues.{words_from}
+use Rattle.plain_queues.specs.Queues.{words_from}
 use Rattle.plain.specs.Contents.{value_at, Represents}
-use Rattle.plain.proofs.Alone.{Runs}
+use Rattle.plain_queues.proofs.Alone.{Runs}
 use Rattle.plain.proofs.Walks.{plus, plus_sum, Walks, WalksOn, OnEnd, goes_longer}
 use Rattle.plain.proofs.Rooms.{with_room, want_both, after_both, runs_both}
 use Rattle.plain.proofs.Elements.Values.{Codes, cell_within, all_small}
-use Rattle.plain.proofs.Words.{read_in, value_read}
+use Rattle.plain_queues.proofs.Words.{read_in, value_read}
 
 -- ---- elements of a list
 

@@ -8,13 +8,13 @@ use Rattle.plain.proofs.Names.{mul-le-mul_left, take-set-le, by_test, change_wor
 use Rattle.plain.proofs.Names.{word_at}
 use Rattle.std.proofs.lemmas.List.FromFn.{get_or-map-range_with_len}
 use Rattle.steps.specs.Indices.Robust.Parts.{one_more}
-use Rattle.plain.specs.Queues.{words_from}
+use Rattle.plain_queues.specs.Queues.{words_from}
 use Rattle.plain.specs.Robust as robust
 use Rattle.plain.specs.Robust.{owners_in}
 use Rattle.plain.specs.Contents.{count_without, count_with, changed, value_at, values_in, counts_in, contents_in, Represents}
 use Rattle.plain.proofs.Fronts.{Behind}
 use Rattle.plain.proofs.Places.Flags.{map_same, map_changed}
-use Rattle.plain.proofs.Words.{words_same, words_all, stored, stored_length, stored_other, stored_words}
+use Rattle.plain_queues.proofs.Words.{words_same, words_all, stored, stored_length, stored_other, stored_words}
 
 -- How values are stored: the words of a value, and the value of words, which gives each value back from its words; a value has 1 to 128 words.
 pub record Codes (V : Type 0) : Type 0 where

@@ -5,9 +5,9 @@ use Rattle.steps.specs.Bits.Looks.{is_set_want, is_set_after}
 use Rattle.steps.specs.Bits.Words.{stands}
 use Rattle.steps.specs.Objects.Places.{has}
 use Rattle.steps.specs.declared.bits.looks.IsSet.{IsSet}
-use Rattle.plain.specs.Alone.{BehavesAs}
+use Rattle.plain_queues.specs.Alone.{BehavesAs}
 use Rattle.plain.specs.Bits.{places_in, Represents}
-use Rattle.plain.proofs.Alone.{Runs}
+use Rattle.plain_queues.proofs.Alone.{Runs}
 use Rattle.plain.proofs.Places.Flags.{flag_at}
 
 module _ (capacity place : ℕ) (low : place < capacity) (words : List ℕ) (fits : Represents capacity words) where

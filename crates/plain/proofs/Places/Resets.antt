@@ -13,9 +13,9 @@ use Rattle.steps.specs.Bits.BitSet.{first_reset, at_reset, place_after, at_most,
 use Rattle.steps.specs.Objects.Places.{or_else, next_place, without, after_next}
 use Rattle.steps.specs.declared.bits.bit_set.ResetNext.{ResetNext}
 use Rattle.steps.specs.declared.bits.bit_set.ResetNextStage.TheVariants as resets
-use Rattle.plain.specs.Alone.{EndsFrom, EndsIn, BehavesAs}
+use Rattle.plain_queues.specs.Alone.{EndsFrom, EndsIn, BehavesAs}
 use Rattle.plain.specs.Bits.{flags_in, places_in, Represents}
-use Rattle.plain.proofs.Alone.{Runs}
+use Rattle.plain_queues.proofs.Alone.{Runs}
 use Rattle.plain.proofs.Places.Flags.{flag_at, flag_past, flags_change, same_flags}
 
 -- ---- the first flag of a list that stands

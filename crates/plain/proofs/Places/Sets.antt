@@ -8,9 +8,9 @@ use Rattle.steps.specs.Bits.Words.{element_of, has_flag, with_flag, stands}
 use Rattle.steps.specs.Bits.BitSet.{first_set, set_want, set_after}
 use Rattle.steps.specs.Objects.Places.{has, with_place}
 use Rattle.steps.specs.declared.bits.bit_set.Set.{Set}
-use Rattle.plain.specs.Alone.{EndsFrom, BehavesAs}
+use Rattle.plain_queues.specs.Alone.{EndsFrom, BehavesAs}
 use Rattle.plain.specs.Bits.{flags_in, places_in, Represents}
-use Rattle.plain.proofs.Alone.{Runs}
+use Rattle.plain_queues.proofs.Alone.{Runs}
 use Rattle.plain.proofs.Places.Flags.{map_changed, flag_at, flags_change}
 
 module _ (capacity place : ℕ) (low : place < capacity) (words : List ℕ) (fits : Represents capacity words) where

@@ -11,10 +11,10 @@ use Rattle.steps.specs.declared.indices.enums.UniqueIndexSetAcquireFailure.TheVa
 use Rattle.steps.specs.declared.indices.robust.parts.Raise.TheVariants as raises
 use Rattle.steps.specs.declared.indices.robust.acquire.Acquire.{Acquire}
 use Rattle.steps.specs.declared.indices.robust.acquire.AcquireStage.TheVariants as acquires
-use Rattle.plain.specs.Alone.{BehavesAs}
+use Rattle.plain_queues.specs.Alone.{BehavesAs}
 use Rattle.steps.specs.Objects.Owners.{Owners, next_generation, acquired, granted, after_acquire}
 use Rattle.plain.specs.Robust.{owner_in, owners_in, Represents}
-use Rattle.plain.proofs.Alone.{Runs}
+use Rattle.plain_queues.proofs.Alone.{Runs}
 use Rattle.plain.proofs.Walks.{Walks, WalksOn, OnEnd, any_low, part_walks, runs}
 use Rattle.plain.proofs.Robust.Parts.{here, past, next_cell, next_set, raise_walks, next_below, owner_free, owner_some}
 

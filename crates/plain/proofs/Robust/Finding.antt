@@ -10,11 +10,11 @@ use Rattle.steps.specs.declared.enums.CallbackProgression.{CallbackProgression}
 use Rattle.steps.specs.declared.enums.CallbackProgression.TheVariants.{Continue, Stop}
 use Rattle.steps.specs.declared.indices.robust.find.Find.{Find}
 use Rattle.steps.specs.Objects.Owners.{indices_of}
-use Rattle.plain.specs.declared.drive.Stop as stops
-use Rattle.plain.specs.Alone.{CanStop, StopsAlike}
+use Rattle.plain_queues.specs.declared.drive.Stop as stops
+use Rattle.plain_queues.specs.Alone.{CanStop, StopsAlike}
 use Rattle.plain.specs.Callable.{TakesIndices, HasFound, index_in, as_answer}
 use Rattle.plain.specs.Robust.{owners_in, Represents}
-use Rattle.plain.proofs.Alone.{Halts, can_stop, stops_so}
+use Rattle.plain_queues.proofs.Alone.{Halts, can_stop, stops_so}
 use Rattle.plain.proofs.Found.{Visited, found_all, joined, visit_more, found_some}
 use Rattle.plain.proofs.Walks.{WalksOn, halts}
 use Rattle.plain.proofs.Robust.Finds.{SetWords, mine, AsksAt, StopsAt, finds_on}

@@ -7,8 +7,8 @@ use Rattle.steps.specs.Indices.Robust.Find.{at_find, first_find, find_comes_to, 
 use Rattle.steps.specs.declared.ask.Question.TheVariants as questions
 use Rattle.steps.specs.declared.indices.robust.find.Find.{Find}
 use Rattle.steps.specs.declared.indices.robust.find.FindStage.TheVariants as finds
-use Rattle.plain.specs.declared.drive.Stop.{Stop}
-use Rattle.plain.specs.declared.drive.Stop.TheVariants.{Asked, Ended}
+use Rattle.plain_queues.specs.declared.drive.Stop.{Stop}
+use Rattle.plain_queues.specs.declared.drive.Stop.TheVariants.{Asked, Ended}
 use Rattle.steps.specs.Objects.Owners.{Owned, taken_from}
 use Rattle.plain.specs.Robust.{owner_in}
 use Rattle.plain.proofs.Walks.{WalksOn}

@@ -7,10 +7,10 @@ use Rattle.steps.specs.Indices.Robust.Looks.{first_borrowed, borrowed_want, borr
 use Rattle.steps.specs.declared.indices.robust.parts.Count.TheVariants as counts
 use Rattle.steps.specs.declared.indices.robust.looks.BorrowedIndices.{BorrowedIndices}
 use Rattle.steps.specs.declared.indices.robust.looks.IsLocked.{IsLocked}
-use Rattle.plain.specs.Alone.{BehavesAs}
+use Rattle.plain_queues.specs.Alone.{BehavesAs}
 use Rattle.steps.specs.Objects.Owners.{opened_at, is_locked, raised, borrowed}
 use Rattle.plain.specs.Robust.{owner_in, owners_in, Represents}
-use Rattle.plain.proofs.Alone.{Runs}
+use Rattle.plain_queues.proofs.Alone.{Runs}
 use Rattle.plain.proofs.Walks.{plus, plus_sum, Walks, OnEnd, part_walks, runs, any_low}
 use Rattle.plain.proofs.Robust.Parts.{number, count_walks, next_there, next_small}
 

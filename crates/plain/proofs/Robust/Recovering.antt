@@ -15,12 +15,12 @@ use Rattle.steps.specs.declared.ask.Question.TheVariants as questions
 use Rattle.steps.specs.declared.indices.robust.recover.Recover.{Recover}
 use Rattle.steps.specs.declared.indices.robust.recover.RecoverStage.TheVariants as recovers
 use Rattle.steps.specs.Objects.Owners.{Owners, Owned, taken_from, taken, next_generation, state_of, given_back, to_recover, recovered}
-use Rattle.plain.specs.declared.drive.Stop.TheVariants as stops
-use Rattle.plain.specs.Alone.{CanStop, StopsAlike}
+use Rattle.plain_queues.specs.declared.drive.Stop.TheVariants as stops
+use Rattle.plain_queues.specs.Alone.{CanStop, StopsAlike}
 use Rattle.plain.specs.Callable.{index_in, Asked, asks, tells, agreed, TakesQuestions, TakesFreed, HasRecovered}
 use Rattle.plain.specs.Callable as said
 use Rattle.plain.specs.Robust.{owner_in, owners_in, Represents}
-use Rattle.plain.proofs.Alone.{Halts, can_stop, stops_so}
+use Rattle.plain_queues.proofs.Alone.{Halts, can_stop, stops_so}
 use Rattle.plain.proofs.Walks.{plus, plus_sum, Walks, WalksOn, halts}
 use Rattle.plain.proofs.Robust.Parts.{head_or, tail_of, split, number, locking, next_below, next_there, next_small}
 use Rattle.plain.proofs.Robust.Releases.{counter_then, counter_small, given_back_is}

@@ -11,8 +11,8 @@ use Rattle.steps.specs.declared.indices.robust.recover.Recover.{Recover}
 use Rattle.steps.specs.declared.indices.robust.recover.RecoverStage.{RecoverStage}
 use Rattle.steps.specs.declared.indices.robust.recover.RecoverStage.TheVariants as recovers
 use Rattle.steps.specs.Objects.Owners.{Owned, taken_from, next_generation}
-use Rattle.plain.specs.declared.drive.Stop.{Stop}
-use Rattle.plain.specs.declared.drive.Stop.TheVariants.{Asked, Ended}
+use Rattle.plain_queues.specs.declared.drive.Stop.{Stop}
+use Rattle.plain_queues.specs.declared.drive.Stop.TheVariants.{Asked, Ended}
 use Rattle.plain.specs.Robust.{owner_in}
 use Rattle.plain.proofs.Walks.{plus, Walks, WalksOn, goes_longer, part_walks, any_low}
 use Rattle.plain.proofs.Robust.Parts.{here, past, next_cell, next_set, next_small, owner_free, owner_some, raise_walks, lock_walks, locking, state_number}

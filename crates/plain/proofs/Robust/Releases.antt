@@ -11,10 +11,10 @@ use Rattle.steps.specs.declared.indices.enums.RobustUniqueIndexSetReleaseError.T
 use Rattle.steps.specs.declared.indices.robust.parts.Raise.TheVariants as raises
 use Rattle.steps.specs.declared.indices.robust.release.Release.{Release}
 use Rattle.steps.specs.declared.indices.robust.release.ReleaseStage.TheVariants as releases
-use Rattle.plain.specs.Alone.{BehavesAs}
+use Rattle.plain_queues.specs.Alone.{BehavesAs}
 use Rattle.steps.specs.Objects.Owners.{Owners, next_generation, has, owns, without, given_back, release_state, released, after_release}
 use Rattle.plain.specs.Robust.{owner_in, owners_in, Represents}
-use Rattle.plain.proofs.Alone.{Runs}
+use Rattle.plain_queues.proofs.Alone.{Runs}
 use Rattle.plain.proofs.Walks.{plus, plus_sum, Walks, WalksOn, OnEnd, part_walks, runs, any_low}
 use Rattle.plain.proofs.Robust.Parts.{number, next_cell, next_set, raise_walks, next_small, lock_walks, locking, locking_small, owner_free}
 

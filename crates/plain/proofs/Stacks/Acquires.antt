@@ -9,10 +9,10 @@ use Rattle.steps.specs.Indices.Head.{next_word, flag_word, flag, proposed, borro
 use Rattle.steps.specs.Indices.Unique.{Acquired, first_acquire, head_taken, acquire_want, acquire_after, borrowed_number}
 use Rattle.steps.specs.declared.indices.enums.UniqueIndexSetAcquireFailure.TheVariants as failures
 use Rattle.steps.specs.declared.indices.unique.Acquire.{Acquire}
-use Rattle.plain.specs.Alone.{EndsIn, BehavesAs}
+use Rattle.plain_queues.specs.Alone.{EndsIn, BehavesAs}
 use Rattle.steps.specs.Objects.Stacks.{top, acquired, after_acquire}
 use Rattle.plain.specs.Unique.{chain, free_in, stack_in, claimed, Represents}
-use Rattle.plain.proofs.Alone.{Runs}
+use Rattle.plain_queues.proofs.Alone.{Runs}
 use Rattle.plain.proofs.Stacks.Chains.{is_in, in_first, in_rest, in_other, one_less, chain_same, claimed_elsewhere, claims, claims_leave}
 
 module _ (capacity : ℕ) where

@@ -5,9 +5,9 @@ use Rattle.steps.specs.Indices.Unique.{borrowed_after, locked_after}
 use Rattle.steps.specs.Objects.Stacks.{Stack, out}
 use Rattle.steps.specs.declared.indices.looks.BorrowedIndices.{BorrowedIndices}
 use Rattle.steps.specs.declared.indices.looks.IsLocked.{IsLocked}
-use Rattle.plain.specs.Alone.{BehavesAs}
+use Rattle.plain_queues.specs.Alone.{BehavesAs}
 use Rattle.plain.specs.Unique.{stack_in, Represents}
-use Rattle.plain.proofs.Alone.{Runs}
+use Rattle.plain_queues.proofs.Alone.{Runs}
 use Rattle.plain.proofs.Stacks.Chains.{chain_length}
 
 module _ (capacity : ℕ) (words : List ℕ) where

@@ -10,10 +10,10 @@ use Rattle.steps.specs.Indices.Head.{next_word, flag_word, flag, proposed, borro
 use Rattle.steps.specs.Indices.Unique.{first_release, head_given_back, head_locked, head_released}
 use Rattle.steps.specs.Indices.Unique.{state_after, release_want, release_after, borrowed_number}
 use Rattle.steps.specs.declared.indices.unique.Release.{Release}
-use Rattle.plain.specs.Alone.{EndsIn, BehavesAs}
+use Rattle.plain_queues.specs.Alone.{EndsIn, BehavesAs}
 use Rattle.steps.specs.Objects.Stacks.{IsOut, out, released, released_or_locked, release_state}
 use Rattle.plain.specs.Unique.{chain, free_in, stack_in, claimed, Represents}
-use Rattle.plain.proofs.Alone.{Runs}
+use Rattle.plain_queues.proofs.Alone.{Runs}
 use Rattle.plain.proofs.Stacks.Chains.{is_in, in_first, in_other, one_more, chain_same, chain_length, claimed_elsewhere, frees, frees_leave}
 
 module _ (lock : Bool) (capacity index : ℕ) (words : List ℕ) where

@@ -7,7 +7,7 @@ ghost use Rattle.plain.specs.Visited.{to_ask, MayAsk, Says, HasRecovered};
 
 use super::Container;
 use crate::answers::as_yes;
-use crate::drive::{Stop, drive_to_stop};
+use plain_queues::drive::{Stop, drive_to_stop};
 use steps::ask::After;
 use steps::container::recover::{DeadOwner, Recover};
 use steps::copied::Copied;

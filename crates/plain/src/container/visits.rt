@@ -7,7 +7,7 @@ ghost use Rattle.plain.specs.Visited.{MaySee, Sees};
 
 use super::Container;
 use crate::answers::{as_answer, index_in};
-use crate::drive::{Stop, drive_to_stop};
+use plain_queues::drive::{Stop, drive_to_stop};
 use steps::ask::After;
 use steps::container::find::Find;
 use steps::container::handle::ContainerHandle;

@@ -5,7 +5,7 @@ use std::sync::Wait;
 use std::test::Fail;
 use std::thread;
 use zero_copy_loans::channel::Channel;
-use zero_copy_loans::receiver::Receiver;
+use zero_copy_loans::receiver::{Receiver, Sample};
 use zero_copy_loans::sender::Sender;
 
 /// Sends ten values, each of which is full of its number. Returns how many it sent.
@@ -21,14 +21,19 @@ fn send(rt: &impl Wait, sender: &mut Sender<'_, Vec<u8>>) -> u8 {
     10
 }
 
+/// The first byte of a value, read where it lies.
+fn first_of(receiver: &Receiver<'_, Vec<u8>>, sample: &Sample) -> Option<u8> {
+    receiver.read(sample).ok()?.get().first().copied()
+}
+
 /// Reads values until the last one comes. A receiver that is slow misses the oldest.
 fn receive(rt: &impl Wait, receiver: &mut Receiver<'_, Vec<u8>>) -> Option<u8> {
     for _ in rt.forever() {
         if let Some(sample) = receiver.receive(rt) {
-            let first = *receiver.read(&sample).ok()?.get().first()?;
+            let first = first_of(receiver, &sample);
             receiver.give_back(sample);
-            if first == 9 {
-                return Some(first);
+            if first? == 9 {
+                return first;
             }
         }
     }

@@ -1,5 +1,5 @@
 //! How a seat performs one operation on a word, one step of a call, and a whole call.
-ghost use Rattle.std.specs.Prelude.{◌≡◌, ℕ, ◌+◌};
+ghost use Rattle.std.specs.Prelude.{◌≡◌, ℕ, ◌+◌, IfOk, IfErr};
 ghost use Rattle.threaded.specs.Driver.{Owes, OwesAsk, Next, Told, KeepsRule, moves};
 ghost use Rattle.threaded.specs.Seats.{seen, table_of, key_of, IsSame, IsAt};
 
@@ -18,6 +18,17 @@ macro_rules! next_or_return {
         match $after {
             After::GoOn(next) => next,
             After::Done(end) => return end,
+        }
+    };
+}
+
+/// The call as it stands after a step. If the step has ended the call, the function around this
+/// macro returns that it has.
+macro_rules! next_or_stop {
+    ($after:expr) => {
+        match $after {
+            After::GoOn(next) => next,
+            After::Done(end) => return After::Done(end),
         }
     };
 }
@@ -201,6 +212,67 @@ impl<V, K, Q: Rule<V, K>> Seated<V, K, Q> {
         }
     }
 
+    /// Takes the first steps of a call, at most eight, in one line of code: a compiler sees at each of them the
+    /// call's stage.
+    #[inline(always)]
+    fn drive_first<C: Routine, D: Drives<V, C>>(
+        &mut self,
+        call: C,
+        given: &C::Given,
+        room: &mut C::Room,
+    ) -> After<C, C::End>
+        requires table { IsAt Q.size Q.capacity Q.capacity_seen self.old }
+        requires rule { KeepsRule Q.asked Q.capacity_seen (D.at given.now) (D.ends given.now) Q.size
+            Q.capacity Q.holds (λ c. C.want_of c given.now) (λ c k. C.after c given.now k) C.kept }
+        requires at { D.at given.now (seen self.old) (seen self.old) call room.old }
+        ensures same { IsSame self.old self.new }
+        ensures capacity { Q.capacity_seen (seen self.new) ≡ Q.capacity_seen (seen self.old) }
+        ensures next { Next Q.capacity_seen (D.at given.now) (D.ends given.now) (seen self.old)
+            result room.new (seen self.new) }
+    {
+        let call = next_or_stop!(self.once::<Brand, C, D>(call, given, room));
+        let call = next_or_stop!(self.once::<Brand, C, D>(call, given, room));
+        let call = next_or_stop!(self.once::<Brand, C, D>(call, given, room));
+        let call = next_or_stop!(self.once::<Brand, C, D>(call, given, room));
+        let call = next_or_stop!(self.once::<Brand, C, D>(call, given, room));
+        let call = next_or_stop!(self.once::<Brand, C, D>(call, given, room));
+        let call = next_or_stop!(self.once::<Brand, C, D>(call, given, room));
+        self.once::<Brand, C, D>(call, given, room)
+    }
+
+    /// Takes the further steps of a call that did not end by its first ones. It is a function of its own, so
+    /// that what its loop keeps in registers costs the calls nothing that end before.
+    #[cold]
+    #[inline(never)]
+    fn drive_rest<C: Routine, D: Drives<V, C>>(
+        &mut self,
+        rt: &impl Wait,
+        first: C,
+        given: &C::Given,
+        room: &mut C::Room,
+    ) -> C::End
+        requires table { IsAt Q.size Q.capacity Q.capacity_seen self.old }
+        requires rule { KeepsRule Q.asked Q.capacity_seen (D.at given.now) (D.ends given.now) Q.size
+            Q.capacity Q.holds (λ c. C.want_of c given.now) (λ c k. C.after c given.now k) C.kept }
+        requires at { (base : V) × D.at given.now base (seen self.old) first room.old }
+        ensures same { IsSame self.old self.new }
+        ensures capacity { Q.capacity_seen (seen self.new) ≡ Q.capacity_seen (seen self.old) }
+        ensures end { (base : V) → D.at given.now base (seen self.old) first room.old
+            → D.ends given.now base result room.new (seen self.new) }
+    {
+        let mut call = first;
+        'steps: for _ in rt.forever() {
+            call = next_or_return!(self.once::<Brand, C, D>(call, given, room));
+            'alike: for _ in rt.forever() {
+                if !D::repeats(call) {
+                    break;
+                }
+                call = next_or_return!(self.once::<Brand, C, D>(call, given, room));
+            }
+        }
+        unreachable!()
+    }
+
     /// Takes all steps of a call that may go back for as long as others step.
     #[inline(always)]
     pub fn drive_on<C: Routine, D: Drives<V, C>>(
@@ -218,25 +290,41 @@ impl<V, K, Q: Rule<V, K>> Seated<V, K, Q> {
         ensures capacity { Q.capacity_seen (seen self.new) ≡ Q.capacity_seen (seen self.old) }
         ensures end { D.ends given.now (seen self.old) result room.new (seen self.new) }
     {
-        // The first eight steps stand before the loop, so that a compiler sees at each of
-        // them the call's stage.
-        let call = next_or_return!(self.once::<Brand, C, D>(call, given, room));
-        let call = next_or_return!(self.once::<Brand, C, D>(call, given, room));
-        let call = next_or_return!(self.once::<Brand, C, D>(call, given, room));
-        let call = next_or_return!(self.once::<Brand, C, D>(call, given, room));
-        let call = next_or_return!(self.once::<Brand, C, D>(call, given, room));
-        let call = next_or_return!(self.once::<Brand, C, D>(call, given, room));
-        let call = next_or_return!(self.once::<Brand, C, D>(call, given, room));
-        let mut call = next_or_return!(self.once::<Brand, C, D>(call, given, room));
-        'steps: for _ in rt.forever() {
-            call = next_or_return!(self.once::<Brand, C, D>(call, given, room));
-            'alike: for _ in rt.forever() {
-                if !D::repeats(call) {
-                    break;
-                }
-                call = next_or_return!(self.once::<Brand, C, D>(call, given, room));
+        let first = self.drive_first::<C, D>(call, given, room);
+        match first {
+            After::GoOn(next) => self.drive_rest::<C, D>(rt, next, given, room),
+            After::Done(end) => end,
+        }
+    }
+
+    /// Takes at most `tries` steps of a call that may go back for as long as others step. Err has the call as it
+    /// stands, with which the seat may go on later.
+    #[inline(always)]
+    pub fn drive_some<C: Routine, D: Drives<V, C>>(
+        &mut self,
+        tries: u64,
+        first: C,
+        given: &C::Given,
+        room: &mut C::Room,
+    ) -> Result<C::End, C>
+        requires table { IsAt Q.size Q.capacity Q.capacity_seen self.old }
+        requires rule { KeepsRule Q.asked Q.capacity_seen (D.at given.now) (D.ends given.now) Q.size
+            Q.capacity Q.holds (λ c. C.want_of c given.now) (λ c k. C.after c given.now k) C.kept }
+        requires at { (base : V) × D.at given.now base (seen self.old) first room.old }
+        ensures same { IsSame self.old self.new }
+        ensures capacity { Q.capacity_seen (seen self.new) ≡ Q.capacity_seen (seen self.old) }
+        ensures end { IfOk result (λ e. (base : V) → D.at given.now base (seen self.old) first room.old
+            → D.ends given.now base e room.new (seen self.new)) }
+        ensures rest { IfErr result (λ c. (base : V) → D.at given.now base (seen self.old) first room.old
+            → D.at given.now base (seen self.new) c room.new) }
+    {
+        let mut call = first;
+        for _ in 0..tries {
+            match self.once::<Brand, C, D>(call, given, room) {
+                After::GoOn(next) => call = next,
+                After::Done(end) => return Ok(end),
             }
         }
-        unreachable!()
+        Err(call)
     }
 }

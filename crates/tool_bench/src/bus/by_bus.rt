@@ -69,9 +69,9 @@ impl<'a> Writer for Publishes<'a> {
 #[inline(always)]
 fn read_next<R: Wait>(rt: &R, subscriber: &mut Subscriber<'_, Vec<u64>>) -> Option<u64> {
     let sample = subscriber.receive(rt)?;
-    let sum = sum_of(subscriber, &sample)?;
+    let sum = sum_of(subscriber, &sample);
     subscriber.give_back(sample);
-    Some(sum)
+    sum
 }
 
 /// The sum of the words of a record, read where it lies.

@@ -48,9 +48,9 @@ impl<'a> Reader for Gets<'a> {
     #[inline(always)]
     fn read<R: Wait>(&mut self, rt: &R) -> Option<u64> {
         let sample = self.receiver.receive(rt)?;
-        let sum = sum_of(&self.receiver, &sample)?;
+        let sum = sum_of(&self.receiver, &sample);
         self.receiver.give_back(sample);
-        Some(sum)
+        sum
     }
 }
 

@@ -1,16 +1,9 @@
--- `owners_end_by_turns` (src/going.rt): its return meets the clauses `robust_by_default`, `container_by_default`, `robust` and
--- `container`.
+-- `owners_end_by_turns` (src/going.rt): its return meets the clauses `robust` and `container`.
 use Rattle.headline.proofs.Defaults as laws
 use Rattle.headline.proofs.going.owners_end_by_turns.Goals as goal
 
-pub returns-clause-robust_by_default : goal.returns-clause-robust_by_default
-returns-clause-robust_by_default g c = laws.robust_by_turns _
-
-pub returns-clause-container_by_default : goal.returns-clause-container_by_default
-returns-clause-container_by_default g c = laws.container_by_turns _
-
 pub returns-clause-robust : goal.returns-clause-robust
-returns-clause-robust g c = laws.robust_room_by_turns _
+returns-clause-robust g c = laws.robust_by_turns _
 
 pub returns-clause-container : goal.returns-clause-container
-returns-clause-container g c = laws.container_room_by_turns _
+returns-clause-container g c = laws.container_by_turns _

@@ -17,9 +17,9 @@ use Rattle.steps.specs.declared.container.recover.RecoverStage.{RecoverStage}
 use Rattle.steps.specs.declared.container.recover.RecoverStage.TheVariants as recovers
 use Rattle.steps.specs.Container.Recover.{recover_comes_to, recover_raised}
 use Rattle.steps.specs.Container.Recover.{recover_locked, recover_takes}
-use Rattle.history.specs.ContainerRecovery.{RecoverIn, Came, HasFreed}
-use Rattle.history.specs.ContainerRecovery.{visits_after}
-use Rattle.history.specs.ContainerRecovery as came
+use Rattle.history_owners.specs.ContainerRecovery.{RecoverIn, Came, HasFreed}
+use Rattle.history_owners.specs.ContainerRecovery.{visits_after}
+use Rattle.history_owners.specs.ContainerRecovery as came
 use Rattle.lock_free_owners.specs.Container.Questions.{Answered, AnswersAscend, asks, TakesValues}
 use Rattle.lock_free_owners.specs.Container.RecoverContract.{question_at, questions_of, AreVisits}
 use Rattle.lock_free_owners.specs.Container.RecoverTurns.{RecoverAsks}

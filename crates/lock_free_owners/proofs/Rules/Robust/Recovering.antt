@@ -17,8 +17,8 @@ use Rattle.steps.specs.declared.indices.robust.recover.Recover.{Recover}
 use Rattle.steps.specs.declared.indices.robust.recover.RecoverStage.{RecoverStage}
 use Rattle.steps.specs.declared.indices.robust.recover.RecoverStage.TheVariants as recovers
 use Rattle.steps.specs.Indices.Robust.Recover.{recover_comes_to, recover_raised, recover_locked, recover_takes}
-use Rattle.history.specs.Robust.{Came, HasFreed}
-use Rattle.history.specs.Robust.{VisitsAt, visits_after}
+use Rattle.history_owners.specs.Robust.{Came, HasFreed}
+use Rattle.history_owners.specs.Robust.{VisitsAt, visits_after}
 use Rattle.lock_free_owners.specs.Robust.Callable.{Owned, Asked, IsOwned, WasAgreed, asks}
 use Rattle.lock_free_owners.specs.Robust.Callable.{tells, TakesQuestions, TakesFreed, was_freed, owned_at, question_at}
 use Rattle.lock_free_owners.specs.Robust.Callable.{questions_of, freed_of}

@@ -1,6 +1,6 @@
 //! How a pass of a container is split off another one, or joined to it.
 ghost use Rattle.std.specs.Prelude.{◌≡◌, None, IfSome, IfNone};
-ghost use Rattle.history.specs.ContainerLooks.{KeepsState};
+ghost use Rattle.history_owners.specs.ContainerLooks.{KeepsState};
 ghost use Rattle.model.specs.declared.turn.Kind.TheVariants as kinds;
 ghost use Rattle.history.specs.History.{Knows};
 ghost use Rattle.history.specs.Passes.{HasSplit};

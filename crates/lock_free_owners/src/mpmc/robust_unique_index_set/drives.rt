@@ -25,7 +25,7 @@ pub struct Gives;
 
 impl Drives<View<u64>, Release> for Gives {
     ghost use Rattle.history.specs.Stages.{At, Ends};
-    ghost use Rattle.history.specs.Robust.{gives_owned};
+    ghost use Rattle.history_owners.specs.Robust.{gives_owned};
 
     ghost at = { λ given. At one_word kinds.Robust (gives_owned given) };
 
@@ -48,7 +48,7 @@ pub struct LooksLocked;
 
 impl Drives<View<u64>, IsLocked> for LooksLocked {
     ghost use Rattle.history.specs.Stages.{At, Ends};
-    ghost use Rattle.history.specs.Robust.{looks_owned};
+    ghost use Rattle.history_owners.specs.Robust.{looks_owned};
 
     ghost at = { λ given. At one_word kinds.Robust looks_owned };
 

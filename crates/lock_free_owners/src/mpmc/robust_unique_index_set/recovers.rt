@@ -5,7 +5,7 @@
 ghost use Rattle.std.specs.Prelude.{◌≡◌, ℕ, false, List, IsTrue, IsFalse};
 ghost use Rattle.steps.specs.Indices.Robust.Recover.{recover_after};
 ghost use Rattle.model.specs.Families.Indices.Reading.{is_locked};
-ghost use Rattle.history.specs.Robust.{Visit};
+ghost use Rattle.history_owners.specs.Robust.{Visit};
 ghost use Rattle.threaded.specs.Seats.{seen};
 ghost use Rattle.lock_free_owners.specs.Robust.Callable.{TakesQuestions, TakesFreed, HasVisited};
 ghost use Rattle.lock_free_owners.specs.Robust.Stages.{LooksAgain, RecoverAsks, RecoverMoves, has_freed};

@@ -10,7 +10,7 @@ ghost use Rattle.lock_free_queues.specs.Queues.Closes.{Closes, IsWhatWaits};
 
 use super::{FixedSizeIndexQueue, IndexQueue, Pass};
 use crate::spsc::ring;
-use plain::IndexQueue as List;
+use plain_queues::IndexQueue as List;
 use steps::enums::UniqueIndexCreationError;
 use steps::queues::ring::FIRST_CELL;
 

@@ -14,7 +14,7 @@ pub struct Pushes;
 
 impl Drives<View<u64>, Push<u64>> for Pushes {
     ghost use Rattle.history.specs.Stages.{At, Over};
-    ghost use Rattle.history.specs.Queues.{pushes_index};
+    ghost use Rattle.history_queues.specs.Queues.{pushes_index};
 
     ghost at = { λ v. At one_word kinds.IndexQueue (pushes_index v) };
 
@@ -26,7 +26,7 @@ pub struct Pops;
 
 impl Drives<View<u64>, Pop<u64, OneWord>> for Pops {
     ghost use Rattle.history.specs.Stages.{At, Ends};
-    ghost use Rattle.history.specs.Queues.{pops_index};
+    ghost use Rattle.history_queues.specs.Queues.{pops_index};
 
     ghost at = { λ given. At one_word kinds.IndexQueue pops_index };
 
@@ -38,7 +38,7 @@ pub struct Peeks;
 
 impl Drives<View<u64>, Peek<u64, OneWord>> for Peeks {
     ghost use Rattle.history.specs.Stages.{At, Ends};
-    ghost use Rattle.history.specs.Queues.{peeks_index};
+    ghost use Rattle.history_queues.specs.Queues.{peeks_index};
 
     ghost at = { λ given. At one_word kinds.IndexQueue peeks_index };
 

@@ -10,7 +10,7 @@ ghost use Rattle.lock_free_queues.specs.Queues.Closes.{Closes, IsWhatWaits};
 
 use super::{Pass, Queue, Ring};
 use crate::spsc::ring;
-use plain::Queue as List;
+use plain_queues::Queue as List;
 use steps::enums::UniqueIndexCreationError;
 use steps::queues::ring::FIRST_CELL;
 use steps::words::Words;

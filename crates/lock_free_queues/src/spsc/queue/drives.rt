@@ -18,7 +18,7 @@ pub struct Pushes<T> {
 
 impl<T: Words + Drop> Drives<View<T>, Push<T>> for Pushes<T> {
     ghost use Rattle.history.specs.Stages.{At, Over};
-    ghost use Rattle.history.specs.ValueQueue.{pushes_value};
+    ghost use Rattle.history_queues.specs.ValueQueue.{pushes_value};
 
     ghost at = { λ value. At (coding_by T.Words) kinds.Queue
         (pushes_value (coding_by T.Words) value) };
@@ -34,7 +34,7 @@ pub struct Pops<T, R> {
 
 impl<T: Words, R: Room<T> + Drop> Drives<View<T>, Pop<T, R>> for Pops<T, R> {
     ghost use Rattle.history.specs.Stages.{At, Ends};
-    ghost use Rattle.history.specs.ValueQueue.{pops_value};
+    ghost use Rattle.history_queues.specs.ValueQueue.{pops_value};
 
     ghost at = { λ given. At (coding_by T.Words) kinds.Queue
         (pops_value (coding_by T.Words) R.words_in) };
@@ -50,7 +50,7 @@ pub struct Peeks<T, R> {
 
 impl<T: Words, R: Room<T> + Drop> Drives<View<T>, Peek<T, R>> for Peeks<T, R> {
     ghost use Rattle.history.specs.Stages.{At, Ends};
-    ghost use Rattle.history.specs.ValueQueue.{peeks_value};
+    ghost use Rattle.history_queues.specs.ValueQueue.{peeks_value};
 
     ghost at = { λ given. At (coding_by T.Words) kinds.Queue
         (peeks_value (coding_by T.Words) R.words_in) };

@@ -44,8 +44,8 @@ impl<T: Words> Ring<T> {
     }
 
     /// Makes an empty queue with both positions at `position`, and its first pass, unless the
-    /// capacity is refused.
-    fn open(
+    /// capacity is refused. Refused as `new`. This project's own.
+    pub fn open(
         alloc: Global,
         capacity: usize,
         position: u64,

@@ -63,7 +63,7 @@ pub struct Takes<E, R> {
 
 impl<E: Kind, R: Side, T: Words> Drives<View<T>, AcquireRole> for Takes<E, R> {
     ghost use Rattle.history.specs.Stages.{At, Ends};
-    ghost use Rattle.history.specs.Queues.{takes_role};
+    ghost use Rattle.history_queues.specs.Queues.{takes_role};
 
     ghost at = { λ given. At (coding_by T.Words) (machine_kind E.KIND) (takes_role R.ROLE) };
 
@@ -77,7 +77,7 @@ pub struct Leaves<E, R> {
 
 impl<E: Kind, R: Side, T: Words> Drives<View<T>, ReleaseRole> for Leaves<E, R> {
     ghost use Rattle.history.specs.Stages.{At, Ends};
-    ghost use Rattle.history.specs.Queues.{gives_role};
+    ghost use Rattle.history_queues.specs.Queues.{gives_role};
 
     ghost at = { λ given. At (coding_by T.Words) (machine_kind E.KIND) (gives_role R.ROLE) };
 
@@ -91,7 +91,7 @@ pub struct Looks<E, R> {
 
 impl<E: Kind, R: Side, T: Words> Drives<View<T>, LookRole> for Looks<E, R> {
     ghost use Rattle.history.specs.Stages.{At, Ends};
-    ghost use Rattle.history.specs.Queues.{looks_role};
+    ghost use Rattle.history_queues.specs.Queues.{looks_role};
 
     ghost at = { λ given. At (coding_by T.Words) (machine_kind E.KIND) (looks_role R.ROLE) };
 
@@ -131,7 +131,7 @@ pub struct Measures<E, W> {
 
 impl<E: Kind, W: Measure, T: Words> Drives<View<T>, Len> for Measures<E, W> {
     ghost use Rattle.history.specs.Stages.{At, Ends};
-    ghost use Rattle.history.specs.Queues.{counts_waiting};
+    ghost use Rattle.history_queues.specs.Queues.{counts_waiting};
 
     ghost at = { λ given base. At (coding_by T.Words) (machine_kind E.KIND)
         (counts_waiting W.WHICH base.capacity) base };

@@ -5,6 +5,7 @@ ghost use Rattle.model.specs.Families.Queues.Reading.{published};
 ghost use Rattle.history.specs.Steps.{TakesAtMost};
 ghost use Rattle.lock_free_queues.specs.Queues.Kinds.{NoneTaken};
 ghost use Rattle.lock_free_queues.specs.Queues.Rings.{view, producer_view, consumer_view, IsPassOf};
+ghost use Rattle.lock_free_queues.specs.Queues.Rings.{queue_of, producer_queue, consumer_queue};
 ghost use Rattle.lock_free_queues.specs.Queues.Rings.{SamePass, ToProducer, ToConsumer, FromProducer, FromConsumer};
 ghost use Rattle.lock_free_queues.specs.Queues.Contracts.{HasAcquired, HasReleased, HasSeenRole};
 ghost use Rattle.lock_free_queues.specs.Queues.Ends.{AreEnds};
@@ -28,7 +29,7 @@ impl<E: Kind, T: Words> Ring<E, T> {
     {
         let mut token = pass.into_token();
         if token.take::<Pushing>() {
-            Ok(Producer { ring: self, token })
+            Ok(Producer { of: &(), token })
         } else {
             Err(Pass { token })
         }
@@ -47,7 +48,7 @@ impl<E: Kind, T: Words> Ring<E, T> {
     {
         let mut token = pass.into_token();
         if token.take::<Popping>() {
-            Ok(Consumer { ring: self, token })
+            Ok(Consumer { of: &(), token })
         } else {
             Err(Pass { token })
         }
@@ -95,6 +96,51 @@ impl<E: Kind, T: Words> Ring<E, T> {
     }
 }
 
+impl<E: Kind, T: Words> Pass<E, T> {
+    /// Takes the producer's role as the queue's `acquire_producer` does. The guard does not borrow the queue. At most one
+    /// atomic step. This project's own.
+    pub fn acquire_producer(self) -> Result<Producer<'static, E, T>, Pass<E, T>>
+        ensures acquired { IfOk result (λ p. ToProducer self p
+            × HasAcquired roles.Producer true (view self) (producer_view p)
+            × TakesAtMost 1 (view self) (producer_view p)) }
+        ensures refused { IfErr result (λ p. SamePass self p
+            × HasAcquired roles.Producer false (view self) (view p)
+            × TakesAtMost 1 (view self) (view p)) }
+    {
+        let mut token = self.into_token();
+        if token.take::<Pushing>() {
+            Ok(Producer { of: &(), token })
+        } else {
+            Err(Pass { token })
+        }
+    }
+
+    /// Takes the consumer's role as the queue's `acquire_consumer` does. The guard does not borrow the queue. At most one
+    /// atomic step. This project's own.
+    pub fn acquire_consumer(self) -> Result<Consumer<'static, E, T>, Pass<E, T>>
+        ensures acquired { IfOk result (λ c. ToConsumer self c
+            × HasAcquired roles.Consumer true (view self) (consumer_view c)
+            × TakesAtMost 1 (view self) (consumer_view c)) }
+        ensures refused { IfErr result (λ p. SamePass self p
+            × HasAcquired roles.Consumer false (view self) (view p)
+            × TakesAtMost 1 (view self) (view p)) }
+    {
+        let mut token = self.into_token();
+        if token.take::<Popping>() {
+            Ok(Consumer { of: &(), token })
+        } else {
+            Err(Pass { token })
+        }
+    }
+
+    /// Returns the capacity of the pass's queue. No atomic step. This project's own.
+    pub fn capacity(&self) -> usize
+        ensures { result ≡ (queue_of self.now).capacity }
+    {
+        self.token.capacity as usize
+    }
+}
+
 impl<'a, E: Kind, T: Words> Producer<'a, E, T> {
     /// Gives the role back and hands the pass out. At most one atomic step. This project's own, beside the drop.
     pub fn release(self) -> Pass<E, T>
@@ -103,9 +149,19 @@ impl<'a, E: Kind, T: Words> Producer<'a, E, T> {
         ensures list { published (view result).seen ≡ published (producer_view self.entry).seen }
         ensures steps { TakesAtMost 1 (producer_view self.entry) (view result) }
     {
-        let Producer { ring: _, mut token } = self;
+        let Producer { of: _, mut token } = self;
         token.leave::<Pushing>();
         Pass { token }
+    }
+
+    /// Lets go of the borrow of the queue. The guard owns all that it needs, so it may move into a thread or a structure
+    /// that outlives the queue's owner. No atomic step. This project's own.
+    pub fn into_owned(self) -> Producer<'static, E, T>
+        ensures queue { producer_queue result ≡ producer_queue self.entry }
+        ensures view { producer_view result ≡ producer_view self.entry }
+    {
+        let Producer { of: _, token } = self;
+        Producer { of: &(), token }
     }
 }
 
@@ -117,8 +173,18 @@ impl<'a, E: Kind, T: Words> Consumer<'a, E, T> {
         ensures list { NoneTaken E.KIND (consumer_view self.entry) (view result) }
         ensures steps { TakesAtMost 1 (consumer_view self.entry) (view result) }
     {
-        let Consumer { ring: _, mut token } = self;
+        let Consumer { of: _, mut token } = self;
         token.leave::<Popping>();
         Pass { token }
+    }
+
+    /// Lets go of the borrow of the queue. The guard owns all that it needs, so it may move into a thread or a structure
+    /// that outlives the queue's owner. No atomic step. This project's own.
+    pub fn into_owned(self) -> Consumer<'static, E, T>
+        ensures queue { consumer_queue result ≡ consumer_queue self.entry }
+        ensures view { consumer_view result ≡ consumer_view self.entry }
+    {
+        let Consumer { of: _, token } = self;
+        Consumer { of: &(), token }
     }
 }

@@ -10,7 +10,7 @@ ghost use Rattle.lock_free_queues.specs.Queues.Closes.{Closes, IsNewestThatWaits
 
 use super::{FixedSizeSafelyOverflowingIndexQueue, Pass, SafelyOverflowingIndexQueue};
 use crate::spsc::ring;
-use plain::SafelyOverflowingIndexQueue as List;
+use plain_queues::SafelyOverflowingIndexQueue as List;
 use steps::enums::UniqueIndexCreationError;
 use steps::queues::ring::{FIRST_CELL, READ, WRITE};
 

@@ -12,7 +12,7 @@ pub struct Pushes;
 
 impl Drives<View<u64>, Push> for Pushes {
     ghost use Rattle.history.specs.Stages.{At, Over};
-    ghost use Rattle.history.specs.Overflow.{pushes_over};
+    ghost use Rattle.history_queues.specs.Overflow.{pushes_over};
 
     ghost at = { λ v. At one_word kinds.Overflow (pushes_over v) };
 
@@ -24,7 +24,7 @@ pub struct Pops;
 
 impl Drives<View<u64>, Pop> for Pops {
     ghost use Rattle.history.specs.Stages.{At, Ends};
-    ghost use Rattle.history.specs.Overflow.{pops_over};
+    ghost use Rattle.history_queues.specs.Overflow.{pops_over};
 
     ghost at = { λ given. At one_word kinds.Overflow pops_over };
 

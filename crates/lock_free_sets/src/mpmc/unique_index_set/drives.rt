@@ -13,7 +13,7 @@ pub struct Takes;
 
 impl Drives<View<u64>, Acquire> for Takes {
     ghost use Rattle.history.specs.Stages.{At, Ends};
-    ghost use Rattle.history.specs.Indices.{takes_index};
+    ghost use Rattle.history_indices.specs.Indices.{takes_index};
 
     ghost at = { λ given. At one_word kinds.Indices takes_index };
 
@@ -25,7 +25,7 @@ pub struct Gives;
 
 impl Drives<View<u64>, Release<DefaultMode>> for Gives {
     ghost use Rattle.history.specs.Stages.{At, Ends};
-    ghost use Rattle.history.specs.Indices.{gives_index};
+    ghost use Rattle.history_indices.specs.Indices.{gives_index};
 
     ghost at = { λ index. At one_word kinds.Indices (gives_index index) };
 
@@ -37,7 +37,7 @@ pub struct GivesOrLocks;
 
 impl Drives<View<u64>, Release<LockMode>> for GivesOrLocks {
     ghost use Rattle.history.specs.Stages.{At, Ends};
-    ghost use Rattle.history.specs.Indices.{gives_or_locks};
+    ghost use Rattle.history_indices.specs.Indices.{gives_or_locks};
 
     ghost at = { λ index. At one_word kinds.Indices (gives_or_locks index) };
 
@@ -49,7 +49,7 @@ pub struct CountsOut;
 
 impl Drives<View<u64>, BorrowedIndices> for CountsOut {
     ghost use Rattle.history.specs.Stages.{At, Ends};
-    ghost use Rattle.history.specs.Indices.{counts_out};
+    ghost use Rattle.history_indices.specs.Indices.{counts_out};
 
     ghost at = { λ given. At one_word kinds.Indices counts_out };
 
@@ -61,7 +61,7 @@ pub struct LooksLocked;
 
 impl Drives<View<u64>, IsLocked> for LooksLocked {
     ghost use Rattle.history.specs.Stages.{At, Ends};
-    ghost use Rattle.history.specs.Indices.{looks_locked};
+    ghost use Rattle.history_indices.specs.Indices.{looks_locked};
 
     ghost at = { λ given. At one_word kinds.Indices looks_locked };
 

@@ -1,5 +1,5 @@
 -- The law `histories_are_linearizable` (src/laws.rt): a history of a value is linearizable as one value.
-use Rattle.history.proofs.ValueLaws.{value_linearizable}
+use Rattle.history_value.proofs.ValueLaws.{value_linearizable}
 use Rattle.lock_free_value.proofs.laws.histories_are_linearizable.Goals as goal
 
 pub returns : goal.returns

@@ -2,7 +2,7 @@
 //! role and the version.
 ghost use Rattle.std.specs.Prelude.{◌≡◌, ◌+◌, IsTrue, IsFalse};
 ghost use Rattle.history.specs.Steps.{TakesAtMost};
-ghost use Rattle.history.specs.Value.{HasProducer};
+ghost use Rattle.history_value.specs.Value.{HasProducer};
 ghost use Rattle.lock_free_value.specs.Calls.{seen, IsSame, WasAtEnd};
 ghost use Rattle.lock_free_value.specs.Roles.{Moved};
 ghost use Rattle.lock_free_value.specs.ValueContracts.{HasAcquired, HasReleased, HasStored, HasSeenProducer, HasSeenVersion};

@@ -17,7 +17,7 @@ pub struct TakesProducer;
 
 impl<T: Words> Drives<View<T>, AcquireRole> for TakesProducer {
     ghost use Rattle.history.specs.Stages.{At, Ends};
-    ghost use Rattle.history.specs.Value.{acquires_producer};
+    ghost use Rattle.history_value.specs.Value.{acquires_producer};
 
     ghost at = { λ given. At (coding_by T.Words) kinds.Atomic acquires_producer };
 
@@ -29,7 +29,7 @@ pub struct LeavesProducer;
 
 impl<T: Words> Drives<View<T>, ReleaseRole> for LeavesProducer {
     ghost use Rattle.history.specs.Stages.{At, Ends};
-    ghost use Rattle.history.specs.Value.{releases_producer};
+    ghost use Rattle.history_value.specs.Value.{releases_producer};
 
     ghost at = { λ given. At (coding_by T.Words) kinds.Atomic releases_producer };
 
@@ -43,7 +43,7 @@ pub struct Stores<T> {
 
 impl<T: Words + Drop> Drives<View<T>, Store<T>> for Stores<T> {
     ghost use Rattle.history.specs.Stages.{At, Over};
-    ghost use Rattle.history.specs.Value.{stores_value};
+    ghost use Rattle.history_value.specs.Value.{stores_value};
 
     ghost at = { λ value. At (coding_by T.Words) kinds.Atomic
         (stores_value (coding_by T.Words) value) };
@@ -59,7 +59,7 @@ pub struct Loads<T, R> {
 
 impl<T: Words, R: Room<T> + Drop> Drives<View<T>, Load<T, R>> for Loads<T, R> {
     ghost use Rattle.history.specs.Stages.{At, Ends};
-    ghost use Rattle.history.specs.Value.{loads_value};
+    ghost use Rattle.history_value.specs.Value.{loads_value};
 
     ghost at = { λ given. At (coding_by T.Words) kinds.Atomic
         (loads_value (coding_by T.Words) R.words_in) };
@@ -73,7 +73,7 @@ pub struct LooksAtProducer;
 
 impl<T: Words> Drives<View<T>, LookRole> for LooksAtProducer {
     ghost use Rattle.history.specs.Stages.{At, Ends};
-    ghost use Rattle.history.specs.Value.{looks_at_producer};
+    ghost use Rattle.history_value.specs.Value.{looks_at_producer};
 
     ghost at = { λ given. At (coding_by T.Words) kinds.Atomic looks_at_producer };
 
@@ -85,7 +85,7 @@ pub struct LooksAtVersion;
 
 impl<T: Words> Drives<View<T>, Version> for LooksAtVersion {
     ghost use Rattle.history.specs.Stages.{At, Ends};
-    ghost use Rattle.history.specs.Value.{looks_at_version};
+    ghost use Rattle.history_value.specs.Value.{looks_at_version};
 
     ghost at = { λ given. At (coding_by T.Words) kinds.Atomic looks_at_version };
 

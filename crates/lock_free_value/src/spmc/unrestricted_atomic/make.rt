@@ -1,7 +1,7 @@
 //! How an `UnrestrictedAtomic` is made, with its first pass.
 ghost use Rattle.std.specs.Prelude.{◌≡◌, IfOk, IfErr, if◌then◌else◌, nat_lt};
 ghost use Rattle.steps.specs.declared.enums.UniqueIndexCreationError.TheVariants.{NoMemory};
-ghost use Rattle.history.specs.ValueOpened.{opened_view};
+ghost use Rattle.history_value.specs.ValueOpened.{opened_view};
 ghost use Rattle.lock_free_value.specs.Calls.{view, IsPassOf};
 
 use super::rule::{Origin, ValueRule};

@@ -22,7 +22,7 @@ pub struct ValueRule<T> {
 
 impl<T: Words> TableRule<(), View<T>, Origin<T>> for ValueRule<T> {
     ghost use Rattle.history.specs.History.{IsMachine};
-    ghost use Rattle.history.specs.ValueOpened.{opened_view};
+    ghost use Rattle.history_value.specs.ValueOpened.{opened_view};
 
     ghost holds = { λ origin. IsMachine (coding_by T.Words) kinds.Atomic 1 };
 

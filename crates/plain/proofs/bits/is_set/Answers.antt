@@ -1,6 +1,6 @@
 -- `is_set` (src/bits.rt): the call that `is_set` drives can end, as `drive` requires, and `is_set` returns
 -- whether the place stands; the set stays.
-use Rattle.plain.proofs.Alone.{can_end, ends_so}
+use Rattle.plain_queues.proofs.Alone.{can_end, ends_so}
 use Rattle.plain.proofs.Places.Looks.{look_runs}
 use Rattle.plain.proofs.bits.is_set.Goals as goal
 

@@ -1,6 +1,6 @@
 -- `reset_next` (src/bits.rt): the call that `reset_next` drives can end, as `drive` requires, and its return
 -- is the next place that stood, which is clear now, or None.
-use Rattle.plain.proofs.Alone.{can_end, ends_so}
+use Rattle.plain_queues.proofs.Alone.{can_end, ends_so}
 use Rattle.plain.proofs.Places.Resets.{reset_runs}
 use Rattle.plain.proofs.bits.reset_next.Goals as goal
 

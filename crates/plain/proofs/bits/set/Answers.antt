@@ -1,6 +1,6 @@
 -- `set` (src/bits.rt): the call that `set` drives can end, as `drive` requires, and `set` returns whether the
 -- place was clear; it stands now.
-use Rattle.plain.proofs.Alone.{can_end, ends_so}
+use Rattle.plain_queues.proofs.Alone.{can_end, ends_so}
 use Rattle.plain.proofs.Places.Sets.{set_runs}
 use Rattle.plain.proofs.bits.set.Goals as goal
 

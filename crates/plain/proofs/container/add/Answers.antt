@@ -1,5 +1,5 @@
 -- `add` (src/container.rt): its call of `drive` can end, and the contents have the value, or it answers why they do not.
-use Rattle.plain.proofs.Alone.{can_end, ends_so}
+use Rattle.plain_queues.proofs.Alone.{can_end, ends_so}
 use Rattle.plain.proofs.Elements.Adds.{add_at}
 use Rattle.plain.proofs.Elements.Filled.{still_added}
 use Rattle.plain.proofs.Elements.Values.{Codes, codes_by}

@@ -1,6 +1,6 @@
 -- `bring_up` (src/container.rt): the call that `bring_up` drives is as `drive` requires, and its return meets
 -- the clauses `words` and `brought`.
-use Rattle.plain.proofs.Alone.{can_end, ends_so}
+use Rattle.plain_queues.proofs.Alone.{can_end, ends_so}
 use Rattle.plain.proofs.Elements.Updates.{look_runs}
 use Rattle.plain.proofs.Elements.Snapshots.{LookCase, words_kept, brought_if, brought_not}
 use Rattle.std.proofs.Common.{ℕ, List}

@@ -1,6 +1,6 @@
 -- `count` (src/container.rt): the call that `count` drives can end, as `drive` requires, and its return is
 -- how many indices have an owner; the generation is raised.
-use Rattle.plain.proofs.Alone.{can_end, ends_so}
+use Rattle.plain_queues.proofs.Alone.{can_end, ends_so}
 use Rattle.plain.proofs.Elements.Looks.{count_at}
 use Rattle.plain.proofs.Elements.Filled.{still, filled_counted}
 use Rattle.plain.specs.Contents.{number, counted, contents_in}

@@ -1,6 +1,6 @@
 -- `look` (src/container.rt): the call that `look` drives can end, as `drive` requires, and its return is
 -- whether the container is locked; the contents stay.
-use Rattle.plain.proofs.Alone.{can_end, ends_so}
+use Rattle.plain_queues.proofs.Alone.{can_end, ends_so}
 use Rattle.plain.proofs.Elements.Looks.{look_at}
 use Rattle.plain.proofs.Elements.Filled.{still}
 use Rattle.plain.specs.Contents.{is_locked}

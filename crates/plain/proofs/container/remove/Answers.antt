@@ -1,6 +1,6 @@
 -- `remove` (src/container.rt): its call of `drive` can end, and the contents have lost the value, or it answers why
 -- they have not.
-use Rattle.plain.proofs.Alone.{can_end, ends_so}
+use Rattle.plain_queues.proofs.Alone.{can_end, ends_so}
 use Rattle.plain.proofs.Elements.Removes.{remove_at}
 use Rattle.plain.proofs.Elements.Filled.{still, filled_remove}
 use Rattle.plain.specs.Contents.{removed, after_remove}

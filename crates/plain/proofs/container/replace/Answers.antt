@@ -1,5 +1,5 @@
 -- `replace` (src/container.rt): its call of `drive` can end, and the index has the new value, or it answers why it does not.
-use Rattle.plain.proofs.Alone.{can_end, ends_so}
+use Rattle.plain_queues.proofs.Alone.{can_end, ends_so}
 use Rattle.plain.proofs.Elements.Replaces.{replace_at}
 use Rattle.plain.proofs.Elements.Filled.{still, filled_replace}
 use Rattle.plain.specs.Contents.{replaced, after_replace}

@@ -1,7 +1,7 @@
 -- `count` (src/counts.rt): the call that `count` drives is as `drive` requires, and its return meets the
 -- clauses `answer` and `counts`.
 use Rattle.std.proofs.Common.{refl, slice_index}
-use Rattle.plain.proofs.Alone.{ends_at_once}
+use Rattle.plain_queues.proofs.Alone.{ends_at_once}
 use Rattle.plain.proofs.counts.count.Goals as goal
 
 -- the call that `count` drives is as `drive` requires

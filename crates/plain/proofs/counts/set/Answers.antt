@@ -1,7 +1,7 @@
 -- `set` (src/counts.rt): the call that `set` drives is as `drive` requires, and its return meets the clauses
 -- `answer` and `counts`.
 use Rattle.std.proofs.Common.{refl, slice_index}
-use Rattle.plain.proofs.Alone.{ends_at_once}
+use Rattle.plain_queues.proofs.Alone.{ends_at_once}
 use Rattle.steps.specs.Objects.Counts.{counted}
 use Rattle.plain.proofs.counts.set.Goals as goal
 

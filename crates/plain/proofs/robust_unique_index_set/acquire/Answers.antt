@@ -1,6 +1,6 @@
 -- `acquire` (src/robust_unique_index_set.rt): its call of `drive` can end, and its return is a free index, which the
 -- owner has now, or why there is none.
-use Rattle.plain.proofs.Alone.{can_end, ends_so}
+use Rattle.plain_queues.proofs.Alone.{can_end, ends_so}
 use Rattle.plain.proofs.Robust.Acquires.{take_at}
 use Rattle.plain.proofs.robust_unique_index_set.acquire.Goals as goal
 

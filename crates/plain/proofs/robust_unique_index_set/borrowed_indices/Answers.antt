@@ -1,6 +1,6 @@
 -- `borrowed_indices` (src/robust_unique_index_set.rt): the call that `borrowed_indices` drives can end, as
 -- `drive` requires, and `borrowed_indices` returns how many indices have an owner; the generation is raised.
-use Rattle.plain.proofs.Alone.{can_end, ends_so}
+use Rattle.plain_queues.proofs.Alone.{can_end, ends_so}
 use Rattle.plain.proofs.Robust.Looks.{borrowed_at}
 use Rattle.plain.proofs.robust_unique_index_set.borrowed_indices.Goals as goal
 

@@ -1,6 +1,6 @@
 -- `is_locked` (src/robust_unique_index_set.rt): the call that `is_locked` drives can end, as `drive`
 -- requires, and `is_locked` returns whether the set is locked; it stays.
-use Rattle.plain.proofs.Alone.{can_end, ends_so}
+use Rattle.plain_queues.proofs.Alone.{can_end, ends_so}
 use Rattle.plain.proofs.Robust.Looks.{looked_at}
 use Rattle.plain.proofs.robust_unique_index_set.is_locked.Goals as goal
 

@@ -1,5 +1,5 @@
 -- `release` (src/robust_unique_index_set.rt): its call of `drive` can end, and it frees the index, or answers why it does not.
-use Rattle.plain.proofs.Alone.{can_end, ends_so}
+use Rattle.plain_queues.proofs.Alone.{can_end, ends_so}
 use Rattle.plain.proofs.Robust.Releases.{give_at}
 use Rattle.plain.proofs.robust_unique_index_set.release.Goals as goal
 

@@ -1,6 +1,6 @@
 -- `acquire` (src/unique.rt): its call of `drive` can end, and its return is the top of the stack, which has
 -- left it, or why there is none.
-use Rattle.plain.proofs.Alone.{can_end, ends_so}
+use Rattle.plain_queues.proofs.Alone.{can_end, ends_so}
 use Rattle.plain.proofs.Stacks.Acquires.{take_runs}
 use Rattle.plain.proofs.unique.acquire.Goals as goal
 

@@ -1,6 +1,6 @@
 -- `count` (src/unique.rt): its call of `drive` can end, and its return is how many indices are
 -- out; the stack stays.
-use Rattle.plain.proofs.Alone.{can_end, ends_so}
+use Rattle.plain_queues.proofs.Alone.{can_end, ends_so}
 use Rattle.plain.proofs.Stacks.Looks.{count_runs}
 use Rattle.plain.proofs.unique.count.Goals as goal
 

@@ -1,7 +1,7 @@
 -- `look` (src/unique.rt): the call that `look` drives is as `drive` requires, and its return
 -- meets what it ensures (`BehavesAs`).
 use Rattle.std.proofs.Common.{arith}
-use Rattle.plain.proofs.Alone.{can_end, ends_so}
+use Rattle.plain_queues.proofs.Alone.{can_end, ends_so}
 use Rattle.plain.proofs.Stacks.Looks.{look_runs}
 use Rattle.plain.proofs.unique.look.Goals as goal
 

@@ -1,5 +1,5 @@
 -- `release` (src/unique.rt): its call of `drive` can end, and the index is then on top of the stack.
-use Rattle.plain.proofs.Alone.{can_end, ends_so}
+use Rattle.plain_queues.proofs.Alone.{can_end, ends_so}
 use Rattle.plain.proofs.Stacks.Releases.{give_runs}
 use Rattle.steps.specs.declared.indices.unique.DefaultMode.{DefaultMode}
 use Rattle.plain.proofs.unique.release.Goals as goal

@@ -1,5 +1,5 @@
 -- `release_or_lock` (src/unique.rt): its call of `drive` can end, and the index is free; the set is locked where it was the last.
-use Rattle.plain.proofs.Alone.{can_end, ends_so}
+use Rattle.plain_queues.proofs.Alone.{can_end, ends_so}
 use Rattle.plain.proofs.Stacks.Releases.{lock_runs}
 use Rattle.steps.specs.declared.indices.unique.LockMode.{LockMode}
 use Rattle.plain.proofs.unique.release_or_lock.Goals as goal

@@ -1,7 +1,7 @@
 -- `load` (src/value.rt): its call of `drive` can end, and its return is the value; the words still represent it.
 use Rattle.std.proofs.Common.{arith, ◌∙◌}
-use Rattle.plain.proofs.Alone.{can_end, ends_so}
-use Rattle.plain.proofs.Words.{buffer}
+use Rattle.plain_queues.proofs.Alone.{can_end, ends_so}
+use Rattle.plain_queues.proofs.Words.{buffer}
 use Rattle.plain.proofs.Values.{load_runs}
 use Rattle.plain.proofs.value.load.Goals as goal
 

@@ -1,5 +1,5 @@
 -- `store` (src/value.rt): its call of `drive` can end, and the words then represent the value that was stored.
-use Rattle.plain.proofs.Alone.{can_end, ends_so}
+use Rattle.plain_queues.proofs.Alone.{can_end, ends_so}
 use Rattle.plain.proofs.Values.{store_runs}
 use Rattle.plain.proofs.value.store.Goals as goal
 

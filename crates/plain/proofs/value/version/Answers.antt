@@ -1,7 +1,7 @@
 -- `version` (src/value.rt): the call that `version` drives is as `drive` requires, and its return meets the
 -- clauses `answer` and `words`.
 use Rattle.std.proofs.Common.{refl, slice_index}
-use Rattle.plain.proofs.Alone.{ends_at_once}
+use Rattle.plain_queues.proofs.Alone.{ends_at_once}
 use Rattle.plain.proofs.value.version.Goals as goal
 
 -- the call that `version` drives is as `drive` requires

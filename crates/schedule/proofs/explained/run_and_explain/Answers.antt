@@ -1,6 +1,6 @@
 -- `run_and_explain` (src/explained.rt): its return is the exit status of the run, and the errors have the text of what
 -- went wrong.
-use Rattle.std.proofs.Common.{None, Err}
+use Rattle.std.proofs.Common.{None, Err, arith}
 use Rattle.schedule.proofs.Known.{run_known, run_unread, told_alone}
 use Rattle.schedule.proofs.explained.run_and_explain.Goals as goal
 
@@ -13,11 +13,15 @@ returns-in-Err g c =
 -- the line behind it
 pub returns : goal.returns
 returns g c =
-    let ran = c.run_and_tell-exit.ensures in (
+    let ran = c.run_text_and_tell-exit.ensures in (
       ran.0,
       ran.1,
       ran.2,
-      run_known _ ran.1 ran.2 c.as_slice-unread.result.now ran.0 (rw c.as_slice-unread.ensures.value c.in-Ok.ensures.bytes) ran.3,
+      run_known _ ran.1 ran.2 c.deref.result.now ran.0 (rw c.deref.ensures.value c.in-Ok.ensures.bytes) ran.3,
       ran.4,
-      (g.E.Write.contents c.run_and_tell-exit.new.errors, ran.5, c.tell_more.ensures.0, c.tell_more.ensures.1),
+      (g.E.Write.contents c.run_text_and_tell-exit.new.errors, ran.5, c.tell_more.ensures.0, c.tell_more.ensures.1),
     )
+
+-- the text is not longer than a list of bytes may be
+pub run_text_and_tell-exit-requires : goal.run_text_and_tell-exit-requires
+run_text_and_tell-exit-requires g c = omega (arith, c.deref.ensures.len, c.in-Ok.input.ok, c.in-Ok.input.small)

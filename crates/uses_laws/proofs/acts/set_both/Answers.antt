@@ -4,7 +4,7 @@ use Rattle.model.specs.declared.event.Answer.TheVariants.{Truth}
 use Rattle.model.specs.declared.event.Start.TheVariants.{Bits}
 use Rattle.model.specs.declared.families.bits.BitsStart.TheVariants.{Set}
 use Rattle.model.specs.declared.turn.Kind.TheVariants as kinds
-use Rattle.history.specs.Acts.{ActsByPlace}
+use Rattle.history_bits.specs.Acts.{ActsByPlace}
 use Rattle.history.specs.Order.{EndsNone}
 use Rattle.lock_free.specs.Bits.Calls.{SetId, capacity_of, history, set_of, view}
 use Rattle.lock_free.specs.Bits.Stages.{set_wrote}

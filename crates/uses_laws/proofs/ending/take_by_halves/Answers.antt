@@ -1,10 +1,10 @@
 -- `take_by_halves` (src/ending.rt): its return meets what it ensures (`AsksAreWithinLoad`).
-use Rattle.std.proofs.Common.{◌≡◌, ◌≤◌, ℕ, zero, suc, ◌+◌, ◌-◌, ◌*◌, sym, ap, ap₂, subst, ◌∙◌, arith}
+use Rattle.std.proofs.Common.{◌≡◌, ◌≤◌, ℕ, zero, suc, ◌+◌, ◌-◌, ◌*◌, length, sym, ap, ap₂, subst, ◌∙◌, arith}
 use Rattle.std.proofs.Common.{mul-add, mul_assoc, suc-mul}
 use Rattle.model.specs.declared.turn.Kind.TheVariants.{Indices}
 use Rattle.model.specs.Loads.{begun, load}
 use Rattle.model.specs.LockFree.{stretch}
-use Rattle.headline_threads.specs.Ends.{KnownAsksLoad}
+use Rattle.headline_threads.specs.Ends.{AllActorsAreSeen, KnownAsksLoad}
 use Rattle.lock_free.specs.Coding.{one_word}
 use Rattle.lock_free.specs.History.{Knows}
 use Rattle.lock_free.specs.HistoryView.View.{View}
@@ -23,10 +23,12 @@ square (suc m) alone =
     ∙ (ap (λ (x : ℕ). suc m * x) (sym (suc-mul m alone)) ∙ sym (mul_assoc (suc m) (suc m) alone)))
 
 -- what a pass of a unique index set has asked for is within its load and what was aside
-within : (capacity aside : ℕ) (v : View ℕ) → KnownAsksLoad ℕ Indices (λ n capacity size. stretch n 1 (capacity + 4))
+within : (capacity aside : ℕ) (v : View ℕ) → KnownAsksLoad ℕ Indices (λ n capacity size. stretch n 1 (capacity + 4)) → AllActorsAreSeen ℕ
     → Knows one_word Indices capacity v → v.aside ≤ aside → AsksAreWithinLoad capacity aside v
-within capacity aside v law knows few n below =
-    let asks : v.asked ≤ v.aside + load (stretch n 1 (capacity + 4)) (begun v.seen) = law one_word capacity v knows n below in
+within capacity aside v law seen knows few parties are =
+    let n = length parties in
+    let act = seen one_word Indices capacity v knows parties are in
+    let asks : v.asked ≤ v.aside + load (stretch n 1 (capacity + 4)) (begun v.seen) = law one_word capacity v knows parties act in
     let is = square n (capacity + 4) in
     let most : v.asked ≤ v.aside + load (n * n * (capacity + 4)) (begun v.seen) =
     subst (λ (b : ℕ). v.asked ≤ v.aside + load b (begun v.seen)) is asks in
@@ -50,7 +52,7 @@ returns g c =
     let joined = c.join.ensures.same.joined in
     let most = c.join.ensures.steps in
     let few : new.aside ≤ old.aside + 5 = omega arith in
-    within capacity (old.aside + 5) new (c.passes_end_loads.ensures.asks Indices) knows few
+    within capacity (old.aside + 5) new (c.passes_end_loads.ensures.asks Indices) c.actors_are_seen.ensures.all knows few
 
 -- it was not split, and nothing changed
 pub returns-in_err-other : goal.returns-in_err-other
@@ -61,4 +63,4 @@ returns-in_err-other g c =
     subst (λ m. Knows one_word Indices m old) (ap (λ (z : SetId). z.capacity) c.requires) c.history.ensures.run in
     let few : old.aside ≤ old.aside + 5 = omega arith in
     subst (λ v. AsksAreWithinLoad capacity (old.aside + 5) v) (sym c.in_err-other.ensures.none)
-    (within capacity (old.aside + 5) old (c.passes_end_loads.ensures.asks Indices) knows few)
+    (within capacity (old.aside + 5) old (c.passes_end_loads.ensures.asks Indices) c.actors_are_seen.ensures.all knows few)

@@ -1,5 +1,5 @@
 -- `push_both_by_page` (src/page.rt): its return meets what it ensures (`HasPushedBoth`).
-use Rattle.std.proofs.Common.{◌≡◌, ◌<◌, ◌^◌, ℕ, true, List, [], ◌∷◌, ◌++◌, ap, length, refl, subst, sym, ◌∙◌}
+use Rattle.std.proofs.Common.{◌≡◌, ℕ, true, List, [], ◌∷◌, ◌++◌, ap, refl, subst, sym, ◌∙◌}
 use Rattle.std.proofs.lemmas.List.Concat.{flat_map-append}
 use Rattle.std.specs.List.{AllByRecursion}
 use Rattle.model.specs.declared.event.Answer.TheVariants.{Truth}
@@ -73,8 +73,7 @@ returns c both =
       once = ends capacity c.args.first old between one known first_run;
       twice = subst (λ ts. EndsWithPush c.args.second (history_of capacity ts)) goes.is (ends capacity c.args.second between new two knows goes.runs);
       all = goes.runs ∙ ap (history_of capacity) goes.is;
-      linearizable = λ few.
-          c.passes_are_linearizable.ensures.index capacity new knows (subst (λ ts. length ts < 2 ^ 63) (sym goes.is) few);
+      linearizable = c.passes_are_linearizable.ensures.index capacity new knows;
     }
 
 -- ---- what the definition refuses

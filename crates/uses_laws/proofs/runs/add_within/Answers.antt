@@ -1,15 +1,14 @@
 -- `add_within` (src/runs.rt): its return meets what it ensures (`OwnersGoOn`).
 use Rattle.std.proofs.Common.{ℕ, ◌+◌, ap, subst, ◌∙◌}
 use Rattle.threaded.specs.Sets.{SetId}
-use Rattle.laws_container.specs.LockFree.{room_container_bound}
 use Rattle.model.specs.declared.turn.Kind.TheVariants.{Container}
 use Rattle.model.specs.LockFree.{IsDefault, default_container_bound}
 use Rattle.lock_free.specs.Coding.{Coding}
 use Rattle.lock_free.specs.Container.Names.{capacity_of, code_of, view}
 use Rattle.lock_free.specs.Container.Steps.{to_settle}
 use Rattle.lock_free.specs.History.{Continues, Knows}
-use Rattle.headline_threads.proofs.Ending.{EndsAll, EndsSuch}
-use Rattle.uses_laws.proofs.Running.{ends_within, ends_within_of}
+use Rattle.headline_threads.proofs.Ending.{EndsSuch}
+use Rattle.uses_laws.proofs.Running.{owners_go_on_within}
 use Rattle.uses_laws.proofs.runs.add_within.Goals as goal
 
 -- the run of the container goes on, and its steps are within the bounds of containers
@@ -28,8 +27,8 @@ returns g c =
     let later : Continues code Container capacity old new = record { first = same.goes.first; knows = after } in
     let ending = c.owners_keep_ending.ensures in
     let loads = c.owners_end_loads.ensures in
-    -- the laws of containers, by the bound for all calls
-    let laws : EndsAll ℕ Container room_container_bound =
+    -- the laws of containers, for calls that never lock
+    let by_default : EndsSuch ℕ Container IsDefault default_container_bound =
     record {
       end = ending.container;
       keep = ending.container_keep;
@@ -40,22 +39,6 @@ returns g c =
       rest = loads.container_rest;
     }
     in
-    -- the laws of containers, by the bound for calls that never lock
-    let by_default : EndsSuch ℕ Container IsDefault default_container_bound =
-    record {
-      end = ending.container_by_default;
-      keep = ending.container_keep_by_default;
-      known = ending.container_known_by_default;
-      between = loads.container_between_by_default;
-      load = loads.container_load_by_default;
-      asks = loads.container_asks_by_default;
-      rest = loads.container_rest_by_default;
-    }
-    in
     -- one operation is aside, and one more if a find that rests is settled first
     let most = old.aside + (1 + to_settle old) in
-    record {
-      later = later;
-      within = ends_within code Container capacity room_container_bound most old new knows later same.aside laws;
-      fewer = ends_within_of code Container capacity default_container_bound most old new knows later same.aside IsDefault by_default;
-    }
+    owners_go_on_within code Container capacity default_container_bound most old new knows later same.aside by_default

@@ -2,12 +2,12 @@
 use Rattle.std.proofs.Common.{ℕ, ◌+◌, ap, subst, ◌∙◌}
 use Rattle.threaded.specs.Sets.{SetId}
 use Rattle.model.specs.declared.turn.Kind.TheVariants.{Robust}
-use Rattle.model.specs.LockFree.{IsDefault, default_bound, room_bound}
+use Rattle.model.specs.LockFree.{IsDefault, default_bound}
 use Rattle.lock_free.specs.Coding.{one_word}
 use Rattle.lock_free.specs.History.{Continues, Knows}
 use Rattle.lock_free.specs.RobustUniqueIndexSet.{capacity_of, view}
-use Rattle.headline_threads.proofs.Ending.{EndsAll, EndsSuch}
-use Rattle.uses_laws.proofs.Running.{ends_within, ends_within_of}
+use Rattle.headline_threads.proofs.Ending.{EndsSuch}
+use Rattle.uses_laws.proofs.Running.{owners_go_on_within}
 use Rattle.uses_laws.proofs.runs.lease_within.Goals as goal
 
 -- the run of the set goes on, and its steps are within the bounds of robust sets
@@ -25,8 +25,8 @@ returns g c =
     let later : Continues one_word Robust capacity old new = record { first = same.goes.first; knows = after } in
     let ending = c.owners_keep_ending.ensures in
     let loads = c.owners_end_loads.ensures in
-    -- the laws of robust sets, by the bound for all calls
-    let laws : EndsAll ℕ Robust room_bound =
+    -- the laws of robust sets, for calls that never lock
+    let by_default : EndsSuch ℕ Robust IsDefault default_bound =
     record {
       end = ending.robust;
       keep = ending.robust_keep;
@@ -37,20 +37,4 @@ returns g c =
       rest = loads.robust_rest;
     }
     in
-    -- the laws of robust sets, by the bound for calls that never lock
-    let by_default : EndsSuch ℕ Robust IsDefault default_bound =
-    record {
-      end = ending.robust_by_default;
-      keep = ending.robust_keep_by_default;
-      known = ending.robust_known_by_default;
-      between = loads.robust_between_by_default;
-      load = loads.robust_load_by_default;
-      asks = loads.robust_asks_by_default;
-      rest = loads.robust_rest_by_default;
-    }
-    in
-    record {
-      later = later;
-      within = ends_within one_word Robust capacity room_bound (old.aside + 1) old new knows later same.aside laws;
-      fewer = ends_within_of one_word Robust capacity default_bound (old.aside + 1) old new knows later same.aside IsDefault by_default;
-    }
+    owners_go_on_within one_word Robust capacity default_bound (old.aside + 1) old new knows later same.aside by_default

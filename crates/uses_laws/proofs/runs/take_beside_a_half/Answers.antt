@@ -6,7 +6,7 @@ use Rattle.lock_free.specs.Coding.{one_word}
 use Rattle.lock_free.specs.History.{Continues, Knows}
 use Rattle.lock_free.specs.UniqueIndexSet.{SetId, capacity_of, set_id, set_of, view}
 use Rattle.headline_threads.proofs.Ending.{EndsAll}
-use Rattle.uses_laws.proofs.Running.{ends_within}
+use Rattle.uses_laws.proofs.Running.{goes_on_within}
 use Rattle.uses_laws.proofs.runs.take_beside_a_half.Goals as goal
 
 same_size : {one other : SetId} → one ≡ other → one.capacity ≡ other.capacity
@@ -56,4 +56,4 @@ returns g c =
     let most = c.join.ensures.steps in
     -- one operation for the split, one for the acquire and two for the join are aside
     let few : new.aside ≤ old.aside + 4 = omega arith in
-    record { later = later; within = ends_within one_word Indices capacity bound (old.aside + 4) old new knows later few laws }
+    goes_on_within one_word Indices capacity bound (old.aside + 4) old new knows later few laws

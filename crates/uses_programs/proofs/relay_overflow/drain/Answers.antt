@@ -4,8 +4,8 @@ use Rattle.std.proofs.Common.{rules, arith, ap, subst, sym, ◌≡◌, ◌<◌, 
 use Rattle.uses_programs.proofs.Names.{common_steps, option_map, HasPopped}
 use Rattle.lock_free.specs.Queues.Item.TheVariants.{Index}
 use Rattle.lock_free.specs.Queues.Overflowing.{consumer_view, consumer_queue, QueueId}
-use Rattle.lock_free_queues.proofs.Queues.Ends.{oldest_popped}
-use Rattle.lock_free_queues.proofs.Queues.TakenOut.{takes_here, takes_one, drained}
+use Rattle.lock_free.proofs.Queues.Ends.{oldest_popped}
+use Rattle.lock_free.proofs.Queues.TakenOut.{takes_here, takes_one, drained}
 use Rattle.uses_programs.proofs.relay_overflow.drain.Goals as goal
 
 pub loop-init : goal.loop-init

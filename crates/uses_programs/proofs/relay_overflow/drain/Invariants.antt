@@ -1,6 +1,6 @@
 use Rattle.std.proofs.Common.{◌≡◌, ◌<◌, ℕ, List, ◌++◌}
 use Rattle.lock_free.specs.Queues.Overflowing.{consumer_view, consumer_queue}
-use Rattle.lock_free_queues.specs.Queues.Merges.{HasTaken}
+use Rattle.lock_free.specs.Queues.Merges.{HasTaken}
 use Rattle.uses_programs.proofs.relay_overflow.drain.Given as given
 
 -- In this order: the queue is the same; the numbers that were taken; they stand last; and they are what the consumer took

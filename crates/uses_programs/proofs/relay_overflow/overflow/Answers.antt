@@ -5,8 +5,8 @@ use Rattle.uses_programs.proofs.Names.{common_steps, first_view}
 use Rattle.lock_free.specs.Queues.Overflowing.{view, queue_of, consumer_view, consumer_queue}
 use Rattle.lock_free.specs.Queues.Role.TheVariants as roles
 use Rattle.lock_free.specs.Queues.Contracts.{HasSplit}
-use Rattle.lock_free_queues.specs.Queues.Merges.{HasPushedUpTo, HasTaken, HasDrained}
-use Rattle.lock_free_queues.proofs.Queues.Merging.{overflowed}
+use Rattle.lock_free.specs.Queues.Merges.{HasPushedUpTo, HasTaken, HasDrained}
+use Rattle.lock_free.proofs.Queues.Merging.{overflowed}
 use Rattle.uses_programs.proofs.relay_overflow.overflow.Goals as goal
 
 -- what holds of each good result holds of the one that was taken out

@@ -5,9 +5,9 @@ use Rattle.uses_programs.proofs.Names.{common_steps, IfOk-at_ok, option_map, Has
 use Rattle.lock_free.specs.Queues.Item.TheVariants.{Index}
 use Rattle.lock_free.specs.Queues.Overflowing.{view, consumer_view, consumer_queue, QueueId}
 use Rattle.lock_free.specs.Queues.Role.TheVariants as roles
-use Rattle.lock_free_queues.specs.Queues.Merges.{HasTaken}
-use Rattle.lock_free_queues.proofs.Queues.Ends.{oldest_popped}
-use Rattle.lock_free_queues.proofs.Queues.TakenOut.{takes_none, takes_one, takes_nothing, takes_all}
+use Rattle.lock_free.specs.Queues.Merges.{HasTaken}
+use Rattle.lock_free.proofs.Queues.Ends.{oldest_popped}
+use Rattle.lock_free.proofs.Queues.TakenOut.{takes_none, takes_one, takes_nothing, takes_all}
 use Rattle.uses_programs.proofs.relay_overflow.pop_some.Goals as goal
 
 -- the role was acquired, and nothing was popped yet

@@ -1,6 +1,6 @@
 use Rattle.std.proofs.Common.{◌≡◌, ◌<◌}
 use Rattle.lock_free.specs.Queues.Overflowing.{view, queue_of, consumer_view, consumer_queue}
-use Rattle.lock_free_queues.specs.Queues.Merges.{HasTaken}
+use Rattle.lock_free.specs.Queues.Merges.{HasTaken}
 use Rattle.uses_programs.proofs.relay_overflow.pop_some.Given as given
 
 -- the consumer has taken the numbers in `numbers`, if the queue has room

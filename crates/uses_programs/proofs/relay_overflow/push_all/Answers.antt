@@ -4,8 +4,8 @@ use Rattle.std.proofs.Common.{rules, arith, subst, sym, refl, ap, ◌≡◌, ◌
 use Rattle.uses_programs.proofs.Names.{common_steps, IfOk-at_ok}
 use Rattle.lock_free.specs.Queues.Overflowing.{view, producer_view, producer_queue, QueueId}
 use Rattle.lock_free.specs.Queues.Role.TheVariants as roles
-use Rattle.lock_free_queues.specs.Queues.Merges.{HasPushedUpTo}
-use Rattle.lock_free_queues.proofs.Queues.TakenOut.{pushed_none, pushes_next, returns_next, pushed_all}
+use Rattle.lock_free.specs.Queues.Merges.{HasPushedUpTo}
+use Rattle.lock_free.proofs.Queues.TakenOut.{pushed_none, pushes_next, returns_next, pushed_all}
 use Rattle.uses_programs.proofs.relay_overflow.push_all.Goals as goal
 
 -- the role was acquired, and nothing was pushed yet

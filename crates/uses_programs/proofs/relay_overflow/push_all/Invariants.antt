@@ -1,6 +1,6 @@
 use Rattle.std.proofs.Common.{◌≡◌, ◌<◌, length, take}
 use Rattle.lock_free.specs.Queues.Overflowing.{view, queue_of, producer_view, producer_queue}
-use Rattle.lock_free_queues.specs.Queues.Merges.{HasPushedUpTo}
+use Rattle.lock_free.specs.Queues.Merges.{HasPushedUpTo}
 use Rattle.uses_programs.proofs.relay_overflow.push_all.Given as given
 
 -- the producer has pushed the numbers before `next`, of which those in `handed_back` came back,

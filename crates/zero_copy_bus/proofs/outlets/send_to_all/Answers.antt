@@ -9,7 +9,7 @@ use Rattle.zero_copy_bus.proofs.BookLemmas.{loans_both, only_both}
 use Rattle.zero_copy_bus.proofs.LaneLemmas.{above_more, done_all, done_more, get_is, map_set, placed_at}
 use Rattle.zero_copy_bus.proofs.OutletLemmas.{counted, served_from, served_still}
 use Rattle.zero_copy_bus.proofs.PoolLemmas.{same_both}
-use Rattle.zero_copy_slots.specs.Slots.{laid_number, laid_slot}
+use Rattle.zero_copy_slots.specs.Slots.{lying_number, lying_slot}
 use Rattle.zero_copy_bus.proofs.outlets.send_to_all.Goals as goal
 use Rattle.zero_copy_bus.proofs.outlets.send_to_all.Goals.{then-send, else-send}
 
@@ -19,8 +19,8 @@ pub loop-place-preserved : goal.loop-place-preserved
 loop-place-preserved c =
     let was = c.loop-place.invariant in
     let now = c.send.ensures in
-    let slot = laid_slot c.args.laid.now in
-    let number = laid_number c.args.laid.now in
+    let slot = lying_slot c.args.lying.now in
+    let number = lying_number c.args.lying.now in
     let room = c.args.layout.now.room in
     let one = table_of c.args.pool.now in
     let two = table_of c.loop-place.pool in
@@ -67,7 +67,7 @@ loop-place-preserved c =
 pub returns-clause-served : goal.returns-clause-served
 returns-clause-served c =
     done_all
-    (IsServed c.args.layout.now.room (laid_number c.args.laid.now) (laid_slot c.args.laid.now) (table_of c.args.pool.now)
+    (IsServed c.args.layout.now.room (lying_number c.args.lying.now) (lying_slot c.args.lying.now) (table_of c.args.pool.now)
     (table_of c.loop-place.pool))
     c.loop-place.place c.args.outlets.now.items c.loop-place.outlets.items (omega (arith, c.args.outlets.now.ok.0))
     c.loop-place.invariant.served

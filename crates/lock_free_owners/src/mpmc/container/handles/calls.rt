@@ -8,7 +8,7 @@ ghost use Rattle.lock_free_owners.specs.Container.Steps.{TakesFew, ContainerTake
 ghost use Rattle.lock_free_owners.specs.Container.Idle.{IsIdle};
 ghost use Rattle.lock_free_owners.specs.Container.Names.{history, code_of, capacity_of, container_of, HasHistory, IsPassOf, IsOwn};
 ghost use Rattle.model.specs.declared.turn.Kind.TheVariants as kinds;
-ghost use Rattle.history.specs.ContainerLooks.{KeepsState};
+ghost use Rattle.history_owners.specs.ContainerLooks.{KeepsState};
 ghost use Rattle.history.specs.History.{Knows};
 ghost use Rattle.history.specs.Passes.{HasSplit};
 ghost use Rattle.history.specs.Steps.{TakesAtMost};

@@ -1,6 +1,6 @@
 -- `recover` (src/container/recovery.rt): by the invariant of the loop the recovery is under way, with a
 -- question for each round of the loop.
-use Rattle.plain.proofs.Words.{buffer}
+use Rattle.plain_queues.proofs.Words.{buffer}
 use Rattle.plain.proofs.Elements.Recovering.{Searching}
 use Rattle.plain.proofs.container.recovery.recover.Given as given
 

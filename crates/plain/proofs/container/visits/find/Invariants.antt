@@ -1,6 +1,6 @@
 -- `find` (src/container/visits.rt): by the invariant of the loop the find is under way, with a value visited
 -- in each round of the loop.
-use Rattle.plain.proofs.Words.{buffer}
+use Rattle.plain_queues.proofs.Words.{buffer}
 use Rattle.plain.proofs.Elements.Finding.{Searching}
 use Rattle.plain.proofs.container.visits.find.Given as given
 

@@ -1,5 +1,5 @@
 -- `Outlet::send` (src/outlet.rt): its return meets the clauses `served` and `loans`.
-use Rattle.std.proofs.Common.{arith, rules, subst}
+use Rattle.std.proofs.Common.{arith, refl, rules, subst}
 use Rattle.std.proofs.lemmas.Grind.{common_steps}
 use Rattle.zero_copy_bus.specs.Books.{Exchanges, KeepsOthers}
 use Rattle.zero_copy_bus.specs.Pools.{table_of}
@@ -12,8 +12,8 @@ pub returns-clause-served : goal.returns-clause-served
 returns-clause-served c =
     record {
       sent = λ on can.
-          sent_as _ _ _ c.word.result _ _ c.args.self.now c.push-back.new.self c.slot-slot.result c.push-back.result c.slot_back.result
-          c.word.ensures c.slot-slot.ensures c.slot_back.ensures c.push-back.ensures.added c.push-back.ensures.handed_back
+          sent_as _ _ _ _ _ _ c.args.self.now c.push-back.new.self c.slot-slot.result c.push-back.result c.slot_back.result
+          refl c.slot-slot.ensures c.slot_back.ensures c.push-back.ensures.added c.push-back.ensures.handed_back
           c.push-back.ensures.goes
           (subst (λ h. Exchanges c.slot-slot.result h c.slot_back.result (table_of c.args.pool.now) (table_of c.exchange.new.self))
           c.push-back.ensures.holder c.exchange.ensures.has);

@@ -1,5 +1,5 @@
 -- `Subscriber::leave` (src/subscriber.rt): its return meets the clause `kept`.
 use Rattle.zero_copy_bus.proofs.subscriber.Subscriber.leave.Goals as goal
 
-pub returns-in-Err-clause-kept : goal.returns-in-Err-clause-kept
-returns-in-Err-clause-kept g c = c.in-Err.ensures.refused.answered c.args.self.own
+pub returns-clause-kept : goal.returns-clause-kept
+returns-clause-kept g c = c.in-Err.ensures.refused.answered c.args.self.own

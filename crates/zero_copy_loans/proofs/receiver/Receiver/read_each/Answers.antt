@@ -1,4 +1,4 @@
--- `Receiver::read_each` (src/receiver.rt): the invariant of its loop holds at the start and after each iteration.
+-- `Receiver::read_each` (src/each.rt): the invariant of its loop holds at the start and after each iteration.
 use Rattle.zero_copy_loans.proofs.Ends.{none_read, read_next}
 use Rattle.zero_copy_loans.proofs.receiver.Receiver.read_each.Goals as goal
 

@@ -4,7 +4,7 @@ use Rattle.lock_free_owners.proofs.Names.{recover_after, After, ReleaseState, nu
 use Rattle.steps.specs.declared.indices.robust.recover.Recover.{Recover}
 use Rattle.steps.specs.declared.indices.robust.recover.RecoverStage.{RecoverStage}
 use Rattle.threaded.specs.Driver.{Next}
-use Rattle.history.specs.Robust.{visits_after}
+use Rattle.history_owners.specs.Robust.{visits_after}
 use Rattle.lock_free_owners.specs.Robust.Stages.{RecoverMoves}
 use Rattle.lock_free_owners.specs.Robust.Turns.{RecoverAt, RecoverEnds}
 use Rattle.lock_free_owners.proofs.RobustSet.Recoveries.{said_goes}

@@ -4,7 +4,7 @@
 use Rattle.lock_free_sets.proofs.Names.{rules, arith, ◌<◌, sym, ap, subst, ◌∙◌, one_word, seen, At, takes_index}
 use Rattle.steps.specs.Indices.Unique.{first_acquire}
 use Rattle.model.specs.declared.turn.Kind.TheVariants as kinds
-use Rattle.history.proofs.IndexCalls.{acquire_keeps, acquire_first}
+use Rattle.history_indices.proofs.IndexCalls.{acquire_keeps, acquire_first}
 use Rattle.lock_free_sets.proofs.Unique.Facts.{taken, knows_still, same_pass, same_size, sound_after}
 use Rattle.lock_free_sets.proofs.Unique.Whole.{taken_done, acquired_if, refused_if}
 use Rattle.lock_free_sets.proofs.Steps.{indices_take}

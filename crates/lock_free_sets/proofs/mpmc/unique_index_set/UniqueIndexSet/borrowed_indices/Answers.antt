@@ -1,7 +1,7 @@
 -- `UniqueIndexSet::borrowed_indices` (src/mpmc/unique_index_set/calls.rt): its call of `drive` meets the requirements `rule` and `at`,
 -- `pass` meets the invariants `sound`, `done` and `knows`, and its return meets the clauses `same`, `counted` and `steps`.
 use Rattle.lock_free_sets.proofs.Names.{rules, arith, one_word, seen}
-use Rattle.history.proofs.IndexCalls.{count_keeps, count_first}
+use Rattle.history_indices.proofs.IndexCalls.{count_keeps, count_first}
 use Rattle.lock_free_sets.proofs.Unique.Facts.{counted, knows_still, same_pass, same_size, sound_after}
 use Rattle.lock_free_sets.proofs.Unique.Whole.{borrowed_done, counted_done}
 use Rattle.lock_free_sets.proofs.Steps.{indices_take}

@@ -1,7 +1,7 @@
 -- `UniqueIndexSet::is_locked` (src/mpmc/unique_index_set/calls.rt): its call of `drive` meets the requirements `rule` and `at`, `pass`
 -- meets the invariants `sound`, `done` and `knows`, and its return meets the clauses `same`, `looked` and `steps`.
 use Rattle.lock_free_sets.proofs.Names.{rules, arith, one_word, seen}
-use Rattle.history.proofs.IndexCalls.{look_keeps, look_first}
+use Rattle.history_indices.proofs.IndexCalls.{look_keeps, look_first}
 use Rattle.lock_free_sets.proofs.Unique.Facts.{looked, knows_still, same_pass, same_size, sound_after}
 use Rattle.lock_free_sets.proofs.Unique.Whole.{is_locked_done, looked_done}
 use Rattle.lock_free_sets.proofs.Steps.{indices_take}

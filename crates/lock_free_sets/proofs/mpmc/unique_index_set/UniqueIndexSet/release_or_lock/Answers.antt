@@ -2,7 +2,7 @@
 -- `pass` meets the invariants `sound`, `done` and `knows`, and its return meets the clauses `same`, `given` and `steps`.
 use Rattle.lock_free_sets.proofs.Names.{rules, arith, sym, ap, subst, ◌∙◌, first_release, one_word, seen, At, gives_or_locks}
 use Rattle.model.specs.declared.turn.Kind.TheVariants as kinds
-use Rattle.history.proofs.IndexCalls.{lock_keeps, lock_first}
+use Rattle.history_indices.proofs.IndexCalls.{lock_keeps, lock_first}
 use Rattle.lock_free_sets.proofs.Unique.Facts.{given_or_locked, knows_still, same_pass, same_size, sound_after}
 use Rattle.lock_free_sets.proofs.Unique.Whole.{locked_done, release_or_lock_done}
 use Rattle.lock_free_sets.proofs.Steps.{indices_take}

@@ -3,9 +3,9 @@
 -- of its type.
 use Rattle.std.proofs.Common.{rules, ◌≡◌, ◌<◌, ◌+◌, ◌*◌, length, replicate, slice_set, refl, sym, ap, subst, ◌∙◌, arith}
 use Rattle.lock_free_value.proofs.Names.{Coding, IsCoding, coding_by, stored, View}
-use Rattle.history.specs.ValueOpened.{first_stores, opened_view}
+use Rattle.history_value.specs.ValueOpened.{first_stores, opened_view}
 use Rattle.history.specs.History.{Knows}
-use Rattle.history.proofs.ValueOpened.{value_opens, value_knows}
+use Rattle.history_value.proofs.ValueOpened.{value_opens, value_knows}
 use Rattle.model.specs.declared.turn.Kind.TheVariants as kinds
 use Rattle.lock_free_value.specs.Roles.{LacksProducer}
 use Rattle.lock_free_value.proofs.Opens.{filling, first_is, begins, turns, ends, opened_some, opened_lacks}

@@ -1,6 +1,6 @@
 -- `step_load` (src/spmc/unrestricted_atomic/loads.rt): its call of `step` meets the requirement `rule`.
 use Rattle.lock_free_value.proofs.Names.{Coding, IsCoding, coding_by}
-use Rattle.history.proofs.ValueCalls.{load_keeps_rule}
+use Rattle.history_value.proofs.ValueCalls.{load_keeps_rule}
 use Rattle.lock_free_value.proofs.spmc.unrestricted_atomic.loads.step_load.Goals as goal
 
 -- each step of the load keeps the rule of the table, and tells what is known after it

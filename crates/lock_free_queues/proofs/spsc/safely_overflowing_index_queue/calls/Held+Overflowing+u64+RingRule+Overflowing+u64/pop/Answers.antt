@@ -4,7 +4,7 @@ use Rattle.lock_free_queues.proofs.Names.{◌<◌, ◌^◌, IfSome, IfNone, sym,
 use Rattle.lock_free_queues.proofs.Names.{pops_over, At}
 use Rattle.steps.specs.Queues.Overflow.{first_pop, pop_answer}
 use Rattle.model.specs.declared.turn.Kind.TheVariants as kinds
-use Rattle.history.proofs.OverflowPops.{over_pop_keeps, over_pop_first}
+use Rattle.history_queues.proofs.OverflowPops.{over_pop_keeps, over_pop_first}
 use Rattle.lock_free_queues.specs.Queues.Overflowing.{token_view}
 use Rattle.lock_free_queues.specs.Queues.Contracts.{PopOldest, PopFoundNone}
 use Rattle.lock_free_queues.proofs.Queues.OverEnded.{over_popped, over_taken_if, over_empty_if}

@@ -4,8 +4,8 @@ use Rattle.lock_free_queues.proofs.Names.{rules, ◌≡◌, ◌<◌, ◌^◌, �
 use Rattle.lock_free_queues.proofs.Names.{push_answer, one_word, At}
 use Rattle.steps.specs.Queues.Overflow.{first_push}
 use Rattle.model.specs.declared.turn.Kind.TheVariants as kinds
-use Rattle.history.specs.Overflow.{pushes_over}
-use Rattle.history.proofs.OverflowCalls.{over_push_first, over_push_keeps}
+use Rattle.history_queues.specs.Overflow.{pushes_over}
+use Rattle.history_queues.proofs.OverflowCalls.{over_push_first, over_push_keeps}
 use Rattle.lock_free_queues.specs.Queues.Overflowing.{token_view, PushAdded, PushReplaced}
 use Rattle.lock_free_queues.specs.Queues.Contracts.{WasAtEnd}
 use Rattle.lock_free_queues.proofs.Queues.Facts.{goes_over, aside_over, seen_over}

@@ -1,7 +1,7 @@
 -- `SafelyOverflowingIndexQueue::close` (src/spsc/safely_overflowing_index_queue/close.rt): its call of `of_words` meets what that
 -- requires, and its return meets the clauses `list` and `waits`.
 use Rattle.lock_free_queues.proofs.Names.{rules, ◌≡◌, ◌-◌, max, set, slice_index, refl, sym, ap, subst, ◌∙◌, list_in, Index}
-use Rattle.plain.specs.Overflowing.{Represents}
+use Rattle.plain_queues.specs.Overflowing.{Represents}
 use Rattle.lock_free_queues.specs.Queues.Closes.{Closes, IsNewestThatWaits}
 use Rattle.lock_free_queues.specs.Queues.Overflowing.{view}
 use Rattle.lock_free_queues.proofs.Queues.Closes.{as_stood}

@@ -3,7 +3,7 @@
 use Rattle.std.proofs.Common.{arith}
 use Rattle.lock_free_value.proofs.Names.{coding_by}
 use Rattle.lock_free_value.specs.Calls.{seen}
-use Rattle.history.proofs.ValueCalls.{look_keeps, look_first}
+use Rattle.history_value.proofs.ValueCalls.{look_keeps, look_first}
 use Rattle.lock_free_value.proofs.Facts.{seen_producer, seen_producer_moves, takes_here}
 use Rattle.lock_free_value.proofs.spmc.unrestricted_atomic.calls.Held+T+ValueRule+T.see_producer.Goals as goal
 

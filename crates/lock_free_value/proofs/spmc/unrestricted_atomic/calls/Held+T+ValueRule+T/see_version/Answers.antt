@@ -3,7 +3,7 @@
 use Rattle.std.proofs.Common.{arith}
 use Rattle.lock_free_value.proofs.Names.{coding_by}
 use Rattle.lock_free_value.specs.Calls.{seen}
-use Rattle.history.proofs.ValueCalls.{version_keeps, version_first}
+use Rattle.history_value.proofs.ValueCalls.{version_keeps, version_first}
 use Rattle.lock_free_value.proofs.Facts.{seen_version, seen_version_moves, takes_here}
 use Rattle.lock_free_value.proofs.spmc.unrestricted_atomic.calls.Held+T+ValueRule+T.see_version.Goals as goal
 

@@ -4,7 +4,7 @@ use Rattle.std.proofs.Common.{rules, sym, ◌∙◌, subst}
 use Rattle.model.specs.declared.turn.Kind.TheVariants as kinds
 use Rattle.lock_free_value.proofs.Names.{Coding, IsCoding, coding_by, stores_value}
 use Rattle.history.specs.Stages.{At}
-use Rattle.history.proofs.ValueCalls.{store_keeps, store_first}
+use Rattle.history_value.proofs.ValueCalls.{store_keeps, store_first}
 use Rattle.lock_free_value.specs.Calls.{seen}
 use Rattle.lock_free_value.proofs.Facts.{leaves, stored_if, at_end_if, store_takes}
 use Rattle.lock_free_value.proofs.spmc.unrestricted_atomic.calls.Held+T+ValueRule+T.store.Goals as goal

@@ -3,7 +3,7 @@
 use Rattle.std.proofs.Common.{arith}
 use Rattle.lock_free_value.proofs.Names.{coding_by}
 use Rattle.lock_free_value.specs.Calls.{seen}
-use Rattle.history.proofs.ValueCalls.{acquire_keeps, acquire_first}
+use Rattle.history_value.proofs.ValueCalls.{acquire_keeps, acquire_first}
 use Rattle.lock_free_value.proofs.Facts.{takes_here}
 use Rattle.lock_free_value.proofs.spmc.unrestricted_atomic.calls.Held+T+ValueRule+T.take_producer.Goals as goal
 

@@ -4,7 +4,7 @@ use Rattle.std.proofs.Common.{ap, sym, subst, ◌∙◌, arith}
 use Rattle.lock_free_value.proofs.Names.{Coding, IsCoding, coding_by}
 use Rattle.history.specs.Rooms.{room_of}
 use Rattle.history.proofs.Rooms.{room_fresh}
-use Rattle.history.proofs.ValueCalls.{load_first}
+use Rattle.history_value.proofs.ValueCalls.{load_first}
 use Rattle.lock_free_value.specs.Calls.{seen}
 use Rattle.lock_free_value.specs.ValueContracts.{HasLoaded}
 use Rattle.lock_free_value.proofs.Facts.{has_loaded, takes_here}

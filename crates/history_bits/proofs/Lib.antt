@@ -1,0 +1,3 @@
+-- What a pass has seen of bit sets and counting bit sets.
+pub mod Acts
+pub mod Sets

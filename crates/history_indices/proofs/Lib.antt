@@ -1,0 +1,3 @@
+-- What a pass has seen of unique index sets.
+pub mod IndexCalls
+pub mod Indices

@@ -1,0 +1,2 @@
+-- What a pass has seen of unique index sets.
+pub mod Indices

@@ -1,0 +1,23 @@
+-- What a pass has seen of robust sets and containers.
+pub mod Robusts
+pub mod RobustCalls
+pub mod RobustParts
+pub mod RobustRecoveries
+pub mod RobustVisits
+pub mod ContainerAdds
+pub mod ContainerCalls
+pub mod ContainerFinds
+pub mod ContainerLooks
+pub mod ContainerRecoveries
+pub mod ContainerRests
+pub mod Containers
+pub mod RecoverySteps
+pub mod RecoveryVisits
+pub mod StateLooks
+pub mod StateRests
+pub mod Finds
+pub mod Answering
+pub mod AskingCalls
+pub mod Decisions
+pub mod Settling
+pub mod Written

@@ -1,0 +1,4 @@
+-- What a pass has seen of queues.
+pub mod Overflow
+pub mod Queues
+pub mod ValueQueue

@@ -1,0 +1,3 @@
+-- What a pass has seen of the single value.
+pub mod Value
+pub mod ValueOpened

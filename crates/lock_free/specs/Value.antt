@@ -1,9 +1,0 @@
--- The single value.
-pub use Rattle.laws_value.specs.Stored
-pub use Rattle.history.specs.Value as Reading
-pub use Rattle.history.specs.ValueOpened as Opened
-pub use Rattle.lock_free_value.specs.Calls
-pub use Rattle.lock_free_value.specs.Roles
-pub use Rattle.lock_free_value.specs.ValueContracts as Contracts
-pub use Rattle.lock_free_value.specs.Versions
-pub use Rattle.lock_free_value.specs.Handles

@@ -1,0 +1,34 @@
+-- `try_until` (src/waits.rt): each iteration keeps the invariant of its loop, and the last try decides.
+use Rattle.std.proofs.Common.{◌+◌, refl, of_calls}
+use denote.Param.Always.{always_mut}
+use denote.Param.Members.{Called}
+use Rattle.lock_free_waits.specs.Waits.{WentOn}
+use Rattle.lock_free_waits.proofs.Tries.{times_more}
+use Rattle.lock_free_waits.proofs.waits.try_until.Goals as goal
+
+pub returns-in-Some-try_once-clause-came : goal.returns-in-Some-try_once-clause-came
+returns-in-Some-try_once-clause-came g c =
+    let so_far = c.loop.invariant.tries in (so_far.0, (c.loop.tried, c.loop.stop), so_far.1, c.in-Some-try_once.ensures.came, refl)
+
+pub returns-then-stop-clause-stopped : goal.returns-then-stop-clause-stopped
+returns-then-stop-clause-stopped g c =
+    let so_far = c.loop.invariant.tries in (
+      so_far.0,
+      (c.loop.tried, c.loop.stop),
+      so_far.1,
+      c.in-None-try_once.ensures.nothing,
+      c.if-stop.ensures,
+    )
+
+pub loop-preserved : goal.loop-preserved
+loop-preserved g c =
+    let so_far = c.loop.invariant.tries in
+    let again : always_mut g.S.FnMut c.stop.new.self = search of_calls in
+    record {
+      callable = again;
+      tries = (
+        so_far.0 + 1,
+        times_more (WentOn g.A.Tries.nothing (λ s answer t. Called g.S.FnMut s _ answer t)) so_far.0 (c.args.tried.now, c.args.stop.now)
+            (c.loop.tried, c.loop.stop) (c.try_once.new.self, c.stop.new.self) so_far.1 (c.in-None-try_once.ensures.nothing, c.if-stop.ensures),
+      );
+    }

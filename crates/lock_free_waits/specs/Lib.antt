@@ -1,0 +1,3 @@
+-- The words of the contracts.
+pub mod Either
+pub mod Waits
