@@ -1,8 +1,14 @@
-"""What a copy of Paglunet's crates consists of, for `bin/vendor`: their files, marks, pages for callers and lines of crates.txt."""
+"""What a copy of Paglunet's crates consists of, for `bin/vendor`: their files, marks, pages for callers, lines of crates.txt, and
+archives of libraries. A library is the folder `out/rlib` of a crate; its file `stamp` has the sum of what it was made of."""
 import hashlib
 import os
 import re
-import subprocess
+import shutil
+import sys
+import tarfile
+
+import frame
+from frame import Refused
 
 TREE = os.path.realpath(os.path.join(os.path.dirname(os.path.realpath(__file__)), "../.."))
 PARTS = ("src", "specs", "proofs")
@@ -15,13 +21,9 @@ USES = {"docs/BUS.md": "docs/BUS.md", "crates/zero_copy_bus/CALLS.md": "docs/BUS
 NOT_FOR_CALLERS = ("docs/SCHEDULE.md",)
 MARK = "PAGLUNET"
 COMMENT = "# copied by bin/vendor of Paglunet"
-HEAD = """This crate was copied by bin/vendor of Paglunet. Its next run replaces the files that are named here, each with its sum
-by SHA-256, and stops before that if one of them was changed.
+HEAD = """This crate was copied by bin/vendor of Paglunet. Its next run replaces it, and stops before that if a file of it was changed or
+added, as the checksum shows.
 """
-
-
-class Refused(Exception):
-    """Why nothing is copied."""
 
 
 def text_of(path):
@@ -42,11 +44,15 @@ def files_below(top):
     return [it for entry in sorted(os.listdir(top)) for it in files_below(f"{top}/{entry}")]
 
 
-def sum_of(path):
-    if os.path.islink(path) or not os.path.isfile(path):
-        return None
-    with open(path, "rb") as it:
-        return hashlib.sha256(it.read()).hexdigest()
+def sum_of(crate):
+    """The checksum of the files of a crate's folder, but of the mark and of what rt has built there."""
+    made = hashlib.sha256()
+    for path in files_below(crate):
+        inside = os.path.relpath(path, crate)
+        if inside != MARK and not inside.startswith("out/"):
+            said = os.readlink(path) if os.path.islink(path) else text_of(path)
+            made.update(f"{inside}\0{len(said)}\0{said}".encode(errors="surrogateescape"))
+    return made.hexdigest()
 
 
 def row(line):
@@ -125,15 +131,7 @@ def page_text(page, places, names, prefix):
 
 def read_at(names, goals):
     """Returns the crate in whose folder the licence texts and the pages are."""
-    return next((it for it in ("lock_free", "lock_free_sp") if it in names), goals[0])
-
-
-def entries(name, names, goals):
-    """Returns what is copied right into a crate's folder."""
-    found = {it for it in PARTS if os.path.isdir(f"{TREE}/crates/{name}/{it}")} | {MARK}
-    if name == read_at(names, goals):
-        found |= {*LICENCES, *[it.split("/")[0] for it in pages(goals, name).values()]}
-    return found
+    return next((it for it in ("lock_free", "lock_free_sp", "lock_free_spsc") if it in names), goals[0])
 
 
 def stage(new, names, goals, prefix, known):
@@ -156,38 +154,24 @@ def stage(new, names, goals, prefix, known):
             lay_out(to)
         uses = " ".join(prefix + it if it in names else it for it in known[name])
         lines.append(f"{prefix}{name}: {uses}".strip())
-        said = f"prefix: {prefix}\nline: {lines[-1]}\nchosen: {' '.join(goals)}\n"
-        said += "".join(f"{sum_of(it)}  {os.path.relpath(it, to)}\n" for it in files_below(to))
-        write(f"{to}/{MARK}", HEAD + said)
+        write(f"{to}/{MARK}", f"{HEAD}prefix: {prefix}\nchosen: {' '.join(goals)}\nsum: {sum_of(to)}\n")
     return lines
 
 
 def lay_out(crate):
     """Sorts and breaks the lines whose names are longer now, as the kit's gate wants them."""
-    ran = subprocess.run(["rt", "fmt"], cwd=crate, stdin=subprocess.DEVNULL, capture_output=True, text=True, errors="replace", check=False)
-    if ran.returncode:
-        raise Refused(f"rt fmt does not lay out {os.path.basename(crate)}: {ran.stderr.strip()[-400:]}")
-
-
-class Copy:
-    """An earlier copy of a crate, as its mark tells it."""
-
-    def __init__(self, text):
-        said = dict(re.findall(r"(?m)^(prefix|line|chosen): ?(.*)$", text))
-        self.prefix, self.line = said.get("prefix", ""), said.get("line", "")
-        self.chosen = said.get("chosen", "").split()
-        self.sums = {path: found for found, path in re.findall(r"(?m)^([0-9a-f]{64})  (.+)$", text)}
+    status, said, _ = frame.ran(["rt", "fmt"], cwd=crate)
+    if status:
+        raise Refused(f"rt fmt does not lay out {os.path.basename(crate)}: {said.strip()[-400:]}")
 
 
 def copies(folder):
-    """Returns the crates below a folder that carry a mark."""
+    """Returns the crates below a folder that carry a mark, with what their marks say."""
     top, found = f"{folder}/crates", {}
     for name in sorted(os.listdir(top)) if os.path.isdir(top) else []:
-        path = f"{top}/{name}/{MARK}"
-        if not os.path.islink(f"{top}/{name}") and sum_of(path):
-            text = text_of(path)
-            if text.startswith(HEAD.partition(".")[0]):
-                found[name] = Copy(text)
+        mark = f"{top}/{name}/{MARK}"
+        if os.path.isfile(mark) and not os.path.islink(f"{top}/{name}"):
+            found[name] = {"prefix": "", "chosen": "", "sum": "", **dict(re.findall(r"(?m)^(prefix|chosen|sum): ?(.*)$", text_of(mark)))}
     return found
 
 
@@ -200,3 +184,39 @@ def crates_text(lines, ours):
     kept = [it for it in lines if not is_marked(it)]
     at = next((at for at, it in enumerate(lines) if is_marked(it)), 0)
     return "".join([*kept[:at], *[f"{it}  {COMMENT}\n" for it in ours], *kept[at:]])
+
+
+def packed(archive, goals, names):
+    """Packs the libraries of these crates, which rt lib has to prove first if they are missing. Returns what is to be told."""
+    for goal in goals:
+        if frame.ran(["rt", "lib"], cwd=f"{TREE}/crates/{goal}", stdout=sys.stderr)[0]:
+            raise Refused(f"rt lib does not build {goal}")
+    places = {it: f"{TREE}/crates/{it}/out/rlib" for it in names}
+    for name, place in places.items():
+        if not os.path.isfile(f"{place}/stamp"):
+            raise Refused(f"{name} has no library in {place}")
+    with tarfile.open(f"{archive}.part", "w:gz", compresslevel=3) as it:
+        for name, place in places.items():
+            it.add(place, name)
+    os.rename(f"{archive}.part", archive)
+    return f"{archive}: the libraries of {len(names)} crates, {os.path.getsize(archive) // 1_000_000} MB; bin/vendor --from {archive} DIR unpacks them\n"
+
+
+def unpacked(archive, folder, names):
+    """Gives each crate of the copy its library, if the archive has one. Returns what is to be told."""
+    part, found = ".paglunet-libraries", set()
+    try:
+        with tarfile.open(archive) as it:
+            members = [it for it in it if it.name.split("/")[0] in names]
+            it.extractall(f"{folder}/{part}", members, filter="data")
+            found = {it.name.split("/")[0] for it in members}
+        for name in found:
+            place = f"{folder}/crates/{name}/out/rlib"
+            shutil.rmtree(place, ignore_errors=True)
+            os.makedirs(os.path.dirname(place), exist_ok=True)
+            os.rename(f"{folder}/{part}/{name}", place)
+    except (tarfile.TarError, EOFError) as why:
+        raise Refused(f"{archive} is no whole archive of bin/vendor: {why}; the crates were copied without libraries") from None
+    finally:
+        shutil.rmtree(f"{folder}/{part}", ignore_errors=True)
+    return f"{len(found)} of these crates have libraries from {archive} now: rt check takes those that fit, and trusts whoever made them\n"

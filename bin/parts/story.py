@@ -94,21 +94,21 @@ class Story:
     """A run, told. Turns are lanes with what was done: begin, step, back, nothing, said or died, and whether it was refused.
     Marks are [lane, turn, text, refused], acts (lane, turn, number, text) and contents (turn, text)."""
 
-    # Reads the lines of a schedule and what was printed of its turns, and collects what there is to draw.
-    def __init__(self, lines, turns):
-        kind, *numbers = lines[0].split()
+    # Reads the first line of a schedule and of each turn the words of its line with what was printed, and collects what
+    # there is to draw.
+    def __init__(self, first, turns):
+        kind, *numbers = first.split()
         names = ("slots", "queue", "parties") if kind == "loan" else ("capacity", "parties")
         self.title = ", ".join([kind, *(f"{name} {int(number)}" for name, number in zip(names, numbers))])
         self.order = "calls in the order in which they act" if kind in ACTS else "changes in their order"
         self.is_cut, turns = len(turns) > MOST, turns[:MOST]
-        said = [lines[number - 1].split() for number, _ in turns]
-        owns = [int(words[0]) if words[0] != "die" and int(words[0]) < int(numbers[-1]) else None for words in said]
+        owns = [int(words[0]) if words[0] != "die" and int(words[0]) < int(numbers[-1]) else None for words, _ in turns]
         self.parties = sorted({it for it in owns if it is not None})
         self.lanes = [f"party {it}" for it in self.parties] + ["no party"] * (None in owns)
         self.turns, self.calls, self.marks, self.acts, self.contents = [], [], [], [], []
         self.now, self.progress = Contents(kind), {}
         self.opening = self.now.text()
-        for words, own, (_, printed) in zip(said, owns, turns):
+        for own, (words, printed) in zip(owns, turns):
             self.tell(words, own, printed)
 
     def lane_of(self, party):

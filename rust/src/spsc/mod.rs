@@ -1,0 +1,2 @@
+//! Containers with one producer and one consumer.
+pub mod index_queue;
