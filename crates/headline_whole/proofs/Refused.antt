@@ -20,7 +20,7 @@ use Rattle.model.specs.Coding.{one_word}
 use Rattle.model.specs.Families.Indices.Robust.Promises.{IsWellFormed}
 use Rattle.model.specs.Reading.{Each}
 use Rattle.model.specs.World.{Trace}
-use Rattle.headline_whole.specs.Answers.{AreAlone, HoldsAlone, LoansAlone, OwnersAlone, Says, Wrote, user_of}
+use Rattle.headline_whole.specs.Answers.{AreAlone, HoldsAlone, LoansAlone, OwnersAlone, Says, Wrote, holder, user_of}
 
 no_bool : (b c : Bool) → b ≡ false → c ≡ true → b ≡ c → ⊥
 no_bool b c x y same = cc
@@ -71,6 +71,12 @@ owned_lock_refused : Each (OwnersAlone {T = ℕ} 2)
 owned_lock_refused h =
     no_party _ 7 refl
     (h (Finished 0 (Robust (robust.Acquire 7)) (Index 0) ∷ []) [] (Finished 1 (Robust (robust.Recover LockIfLastIndex)) (State states.Locked)) refl 0)
+
+-- an acquire, or a release of another index, that begins takes an index from nobody, and a release of this one does
+holder_says : (holder {T = ℕ} 0 (Finished 0 (Indices Acquire) (Index 0) ∷ Begun 0 (Indices Acquire) ∷ Begun 1 (Indices Acquire) ∷ []) ≡ Some 0)
+    × (holder {T = ℕ} 0 (Finished 0 (Indices Acquire) (Index 0) ∷ Begun 0 (Indices (Release 1 LockIfLastIndex)) ∷ []) ≡ Some 0)
+    × (holder {T = ℕ} 0 (Finished 0 (Indices Acquire) (Index 0) ∷ Begun 0 (Indices (Release 0 LockIfLastIndex)) ∷ []) ≡ None)
+holder_says = (refl, refl, refl)
 
 -- a loan and a receive are answered an index that somebody has
 loaned_refused : Each (LoansAlone {T = ℕ} 1) (Finished 0 (Loan loans.Loan) (Index 0) ∷ Finished 0 (Loan loans.Loan) (Index 0) ∷ []) → ⊥
